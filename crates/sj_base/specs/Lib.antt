@@ -1,0 +1,9 @@
+pub mod Tree
+pub mod Number
+pub mod Characters
+pub mod Spelling
+pub mod Document
+pub mod Keep
+pub mod Path
+pub mod Text
+pub mod Rows
