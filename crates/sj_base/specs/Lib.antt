@@ -6,4 +6,5 @@ pub mod Document
 pub mod Keep
 pub mod Path
 pub mod Text
+pub mod Names
 pub mod Rows

@@ -1,6 +1,6 @@
-//! Shared types.
+//! Shared types and printing: what a JSON text means, and how it is written.
 #![tactic(auto)]
 
-ghost use Rattle.std.specs.Prelude.{◌≡◌};
+mod error;
 
-pub fn one() -> u8 ensures { result ≡ 1 } { 1 }
+pub use error::{Error, ErrorType};

@@ -1,13 +1,8 @@
-// A library with one function.
+//! Scripts of commands over a stream of JSON lines.
 #![tactic(auto)]
 
-ghost use Rattle.std.specs.Prelude.{◌≡◌};
-ghost use Rattle.sj_records.specs.Echo.{echo_of};
+mod form;
+mod script;
 
-// The `ensures` clause is the contract: what `echo` returns is `echo_of` of its argument, a definition
-// in `specs/Echo.antt`, which a caller's clause can cite too.
-pub fn echo(x: usize) -> usize
-    ensures { result ≡ echo_of x }
-{
-    x
-}
+pub use form::Form;
+pub use script::CommandFault;
