@@ -6,5 +6,6 @@ pub mod Document
 pub mod Keep
 pub mod Path
 pub mod Text
+pub mod Scalar
 pub mod Names
 pub mod Rows

@@ -2,5 +2,7 @@
 #![tactic(auto)]
 
 mod error;
+mod static_node;
 
 pub use error::{Error, ErrorType};
+pub use static_node::StaticNode;
