@@ -1,8 +1,13 @@
 //! Scripts of commands over a stream of JSON lines.
 #![tactic(auto)]
 
+mod engine;
 mod form;
+mod path;
+mod run_error;
 mod script;
 
 pub use form::Form;
-pub use script::CommandFault;
+pub use path::PathPart;
+pub use run_error::RunError;
+pub use script::{Command, CommandFault, Script};

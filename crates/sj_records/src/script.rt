@@ -1,4 +1,12 @@
 //! Scripts.
+use crate::path::PathPart;
+
+/// One command of a script.
+#[derive(Debug, Drop)]
+pub enum Command {
+    /// Replies the part that the path selects, in an array, or an empty array.
+    Get(Vec<PathPart>),
+}
 
 /// What is wrong with one command of a script.
 #[derive(Clone, Copy, Debug, PartialEq, Eq)]
@@ -13,4 +21,10 @@ pub enum CommandFault {
     WrongCount,
     /// The second item is no array of texts and integers not below 0.
     BadPath,
+}
+
+/// The commands that run on each line.
+#[derive(Debug, Drop)]
+pub struct Script {
+    commands: Vec<Command>,
 }

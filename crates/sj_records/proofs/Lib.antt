@@ -1,0 +1,4 @@
+pub mod Cut
+pub mod Written
+pub mod Total
+pub mod Feeding

@@ -1,0 +1,132 @@
+//! The loop over a stream: cuts its lines, runs the script on each, and writes their records.
+ghost use Rattle.std.specs.Prelude.{◌≡◌, ◌≢◌, ℕ, List, ◌+◌, ◌<◌, ◌≤◌, ◌^◌, [], ◌∷◌, ◌++◌, length, IfOk, OnOk, OnErr, IfErr, MatchOption, IsErrOf, ◌⊎◌};
+ghost use Rattle.std.specs.Io.KnownBytes.{Appends, Consumes, IsAtEnd};
+ghost use Rattle.sj_records.specs.Lines.{ended, unended};
+ghost use Rattle.sj_records.specs.Progress.{HasNoLineFeed, Answers, Wrote, WroteSome, WrotePrefix};
+
+use crate::form::Form;
+use crate::run_error::RunError;
+use crate::script::Script;
+use sj_base::{Sink, Source};
+use std::alloc::{AllocError, Global};
+
+/// What is done to each line.
+#[derive(Clone, Copy)]
+struct Task<'s> {
+    script: &'s Script,
+    depth: usize,
+    form: Form,
+}
+
+/// Splits a piece behind its first line feed: the bytes before it, and those behind it.
+fn split_line(piece: &[u8]) -> Option<(&[u8], &[u8])>
+    ensures { MatchOption result (HasNoLineFeed piece.now)
+        (λ p. (piece.now ≡ p.0.now ++ 0x0a ∷ p.1.now) × HasNoLineFeed p.0.now) }
+{
+    let end = memchr::memchr(b'\n', piece)?;
+    let (line, rest) = piece.split_at(end);
+    Some((line, &rest[1..]))
+}
+
+/// Writes all of the bytes. After an error a prefix of them was written.
+fn write_all<W: Sink>(writer: &mut W, bytes: &[u8]) -> Result<(), RunError>
+    ensures ok { OnOk result (Appends (W.contents writer.old) (W.contents writer.new) bytes.now) }
+    ensures write { OnErr result ((taken rest : List ℕ) × (bytes.now ≡ taken ++ rest)
+        × Appends (W.contents writer.old) (W.contents writer.new) taken) }
+    ensures only { IfErr result (λ e. e ≡ RunError.Write) }
+{
+    let mut rest = bytes;
+    while !rest.is_empty() {
+        match writer.write(rest) {
+            Ok(0) | Err(_) => return Err(RunError::Write),
+            Ok(taken) => rest = &rest[taken..],
+        }
+    }
+    Ok(())
+}
+
+/// Makes the record of a line, with its line feed, in the place of what `out` held.
+fn make_record(out: &mut Vec<u8>, line: &[u8], task: Task<'_>) -> Result<(), AllocError>
+    ensures { OnOk result ((bytes : List ℕ) × (out.new.items ≡ bytes ++ 0x0a ∷ [])
+        × Answers task.entry line.now bytes) }
+{
+    Err(AllocError)
+}
+
+/// What is kept from one piece of the stream to the next: room, and the line that no line feed has ended yet.
+#[derive(Drop)]
+struct Pending {
+    line: Vec<u8>,
+    record: Vec<u8>,
+}
+
+/// Writes the record of a line.
+fn answer<W: Sink>(
+    writer: &mut W,
+    out: &mut Vec<u8>,
+    line: &[u8],
+    task: Task<'_>,
+) -> Result<(), RunError>
+    ensures ok { OnOk result (Wrote task.entry (W.contents writer.old) (W.contents writer.new) (line.now ∷ [])) }
+    ensures memory { IsErrOf result RunError.Memory → Wrote task.entry (W.contents writer.old) (W.contents writer.new) [] }
+    ensures write { IsErrOf result RunError.Write → WrotePrefix task.entry (W.contents writer.old) (W.contents writer.new) (line.now ∷ []) }
+    ensures only { IfErr result (λ e. (e ≡ RunError.Memory) ⊎ (e ≡ RunError.Write)) }
+{
+    make_record(out, line, task)?;
+    write_all(writer, out)
+}
+
+/// Writes the record of the line that `end` completes, and forgets what was kept of it.
+fn answer_line<W: Sink>(
+    writer: &mut W,
+    pending: &mut Pending,
+    end: &[u8],
+    task: Task<'_>,
+) -> Result<(), RunError>
+    ensures ok { OnOk result (Wrote task.entry (W.contents writer.old) (W.contents writer.new)
+        ((pending.old.line.items ++ end.now) ∷ [])) }
+    ensures cleared { OnOk result (pending.new.line.items ≡ []) }
+    ensures memory { IsErrOf result RunError.Memory
+        → Wrote task.entry (W.contents writer.old) (W.contents writer.new) [] }
+    ensures write { IsErrOf result RunError.Write
+        → WrotePrefix task.entry (W.contents writer.old) (W.contents writer.new)
+            ((pending.old.line.items ++ end.now) ∷ []) }
+    ensures only { IfErr result (λ e. (e ≡ RunError.Memory) ⊎ (e ≡ RunError.Write)) }
+{
+    if pending.line.is_empty() {
+        return answer(writer, &mut pending.record, end, task);
+    }
+    pending.line.extend_from_slice(end)?;
+    answer(writer, &mut pending.record, &pending.line, task)?;
+    pending.line.clear();
+    Ok(())
+}
+
+/// Goes on with the next piece of the stream: writes the record of each line that it ends, and keeps the rest.
+fn feed<W: Sink>(
+    writer: &mut W,
+    pending: &mut Pending,
+    piece: &[u8],
+    task: Task<'_>,
+) -> Result<(), RunError>
+    requires { HasNoLineFeed pending.old.line.items }
+    ensures ok { OnOk result (Wrote task.entry (W.contents writer.old) (W.contents writer.new)
+        (ended (pending.old.line.items ++ piece.now))) }
+    ensures kept { OnOk result
+        (pending.new.line.items ≡ unended (pending.old.line.items ++ piece.now)) }
+    ensures memory { IsErrOf result RunError.Memory
+        → WroteSome task.entry (W.contents writer.old) (W.contents writer.new)
+            (ended (pending.old.line.items ++ piece.now)) }
+    ensures write { IsErrOf result RunError.Write
+        → WrotePrefix task.entry (W.contents writer.old) (W.contents writer.new)
+            (ended (pending.old.line.items ++ piece.now)) }
+    ensures only { IfErr result (λ e. (e ≡ RunError.Memory) ⊎ (e ≡ RunError.Write)) }
+{
+    let mut rest = piece;
+    while let Some((end, more)) = split_line(rest) {
+        answer_line(writer, pending, end, task)?;
+        rest = more;
+    }
+    pending.line.extend_from_slice(rest)?;
+    Ok(())
+}
