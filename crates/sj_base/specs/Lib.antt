@@ -8,4 +8,5 @@ pub mod Path
 pub mod Text
 pub mod Scalar
 pub mod Names
+pub mod Calls
 pub mod Rows

@@ -2,7 +2,11 @@
 #![tactic(auto)]
 
 mod error;
+mod put;
 mod static_node;
+mod stream;
 
 pub use error::{Error, ErrorType};
+pub use put::{put_int, put_string};
 pub use static_node::StaticNode;
+pub use stream::{Counted, Sink, Source};
