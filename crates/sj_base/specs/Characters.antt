@@ -7,10 +7,10 @@ use Rattle.std.specs.Str.Parse.{AllDigits, digits_value}
 
 -- One character as a body shows it.
 pub data Row : Type 0 where
-  raw : ℕ → Row               -- the character itself
-  short : ℕ → Row             -- a backslash and a letter
-  unit : List ℕ → Row         -- a backslash, `u` and four digits
-  pair : List ℕ → List ℕ → Row    -- two of those, a high and a low surrogate
+  raw : ℕ → Row  -- the character itself
+  short : ℕ → Row  -- a backslash and a letter
+  unit : List ℕ → Row  -- a backslash, `u` and four digits
+  pair : List ℕ → List ℕ → Row  -- two of those, a high and a low surrogate
 
 -- the character of an escape by one letter: `"`, `\`, `/`, `b`, `f`, `n`, `r`, `t`
 abbrev pub short_character : ℕ → Option ℕ

@@ -1,7 +1,7 @@
 -- Worked values of the definitions that compute. Those of the relations stand in proofs/Spelled.antt.
-use Rattle.std.specs.Prelude.{◌≡◌, refl, ℕ, pos, negsuc, List, [], ◌∷◌, ◌++◌, codes, Some, None, true}
+use Rattle.std.specs.Prelude.{◌≡◌, refl, pos, negsuc, [], ◌∷◌, ◌++◌, codes, Some, None}
 use Rattle.std.specs.Fmt.{digits}
-use Rattle.sj_base.specs.Tree.{Tree, null, boolean, integer, decimal, string, list, object, no_items, item, no_members, member, depth}
+use Rattle.sj_base.specs.Tree.{Tree, null, integer, decimal, string, list, object, no_items, item, no_members, member, depth}
 use Rattle.sj_base.specs.Keep.{keep}
 use Rattle.sj_base.specs.Path.{key, place, at, put}
 use Rattle.sj_base.specs.Text.{text, pretty}

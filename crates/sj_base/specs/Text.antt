@@ -1,5 +1,5 @@
 -- Compact and pretty printing (RFC 8259, sections 2 to 7, leave the whitespace and the choice of escapes open).
-use Rattle.std.specs.Prelude.{ℕ, suc, ◌*◌, ◌+◌, ◌-◌, true, false, cond, ◌==◌, nat_lt, List, [], ◌∷◌, ◌++◌, codes, flat_map, replicate}
+use Rattle.std.specs.Prelude.{ℕ, suc, ◌*◌, ◌-◌, true, false, cond, ◌==◌, nat_lt, List, [], ◌∷◌, ◌++◌, codes, flat_map, replicate}
 use Rattle.std.specs.Fmt.{signed_decimal}
 use Rattle.std.specs.Char.{digit_char}
 use Rattle.sj_base.specs.Tree.{Tree, null, boolean, integer, decimal, string, list, object, Items, no_items, item, Members, no_members, member}

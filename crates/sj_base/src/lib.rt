@@ -2,7 +2,9 @@
 #![tactic(auto)]
 
 mod error;
+mod put;
 mod static_node;
 
 pub use error::{Error, ErrorType};
+pub use put::{put_int, put_string};
 pub use static_node::StaticNode;
