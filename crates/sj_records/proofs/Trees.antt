@@ -1,11 +1,13 @@
 -- The tree of a document, level by level.
-use Rattle.std.proofs.Common.{◌≡◌, ℕ, List, [], ◌∷◌, ◌++◌, refl, ap, rules, Vec, Option, Some, None}
+use Rattle.std.proofs.Common.{◌≡◌, ℕ, zero, suc, ◌<◌, ◌≤◌, length, get_or, List, [], ◌∷◌, ◌++◌, refl, ap, ◌∙◌, rules, arith, Vec, Option, Some, None, option_map}
+use Rattle.std.specs.Borrow.{Bor}
+use Rattle.std.specs.Slice.{IsGetResult}
 use Rattle.std.specs.declared.alloc.Global.{Global}
 use Rattle.std.specs.declared.string.String.{String as Text}
 use Rattle.std.specs.String.{string_bytes}
 use Rattle.sj_base.specs.Tree.{Tree, string, list, object, Items, no_items, item, Members, no_members, member}
 use Rattle.sj_base.specs.Scalar.{static_tree}
-use Rattle.sj_base.specs.Path.{Part, child}
+use Rattle.sj_base.specs.Path.{Part, item_at, child}
 use Rattle.sj_base.specs.declared.static_node.StaticNode.{StaticNode}
 use Rattle.sj_base.specs.declared.static_node.StaticNode.TheVariants.{Null, Bool, I64, U64}
 use Rattle.sj_records.specs.Kept.{with_last}
@@ -34,3 +36,18 @@ child_of_static Null p = refl
 child_of_static (Bool b) p = refl
 child_of_static (I64 n) p = refl
 child_of_static (U64 n) p = refl
+
+item_at_within : (ds : List Document) (i : ℕ) (d : Document) → i < length ds → Some (tree_of (get_or ds i d)) ≡ item_at (items_view ds) i
+item_at_within [] i d within = absurd (omega arith)
+item_at_within (e ∷ ds) zero d within = refl
+item_at_within (e ∷ ds) (suc i) d within = item_at_within ds i d (omega arith)
+
+item_at_past : (ds : List Document) (i : ℕ) → length ds ≤ i → None ≡ item_at (items_view ds) i
+item_at_past [] i past = refl
+item_at_past (e ∷ ds) zero past = absurd (omega arith)
+item_at_past (e ∷ ds) (suc i) past = item_at_past ds i (omega arith)
+
+-- what `get` finds at a place
+pub item_at_from_get : (ds : List Document) (i : ℕ) (r : Option (Bor Document)) → IsGetResult ds i i r → option_map (λ (d : Bor Document). tree_of d.now) r ≡ item_at (items_view ds) i
+item_at_from_get ds i None h = item_at_past ds i h.3
+item_at_from_get ds i (Some x) h = ap (λ d. Some (tree_of d)) h.1 ∙ item_at_within ds i x.now h.3.0
