@@ -1,2 +1,3 @@
 pub mod Kept
+pub mod Printed
 pub mod Trees
