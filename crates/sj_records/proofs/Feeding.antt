@@ -3,7 +3,7 @@ use Rattle.std.proofs.Common.{◌≡◌, ℕ, List, [], ◌∷◌, ◌++◌, Opt
 use Rattle.std.proofs.lemmas.List.{append-nil}
 use Rattle.sj_records.specs.Lines.{ended, unended}
 use Rattle.sj_records.specs.declared.engine.Task.{Task}
-use Rattle.sj_records.specs.View.{steps_of}
+use Rattle.sj_records.specs.ScriptView.{steps_of}
 use Rattle.sj_records.specs.Progress.{HasNoLineFeed, Wrote, WroteSome, WrotePrefix}
 use Rattle.sj_records.proofs.Cut.{ended-none, unended-none, ended-cut, unended-cut, HasNoLineFeed-append}
 use Rattle.sj_records.proofs.Written.{Wrote-nothing, Wrote-then, WroteSome-front, WrotePrefix-then, AreRecords-append}

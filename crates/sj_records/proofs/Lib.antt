@@ -1,3 +1,6 @@
+pub mod Kept
+pub mod Printed
+pub mod Trees
 pub mod Cut
 pub mod Written
 pub mod Total

@@ -7,7 +7,7 @@ use Rattle.sj_records.specs.declared.form.Form.{Form}
 use Rattle.sj_records.specs.Command.{Step}
 use Rattle.sj_records.specs.Record.{IsRecord, AreRecords}
 use Rattle.sj_records.specs.declared.engine.Task.{Task}
-use Rattle.sj_records.specs.View.{steps_of}
+use Rattle.sj_records.specs.ScriptView.{steps_of}
 use Rattle.sj_records.specs.Progress.{Wrote, WroteSome, WrotePrefix}
 
 -- ---- bytes that come and go

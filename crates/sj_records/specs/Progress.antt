@@ -4,7 +4,7 @@ use Rattle.std.specs.List.{AllByRecursion}
 use Rattle.std.specs.Io.KnownBytes.{Appends}
 use Rattle.sj_records.specs.declared.engine.Task.{Task}
 use Rattle.sj_records.specs.Record.{IsRecord, AreRecords}
-use Rattle.sj_records.specs.View.{steps_of}
+use Rattle.sj_records.specs.ScriptView.{steps_of}
 
 abbrev pub HasNoLineFeed : List ℕ → Type 0
 HasNoLineFeed bs = AllByRecursion (λ b. b ≢ 0x0a) bs

@@ -1,6 +1,8 @@
 //! Scripts of commands over a stream of JSON lines.
 #![tactic(auto)]
 
+#[allow(dead_code)]
+mod document;
 mod engine;
 mod form;
 mod path;

@@ -1,8 +1,10 @@
-/// One step of a path into a document.
+//! Paths into a document.
+
+/// One step of a path.
 #[derive(Debug, Drop)]
 pub enum PathPart {
-    /// The first member of an object with that key.
+    /// The first member with that key.
     Key(String),
-    /// The item of an array at that place, from 0.
+    /// The item at that place, from 0.
     Item(u64),
 }

@@ -1,0 +1,17 @@
+-- Members that are added one by one, of which the first of each key is kept.
+use Rattle.std.specs.Prelude.{ℕ, Bool, true, false, cond, ◌||◌, List, bytes_eq}
+use Rattle.sj_base.specs.Tree.{Tree, Members, no_members, member}
+
+-- whether some member has that key
+abbrev pub has_key : Members → List ℕ → Bool
+has_key no_members k = false
+has_key (member name t ms) k = bytes_eq name k || has_key ms k
+
+-- one more member at the end
+abbrev pub with_last : Members → List ℕ → Tree → Members
+with_last no_members k t = member k t no_members
+with_last (member name u ms) k t = member name u (with_last ms k t)
+
+-- the same, unless a member has that key
+abbrev pub add_member : Members → List ℕ → Tree → Members
+add_member ms k t = cond (has_key ms k) ms (with_last ms k t)

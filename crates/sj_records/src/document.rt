@@ -1,0 +1,184 @@
+//! A document that owns its texts.
+ghost use Rattle.std.specs.Prelude.{◌≡◌, ◌++◌, OnOk, OnErr, option_map, string_bytes};
+ghost use Rattle.sj_base.specs.Tree.{list, object};
+ghost use Rattle.sj_base.specs.Path.{key, place, member_at, item_at, child, at};
+ghost use Rattle.sj_base.specs.Scalar.{static_tree};
+ghost use Rattle.sj_base.specs.Text.{text};
+ghost use Rattle.sj_records.specs.Step.{reply_of};
+ghost use Rattle.sj_records.specs.Separators.{comma};
+ghost use Rattle.sj_records.specs.View.{tree_of, items_view, members_view, part_view, path_view};
+ghost use Rattle.sj_records.specs.Kept.{has_key, add_member};
+
+use crate::path::PathPart;
+use sj_base::{StaticNode, put_int, put_string};
+use std::alloc::AllocError;
+
+// An object keeps its members in the order of its text.
+#[derive(Debug, Drop)]
+pub(crate) enum Document {
+    Static(StaticNode),
+    String(String),
+    Array(Vec<Document>),
+    Object(Vec<(String, Document)>),
+}
+
+impl Document {
+    // The part that the path selects.
+    pub(crate) fn get<'d>(&'d self, path: &[PathPart]) -> Option<&'d Document>
+        ensures { option_map (λ d. tree_of d.now) result
+            ≡ at (tree_of self.now) (path_view path.now) }
+    {
+        let mut found = self;
+        for part in path {
+            found = found.child(part)?;
+        }
+        Some(found)
+    }
+
+    fn child<'d>(&'d self, part: &PathPart) -> Option<&'d Document>
+        ensures { option_map (λ d. tree_of d.now) result
+            ≡ child (tree_of self.now) (part_view part.now) }
+    {
+        match part {
+            PathPart::Key(name) => self.member(name),
+            PathPart::Item(place) => self.item(*place),
+        }
+    }
+
+    fn member<'d>(&'d self, name: &str) -> Option<&'d Document>
+        ensures { option_map (λ d. tree_of d.now) result ≡ child (tree_of self.now) (key name.now) }
+    {
+        match self {
+            Document::Object(members) => find(members, name),
+            Document::Static(_) | Document::String(_) | Document::Array(_) => None,
+        }
+    }
+
+    fn item(&self, index: u64) -> Option<&Document>
+        ensures { option_map (λ d. tree_of d.now) result ≡ child (tree_of self.now) (place index) }
+    {
+        match self {
+            Document::Array(items) => items.get(index as usize),
+            Document::Static(_) | Document::String(_) | Document::Object(_) => None,
+        }
+    }
+}
+
+fn find<'d>(members: &'d [(String, Document)], name: &str) -> Option<&'d Document>
+    ensures { option_map (λ d. tree_of d.now) result
+        ≡ member_at (members_view members.now) name.now }
+{
+    for member in members {
+        if member.0.as_str() == name {
+            return Some(&member.1);
+        }
+    }
+    None
+}
+
+fn contains_key(members: &[(String, Document)], name: &str) -> bool
+    ensures { result ≡ has_key (members_view members.now) name.now }
+{
+    for member in members {
+        if member.0.as_str() == name {
+            return true;
+        }
+    }
+    false
+}
+
+// Adds a member, unless some member has its key.
+pub(crate) fn add_member(
+    members: &mut Vec<(String, Document)>,
+    key: String,
+    value: Document,
+) -> Result<(), AllocError>
+    ensures ok { OnOk result (members_view members.new.items
+        ≡ add_member (members_view members.old.items) (string_bytes key) (tree_of value)) }
+    ensures err { OnErr result (members.new.items ≡ members.old.items) }
+{
+    if !contains_key(members, key.as_str()) {
+        members.push((key, value))?;
+    }
+    Ok(())
+}
+
+impl Document {
+    // Appends the text. Without memory a part of the text may be appended.
+    #[cycle(put)]
+    pub(crate) fn put(&self, out: &mut Vec<u8>) -> Result<(), AllocError>
+        ensures { OnOk result (out.new.items ≡ out.old.items ++ text (tree_of self.now)) }
+    {
+        match self {
+            Document::Static(scalar) => put_static(*scalar, out),
+            Document::String(string) => put_string(out, string),
+            Document::Array(items) => put_items(items, out),
+            Document::Object(members) => put_members(members, out),
+        }
+    }
+}
+
+fn put_static(scalar: StaticNode, out: &mut Vec<u8>) -> Result<(), AllocError>
+    ensures { OnOk result (out.new.items ≡ out.old.items ++ text (static_tree scalar)) }
+{
+    match scalar {
+        StaticNode::Null => out.extend_from_slice(b"null"),
+        StaticNode::Bool(true) => out.extend_from_slice(b"true"),
+        StaticNode::Bool(false) => out.extend_from_slice(b"false"),
+        StaticNode::I64(n) => put_int(out, n),
+        StaticNode::U64(n) => put_int(out, n),
+    }
+}
+
+#[cycle(put)]
+fn put_items(items: &[Document], out: &mut Vec<u8>) -> Result<(), AllocError>
+    ensures { OnOk result (out.new.items
+        ≡ out.old.items ++ text (list (items_view items.now))) }
+{
+    out.push(b'[')?;
+    for (place, item) in items.iter().enumerate() {
+        put_comma(place, out)?;
+        item.put(out)?;
+    }
+    out.push(b']')?;
+    Ok(())
+}
+
+#[cycle(put)]
+fn put_members(members: &[(String, Document)], out: &mut Vec<u8>) -> Result<(), AllocError>
+    ensures { OnOk result (out.new.items
+        ≡ out.old.items ++ text (object (members_view members.now))) }
+{
+    out.push(b'{')?;
+    for (place, member) in members.iter().enumerate() {
+        put_comma(place, out)?;
+        put_string(out, &member.0)?;
+        out.push(b':')?;
+        member.1.put(out)?;
+    }
+    out.push(b'}')?;
+    Ok(())
+}
+
+// A comma before each element but the first.
+fn put_comma(place: usize, out: &mut Vec<u8>) -> Result<(), AllocError>
+    ensures { OnOk result (out.new.items ≡ out.old.items ++ comma place) }
+{
+    if place > 0 {
+        out.push(b',')?;
+    }
+    Ok(())
+}
+
+// Appends a list of what a path selects: of the part, or of nothing.
+pub(crate) fn put_reply(found: Option<&Document>, out: &mut Vec<u8>) -> Result<(), AllocError>
+    ensures { OnOk result (out.new.items
+        ≡ out.old.items ++ text (reply_of (option_map (λ d. tree_of d.now) found.entry))) }
+{
+    out.push(b'[')?;
+    if let Some(document) = found {
+        document.put(out)?;
+    }
+    out.push(b']')?;
+    Ok(())
+}
