@@ -1,4 +1,5 @@
 pub mod Kept
+pub mod ReadSteps
 pub mod Printed
 pub mod Trees
 pub mod Cut

@@ -6,6 +6,8 @@ mod document;
 mod engine;
 mod form;
 mod path;
+#[allow(dead_code)]
+mod reader;
 mod run_error;
 mod script;
 
