@@ -54,9 +54,9 @@ has_key-with_last : (ks : Members) (k : List ℕ) (t : Tree) (n : List ℕ) → 
 has_key-with_last no_members k t n = has_key-member k t no_members n ∙ or-false (bytes_eq k n)
 has_key-with_last (member m u ks) k t n =
     has_key-member m u (with_last ks k t) n
-        ∙ ap (λ b. bytes_eq m n || b) (has_key-with_last ks k t n)
-        ∙ or_assoc (bytes_eq m n) (has_key ks n) (bytes_eq k n)
-        ∙ ap (λ b. b || bytes_eq k n) (sym (has_key-member m u ks n))
+    ∙ ap (λ b. bytes_eq m n || b) (has_key-with_last ks k t n)
+    ∙ or_assoc (bytes_eq m n) (has_key ks n) (bytes_eq k n)
+    ∙ ap (λ b. b || bytes_eq k n) (sym (has_key-member m u ks n))
 
 same_tests : (p q : Bool) → (p ≡ true → q ≡ true) → (q ≡ true → p ≡ true) → p ≡ q
 same_tests true q there back = sym (there refl)
@@ -94,9 +94,9 @@ beside-with_last : (ks : Members) (k : List ℕ) (t : Tree) (ms : Members) → b
 beside-with_last ks k t no_members = refl
 beside-with_last ks k t (member n u ms) =
     ap (λ b. cond b (beside (with_last ks k t) ms) (member n u (beside (with_last ks k t) ms))) (has_key-with_last ks k t n ∙ ap (λ b. has_key ks n || b) (bytes_eq_comm k n))
-        ∙ ap (λ r. cond (has_key ks n || bytes_eq n k) r (member n u r)) (beside-with_last ks k t ms)
-        ∙ one_of_two (has_key ks n) (bytes_eq n k) n u (beside ks (without k ms))
-        ∙ beside-cond ks (bytes_eq n k) n u (without k ms)
+    ∙ ap (λ r. cond (has_key ks n || bytes_eq n k) r (member n u r)) (beside-with_last ks k t ms)
+    ∙ one_of_two (has_key ks n) (bytes_eq n k) n u (beside ks (without k ms))
+    ∙ beside-cond ks (bytes_eq n k) n u (without k ms)
 
 joined-added : (ks : Members) (k : List ℕ) (t : Tree) (ms : Members) (b : Bool) → has_key ks k ≡ b
     → joined (cond b ks (with_last ks k t)) (beside (cond b ks (with_last ks k t)) ms) ≡ joined ks (cond b (beside ks (without k ms)) (member k t (beside ks (without k ms))))

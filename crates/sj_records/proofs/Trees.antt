@@ -6,11 +6,10 @@ use Rattle.std.specs.Slice.{IsGetResult}
 use Rattle.std.specs.declared.alloc.Global.{Global}
 use Rattle.std.specs.declared.string.String.{String as Text}
 use Rattle.std.specs.String.{string_bytes}
-use Rattle.sj_base.specs.Tree.{Tree, string, list, object, Items, no_items, item, Members, no_members, member}
+use Rattle.sj_base.specs.Tree.{string, list, object, member}
 use Rattle.sj_base.specs.Scalar.{static_tree}
-use Rattle.sj_base.specs.Path.{Part, item_at, child}
+use Rattle.sj_base.specs.Path.{item_at}
 use Rattle.sj_base.specs.declared.static_node.StaticNode.{StaticNode}
-use Rattle.sj_base.specs.declared.static_node.StaticNode.TheVariants.{Null, Bool, I64, U64}
 use Rattle.sj_records.specs.Reading.{items_of}
 use Rattle.sj_records.specs.Kept.{with_last}
 use Rattle.sj_records.specs.View.{tree_of, items_view, members_view}

@@ -35,6 +35,19 @@ impl Document {
         Some(found)
     }
 
+    // Appends the text. Without memory a part of the text may be appended.
+    #[cycle(put)]
+    pub(crate) fn put(&self, out: &mut Vec<u8>) -> Result<(), AllocError>
+        ensures { OnOk result (out.new.items ≡ out.old.items ++ text (tree_of self.now)) }
+    {
+        match self {
+            Document::Static(scalar) => put_static(*scalar, out),
+            Document::String(string) => put_string(out, string),
+            Document::Array(items) => put_items(items, out),
+            Document::Object(members) => put_members(members, out),
+        }
+    }
+
     fn child<'d>(&'d self, part: &PathPart) -> Option<&'d Document>
         ensures { option_map (λ d. tree_of d.now) result
             ≡ child (tree_of self.now) (part_view part.now) }
@@ -90,21 +103,6 @@ pub(crate) fn add_member(
         members.push((key, value))?;
     }
     Ok(())
-}
-
-impl Document {
-    // Appends the text. Without memory a part of the text may be appended.
-    #[cycle(put)]
-    pub(crate) fn put(&self, out: &mut Vec<u8>) -> Result<(), AllocError>
-        ensures { OnOk result (out.new.items ≡ out.old.items ++ text (tree_of self.now)) }
-    {
-        match self {
-            Document::Static(scalar) => put_static(*scalar, out),
-            Document::String(string) => put_string(out, string),
-            Document::Array(items) => put_items(items, out),
-            Document::Object(members) => put_members(members, out),
-        }
-    }
 }
 
 fn put_static(scalar: StaticNode, out: &mut Vec<u8>) -> Result<(), AllocError>
