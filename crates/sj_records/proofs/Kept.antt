@@ -1,9 +1,11 @@
 -- Members that are added one by one are those that `keep_members` keeps.
-use Rattle.std.proofs.Common.{◌≡◌, ℕ, Bool, true, false, cond, ◌||◌, List, refl, sym, ap, ◌∙◌, arith}
+use Rattle.std.proofs.Common.{◌≡◌, ℕ, Bool, true, false, cond, ◌||◌, List, [], ◌∷◌, ◌++◌, Option, Some, is_some, refl, sym, ap, ◌∙◌}
 use Rattle.std.proofs.lemmas.Slice.Eq.{bytes_eq-Decides}
 use Rattle.std.specs.Str.{bytes_eq}
 use Rattle.sj_base.specs.Tree.{Tree, Members, no_members, member}
+use Rattle.sj_base.specs.Path.{member_at}
 use Rattle.sj_base.specs.Keep.{keep, keep_members, without}
+use Rattle.sj_records.specs.Reading.{members_of}
 use Rattle.sj_records.specs.Kept.{has_key, with_last, add_member}
 
 -- ks, and each of these members added to them
@@ -37,9 +39,24 @@ or_assoc : (a b c : Bool) → (a || (b || c)) ≡ ((a || b) || c)
 or_assoc true b c = refl
 or_assoc false b c = refl
 
+or-false : (b : Bool) → (b || false) ≡ (false || b)
+or-false true = refl
+or-false false = refl
+
+found_first : (b : Bool) (u : Tree) (o : Option Tree) → is_some (cond b (Some u) o) ≡ (b || is_some o)
+found_first true u o = refl
+found_first false u o = refl
+
+has_key-member : (n : List ℕ) (u : Tree) (ms : Members) (k : List ℕ) → has_key (member n u ms) k ≡ (bytes_eq n k || has_key ms k)
+has_key-member n u ms k = found_first (bytes_eq n k) u (member_at ms k)
+
 has_key-with_last : (ks : Members) (k : List ℕ) (t : Tree) (n : List ℕ) → has_key (with_last ks k t) n ≡ (has_key ks n || bytes_eq k n)
-has_key-with_last no_members k t n = grind arith
-has_key-with_last (member m u ks) k t n = ap (λ b. bytes_eq m n || b) (has_key-with_last ks k t n) ∙ or_assoc (bytes_eq m n) (has_key ks n) (bytes_eq k n)
+has_key-with_last no_members k t n = has_key-member k t no_members n ∙ or-false (bytes_eq k n)
+has_key-with_last (member m u ks) k t n =
+    has_key-member m u (with_last ks k t) n
+    ∙ ap (λ b. bytes_eq m n || b) (has_key-with_last ks k t n)
+    ∙ or_assoc (bytes_eq m n) (has_key ks n) (bytes_eq k n)
+    ∙ ap (λ b. b || bytes_eq k n) (sym (has_key-member m u ks n))
 
 same_tests : (p q : Bool) → (p ≡ true → q ≡ true) → (q ≡ true → p ≡ true) → p ≡ q
 same_tests true q there back = sym (there refl)
@@ -77,9 +94,9 @@ beside-with_last : (ks : Members) (k : List ℕ) (t : Tree) (ms : Members) → b
 beside-with_last ks k t no_members = refl
 beside-with_last ks k t (member n u ms) =
     ap (λ b. cond b (beside (with_last ks k t) ms) (member n u (beside (with_last ks k t) ms))) (has_key-with_last ks k t n ∙ ap (λ b. has_key ks n || b) (bytes_eq_comm k n))
-        ∙ ap (λ r. cond (has_key ks n || bytes_eq n k) r (member n u r)) (beside-with_last ks k t ms)
-        ∙ one_of_two (has_key ks n) (bytes_eq n k) n u (beside ks (without k ms))
-        ∙ beside-cond ks (bytes_eq n k) n u (without k ms)
+    ∙ ap (λ r. cond (has_key ks n || bytes_eq n k) r (member n u r)) (beside-with_last ks k t ms)
+    ∙ one_of_two (has_key ks n) (bytes_eq n k) n u (beside ks (without k ms))
+    ∙ beside-cond ks (bytes_eq n k) n u (without k ms)
 
 joined-added : (ks : Members) (k : List ℕ) (t : Tree) (ms : Members) (b : Bool) → has_key ks k ≡ b
     → joined (cond b ks (with_last ks k t)) (beside (cond b ks (with_last ks k t)) ms) ≡ joined ks (cond b (beside ks (without k ms)) (member k t (beside ks (without k ms))))
@@ -93,3 +110,8 @@ kept_onto-joined ks (member k t ms) =
 
 pub kept_onto-is : (ms : Members) → kept_onto no_members ms ≡ keep_members ms
 kept_onto-is ms = kept_onto-joined no_members ms ∙ beside-no_members (keep_members ms)
+
+-- one more of the members behind
+pub kept_onto-push : (ks : Members) (ms : List (List ℕ × Tree)) (m : List ℕ × Tree) → kept_onto ks (members_of (ms ++ m ∷ [])) ≡ add_member (kept_onto ks (members_of ms)) m.0 (keep m.1)
+kept_onto-push ks [] m = refl
+kept_onto-push ks (n ∷ ms) m = kept_onto-push (add_member ks n.0 (keep n.1)) ms m

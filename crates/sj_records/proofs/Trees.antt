@@ -1,15 +1,16 @@
 -- The tree of a document, level by level.
-use Rattle.std.proofs.Common.{◌≡◌, ℕ, zero, suc, ◌<◌, ◌≤◌, length, get_or, List, [], ◌∷◌, ◌++◌, refl, ap, ◌∙◌, rules, arith, Vec, Option, Some, None, option_map}
+use Rattle.std.proofs.Common.{◌≡◌, ℕ, zero, suc, ◌<◌, ◌≤◌, length, get_or, List, [], ◌∷◌, ◌++◌, map, refl, ap, ◌∙◌, rules, arith, Vec, Option, Some, None, option_map}
+use Rattle.std.proofs.lemmas.List.{map_push}
 use Rattle.std.specs.Borrow.{Bor}
 use Rattle.std.specs.Slice.{IsGetResult}
 use Rattle.std.specs.declared.alloc.Global.{Global}
 use Rattle.std.specs.declared.string.String.{String as Text}
 use Rattle.std.specs.String.{string_bytes}
-use Rattle.sj_base.specs.Tree.{Tree, string, list, object, Items, no_items, item, Members, no_members, member}
+use Rattle.sj_base.specs.Tree.{string, list, object, member}
 use Rattle.sj_base.specs.Scalar.{static_tree}
-use Rattle.sj_base.specs.Path.{Part, item_at, child}
+use Rattle.sj_base.specs.Path.{item_at}
 use Rattle.sj_base.specs.declared.static_node.StaticNode.{StaticNode}
-use Rattle.sj_base.specs.declared.static_node.StaticNode.TheVariants.{Null, Bool, I64, U64}
+use Rattle.sj_records.specs.Reading.{items_of}
 use Rattle.sj_records.specs.Kept.{with_last}
 use Rattle.sj_records.specs.View.{tree_of, items_view, members_view}
 use Rattle.sj_records.specs.declared.document.Document.{Document, Static, String, Array, Object, the_lemmas}
@@ -26,16 +27,12 @@ tree_of-Array v = search (rules, the_lemmas)
 pub tree_of-Object : (v : Vec (Text Global × Document) Global) → tree_of (Object v) ≡ object (members_view v.items)
 tree_of-Object v = search (rules, the_lemmas)
 
+pub items_view-push : (ds : List Document) (d : Document) → items_view (ds ++ d ∷ []) ≡ items_of (map tree_of ds ++ tree_of d ∷ [])
+items_view-push ds d = ap items_of (map_push tree_of ds d)
+
 pub members_view-push : (ms : List (Text Global × Document)) (m : Text Global × Document) → members_view (ms ++ m ∷ []) ≡ with_last (members_view ms) (string_bytes m.0) (tree_of m.1)
 members_view-push [] m = refl
 members_view-push (n ∷ ms) m = ap (member (string_bytes n.0) (tree_of n.1)) (members_view-push ms m)
-
--- a scalar has no children
-pub child_of_static : (s : StaticNode) (p : Part) → child (static_tree s) p ≡ None
-child_of_static Null p = refl
-child_of_static (Bool b) p = refl
-child_of_static (I64 n) p = refl
-child_of_static (U64 n) p = refl
 
 item_at_within : (ds : List Document) (i : ℕ) (d : Document) → i < length ds → Some (tree_of (get_or ds i d)) ≡ item_at (items_view ds) i
 item_at_within [] i d within = absurd (omega arith)

@@ -1,11 +1,11 @@
 -- Members that are added one by one, of which the first of each key is kept.
-use Rattle.std.specs.Prelude.{ℕ, Bool, true, false, cond, ◌||◌, List, bytes_eq}
+use Rattle.std.specs.Prelude.{ℕ, Bool, cond, List, is_some}
 use Rattle.sj_base.specs.Tree.{Tree, Members, no_members, member}
+use Rattle.sj_base.specs.Path.{member_at}
 
 -- whether some member has that key
 abbrev pub has_key : Members → List ℕ → Bool
-has_key no_members k = false
-has_key (member name t ms) k = bytes_eq name k || has_key ms k
+has_key ms k = is_some (member_at ms k)
 
 -- one more member at the end
 abbrev pub with_last : Members → List ℕ → Tree → Members

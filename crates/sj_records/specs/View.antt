@@ -1,9 +1,9 @@
 -- The tree that a document stands for, and the path that a list of path parts stands for.
-use Rattle.std.specs.Prelude.{◌≡◌, ℕ, Bool, true, false, cond, List, [], ◌∷◌, map, bytes_eq}
+use Rattle.std.specs.Prelude.{List, [], ◌∷◌, map}
 use Rattle.std.specs.declared.alloc.Global.{Global}
 use Rattle.std.specs.declared.string.String.{String}
 use Rattle.std.specs.String.{string_bytes}
-use Rattle.sj_base.specs.Tree.{Tree, string, list, object, Items, no_items, item, Members, no_members, member}
+use Rattle.sj_base.specs.Tree.{Tree, string, list, object, Items, Members, no_members, member}
 use Rattle.sj_base.specs.Scalar.{static_tree}
 use Rattle.sj_base.specs.Path.{Part, key, place}
 use Rattle.sj_records.specs.Reading.{items_of}

@@ -7,7 +7,7 @@ ghost use Rattle.sj_base.specs.Text.{text};
 ghost use Rattle.sj_records.specs.Step.{reply_of};
 ghost use Rattle.sj_records.specs.Separators.{comma};
 ghost use Rattle.sj_records.specs.View.{tree_of, items_view, members_view, part_view, path_view};
-ghost use Rattle.sj_records.specs.Kept.{has_key, add_member};
+ghost use Rattle.sj_records.specs.Kept.{add_member};
 
 use crate::path::PathPart;
 use sj_base::{StaticNode, put_int, put_string};
@@ -33,6 +33,19 @@ impl Document {
             found = found.child(part)?;
         }
         Some(found)
+    }
+
+    // Appends the text. Without memory a part of the text may be appended.
+    #[cycle(put)]
+    pub(crate) fn put(&self, out: &mut Vec<u8>) -> Result<(), AllocError>
+        ensures { OnOk result (out.new.items ≡ out.old.items ++ text (tree_of self.now)) }
+    {
+        match self {
+            Document::Static(scalar) => put_static(*scalar, out),
+            Document::String(string) => put_string(out, string),
+            Document::Array(items) => put_items(items, out),
+            Document::Object(members) => put_members(members, out),
+        }
     }
 
     fn child<'d>(&'d self, part: &PathPart) -> Option<&'d Document>
@@ -76,17 +89,6 @@ fn find<'d>(members: &'d [(String, Document)], name: &str) -> Option<&'d Documen
     None
 }
 
-fn contains_key(members: &[(String, Document)], name: &str) -> bool
-    ensures { result ≡ has_key (members_view members.now) name.now }
-{
-    for member in members {
-        if member.0.as_str() == name {
-            return true;
-        }
-    }
-    false
-}
-
 // Adds a member, unless some member has its key.
 pub(crate) fn add_member(
     members: &mut Vec<(String, Document)>,
@@ -97,25 +99,10 @@ pub(crate) fn add_member(
         ≡ add_member (members_view members.old.items) (string_bytes key) (tree_of value)) }
     ensures err { OnErr result (members.new.items ≡ members.old.items) }
 {
-    if !contains_key(members, key.as_str()) {
+    if find(members, &key).is_none() {
         members.push((key, value))?;
     }
     Ok(())
-}
-
-impl Document {
-    // Appends the text. Without memory a part of the text may be appended.
-    #[cycle(put)]
-    pub(crate) fn put(&self, out: &mut Vec<u8>) -> Result<(), AllocError>
-        ensures { OnOk result (out.new.items ≡ out.old.items ++ text (tree_of self.now)) }
-    {
-        match self {
-            Document::Static(scalar) => put_static(*scalar, out),
-            Document::String(string) => put_string(out, string),
-            Document::Array(items) => put_items(items, out),
-            Document::Object(members) => put_members(members, out),
-        }
-    }
 }
 
 fn put_static(scalar: StaticNode, out: &mut Vec<u8>) -> Result<(), AllocError>
