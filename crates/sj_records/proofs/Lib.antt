@@ -1,0 +1,3 @@
+pub mod Steps
+pub mod Spaces
+pub mod Sequences
