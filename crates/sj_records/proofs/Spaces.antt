@@ -8,7 +8,7 @@ use Rattle.std.proofs.lemmas.Bool.{cases_Bool, false_from_ne_true}
 use Rattle.std.proofs.lemmas.Bool.Decides.{Decides-eqb, Decides-or}
 use Rattle.sj_base.specs.Spelling.{IsSpace, AreSpaces, Padded}
 use Rattle.sj_records.specs.Reading.{Reader, is_space, after_spaces, padded_at}
-use Rattle.sj_records.proofs.Steps.{Takes, Sound, Complete, map_parts, AllByRecursion-append, AllByRecursion-weaker}
+use Rattle.sj_records.proofs.Steps.{Takes, Sound, Complete, Plain, map_parts, AllByRecursion-append, AllByRecursion-parts, AllByRecursion-weaker}
 
 -- the test of a byte of whitespace
 IsSpace-Decides : (b : ℕ) → Decides (is_space b) (IsSpace b)
@@ -69,9 +69,31 @@ starts_still read none (b ∷ bs) p e =
     let no : is_space b ≡ false = false_from_ne_true (is_space b) (λ y. let n = none b bs ((IsSpace-Decides b).0 y) in cc) in
     rw no refl
 
--- whitespace around does not matter to the bytes within
-pub Padded-map : (P Q : List ℕ → Type 0) (bs : List ℕ) → Padded P bs → ((inner before after : List ℕ) → bs ≡ before ++ (inner ++ after) → P inner → Q inner) → Padded Q bs
-Padded-map P Q bs p f = record { before = p.before; inner = p.inner; after = p.after; parts = p.parts; spaces_before = p.spaces_before; spaces_after = p.spaces_after; holds = f p.inner p.before p.after p.parts p.holds }
+-- whitespace around does not matter to what stands within
+pub Padded-map : (P Q : List ℕ → Type 0) → ((inner : List ℕ) → P inner → Q inner) → (bs : List ℕ) → Padded P bs → Padded Q bs
+Padded-map P Q f bs p = record { before = p.before; inner = p.inner; after = p.after; parts = p.parts; spaces_before = p.spaces_before; spaces_after = p.spaces_after; holds = f p.inner p.holds }
+
+-- whitespace has no backslash
+pub Plain-spaces : (spaces : List ℕ) → AreSpaces spaces → Plain spaces
+Plain-spaces spaces h = AllByRecursion-weaker IsSpace (λ b. b ≢ 0x5c) no_backslash spaces h
+  where
+    no_backslash : (b : ℕ) → IsSpace b → b ≢ 0x5c
+    no_backslash b (inl e) d = omega arith
+    no_backslash b (inr (inl e)) d = omega arith
+    no_backslash b (inr (inr (inl e))) d = omega arith
+    no_backslash b (inr (inr (inr e))) d = omega arith
+
+-- nor has the whole, where what stands within has none
+pub Plain-Padded : (P : List ℕ → Type 0) → ((inner : List ℕ) → P inner → Plain inner) → (bs : List ℕ) → Padded P bs → Plain bs
+Plain-Padded P f bs p =
+    subst (λ (ys : List ℕ). Plain ys) (sym p.parts) (AllByRecursion-append (λ b. b ≢ 0x5c) p.before (p.inner ++ p.after) (Plain-spaces p.before p.spaces_before)
+      (AllByRecursion-append (λ b. b ≢ 0x5c) p.inner p.after (f p.inner p.holds) (Plain-spaces p.after p.spaces_after)))
+
+-- and the other way round
+pub Padded-plain : (P : List ℕ → Type 0) (bs : List ℕ) → Padded P bs → Plain bs → Padded (λ inner. P inner × Plain inner) bs
+Padded-plain P bs p h =
+    let k = AllByRecursion-parts (λ b. b ≢ 0x5c) p.before (p.inner ++ p.after) (subst (λ (ys : List ℕ). Plain ys) p.parts h) in
+    record { before = p.before; inner = p.inner; after = p.after; parts = p.parts; spaces_before = p.spaces_before; spaces_after = p.spaces_after; holds = (p.holds, (AllByRecursion-parts (λ b. b ≢ 0x5c) p.inner p.after k.1).0) }
 
 -- more whitespace in front does not matter
 pub Padded-absorbs : (P : List ℕ → Type 0) (spaces bs : List ℕ) → AreSpaces spaces → Padded P bs → Padded P (spaces ++ bs)

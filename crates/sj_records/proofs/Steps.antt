@@ -1,5 +1,5 @@
 -- Steps of a reader that found something, and facts on each byte of a list.
-use Rattle.std.specs.Prelude.{◌≡◌, ℕ, ◌⊎◌, Bool, true, false, cond, List, [], ◌∷◌, ◌++◌, Option, Some, None, option_map, option_and_then}
+use Rattle.std.specs.Prelude.{◌≡◌, ◌≢◌, ℕ, ◌⊎◌, Bool, true, false, cond, List, [], ◌∷◌, ◌++◌, Option, Some, None, option_map, option_and_then}
 use Rattle.std.specs.List.{AllByRecursion}
 use Rattle.std.proofs.Common.{refl, ap, ◌∙◌, inl, inr}
 use Rattle.sj_records.specs.Reading.{Reader, mapped}
@@ -65,3 +65,7 @@ AllByRecursion-parts P (x ∷ xs) ys h = let k = AllByRecursion-parts P xs ys h.
 pub AllByRecursion-weaker : (P Q : ℕ → Type 0) → ((x : ℕ) → P x → Q x) → (xs : List ℕ) → AllByRecursion P xs → AllByRecursion Q xs
 AllByRecursion-weaker P Q f [] h = tt
 AllByRecursion-weaker P Q f (x ∷ xs) h = (f x h.0, AllByRecursion-weaker P Q f xs h.1)
+
+-- no backslash among the bytes
+abbrev pub Plain : List ℕ → Type 0
+Plain bs = AllByRecursion (λ b. b ≢ 0x5c) bs
