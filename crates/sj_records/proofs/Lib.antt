@@ -4,3 +4,6 @@ pub mod Sequences
 pub mod Strings
 pub mod Numbers
 pub mod Values
+pub mod Items
+pub mod Pairs
+pub mod Nesting
