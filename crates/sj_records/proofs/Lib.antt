@@ -7,3 +7,7 @@ pub mod Values
 pub mod Items
 pub mod Pairs
 pub mod Nesting
+pub mod Sound
+pub mod Complete
+pub mod Readings
+pub mod Trees
