@@ -1,8 +1,8 @@
 -- The items of a list: between brackets, and as a list of trees.
-use Rattle.std.specs.Prelude.{◌≡◌, ◌≢◌, ℕ, suc, ◌≤◌, max, List, [], ◌∷◌, ◌++◌, Some, None, option_map}
-use Rattle.std.proofs.Common.{refl, sym, ap, ◌∙◌, subst, inr, arith, append_assoc}
-use Rattle.sj_base.specs.Tree.{Tree, list, Items, no_items, item, depth, items_depth}
-use Rattle.sj_base.specs.Spelling.{AreSpaces, Padded, SpellsValue, SpellsItems, SpellsMoreItems}
+use Rattle.std.specs.Prelude.{◌≡◌, ◌≢◌, ℕ, ◌≤◌, max, List, [], ◌∷◌, None}
+use Rattle.std.proofs.Common.{refl, sym, ap, subst, arith}
+use Rattle.sj_base.specs.Tree.{Tree, Items, no_items, item, depth, items_depth}
+use Rattle.sj_base.specs.Spelling.{Padded, SpellsValue, SpellsItems, SpellsMoreItems}
 use Rattle.sj_records.specs.Record.{HasNoDecimal, HaveNoDecimal}
 use Rattle.sj_records.specs.Reading.{Reader, padded_at, items_of}
 use Rattle.sj_records.proofs.Steps.{Sound, Complete, Plain, AllByRecursion-append, AllByRecursion-parts}
@@ -21,6 +21,7 @@ pub record ItemParts (limit : ℕ) (t : Tree) (bs : List ℕ) : Type 0 where
   pub shallow : depth t ≤ limit
   pub no_decimal : HasNoDecimal t
 
+-- a value with whitespace around it has these parts
 pub item_parts : (limit : ℕ) (t : Tree) (bs : List ℕ) → IsItem limit t bs → ItemParts limit t bs
 item_parts limit t bs h = record {
   spells = Padded-map (IsValue limit t) (SpellsValue t) (λ inner v. v.spells) bs h;
@@ -29,6 +30,7 @@ item_parts limit t bs h = record {
   no_decimal = h.holds.no_decimal;
 }
 
+-- and whatever has them is one
 pub item_from_parts : (limit : ℕ) (t : Tree) (bs : List ℕ) → ItemParts limit t bs → IsItem limit t bs
 item_from_parts limit t bs h = Padded-map (λ inner. SpellsValue t inner × Plain inner) (IsValue limit t) (λ inner v. record { spells = v.0; plain = v.1; shallow = h.shallow; no_decimal = h.no_decimal }) bs (Padded-plain (SpellsValue t) bs h.spells h.plain)
 
@@ -37,6 +39,7 @@ abbrev pub trees_of : Items → List Tree
 trees_of no_items = []
 trees_of (item t ts) = t ∷ trees_of ts
 
+-- the items of those trees are the items
 pub items_of-trees_of : (ts : Items) → items_of (trees_of ts) ≡ ts
 items_of-trees_of no_items = refl
 items_of-trees_of (item t ts) = ap (λ us. item t us) (items_of-trees_of ts)
@@ -63,6 +66,7 @@ more_items limit (t ∷ ts) bs h =
       no_decimal = (p.no_decimal, k.no_decimal);
     }
 
+-- and a sequence, as further items
 more_trees : (limit : ℕ) (ts : Items) (bs : List ℕ) → AreItems SpellsMoreItems limit ts bs → MoreOf (IsItem limit) (trees_of ts) bs
 more_trees limit no_items bs h = h.spells
 more_trees limit (item t ts) bs h =
@@ -86,6 +90,7 @@ items_from_list limit (t ∷ ts) bs h =
       no_decimal = (p.no_decimal, k.no_decimal);
     }
 
+-- and a sequence, as items
 pub list_from_items : (limit : ℕ) (ts : Items) (bs : List ℕ) → AreItems SpellsItems limit ts bs → ListOf (IsItem limit) (trees_of ts) bs
 list_from_items limit no_items bs h = h.spells
 list_from_items limit (item t ts) bs h =

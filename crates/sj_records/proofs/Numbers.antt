@@ -1,5 +1,5 @@
 -- Integers: an optional minus, a whole number, and the range.
-use Rattle.std.specs.Prelude.{◌≡◌, ◌≢◌, ℕ, zero, suc, ℤ, pos, negsuc, neg_ℤ, ◌<◌, ◌≤◌, ◌^◌, ◌⊎◌, Bool, true, false, cond, ◌&&◌, ◌==◌, nat_lt, nat_le, List, [], ◌∷◌, ◌++◌, Option, Some, None, option_map}
+use Rattle.std.specs.Prelude.{◌≡◌, ◌≢◌, ℕ, zero, suc, ℤ, pos, negsuc, ◌≤◌, ◌^◌, Bool, true, false, cond, ◌==◌, nat_lt, nat_le, List, [], ◌∷◌, ◌++◌, Some, option_map}
 use Rattle.std.specs.List.{AllByRecursion}
 use Rattle.std.specs.Char.{is_ascii_digit, IsAsciiDigit}
 use Rattle.std.specs.Str.Parse.{digits_value}
@@ -9,15 +9,18 @@ use Rattle.std.proofs.lemmas.Option.{same_Some}
 use Rattle.sj_base.specs.Tree.{IsInRange}
 use Rattle.sj_base.specs.Number.{minus, signed, IsWhole, SpellsInteger}
 use Rattle.sj_records.specs.Reading.{digits, after_digits, is_whole, in_range, whole_at, integer_at}
-use Rattle.sj_records.proofs.Steps.{Takes, Sound, Complete, Plain, cond_parts, guard_parts, map_parts, AllByRecursion-append, AllByRecursion-weaker}
+use Rattle.sj_records.proofs.Steps.{Sound, Complete, Plain, cond_parts, guard_parts, map_parts, AllByRecursion-append, AllByRecursion-weaker}
 use Rattle.sj_records.proofs.Spaces.{NoDigitFirst}
 
+-- a byte that passes the test is a digit
 digit_from_test : (b : ℕ) → is_ascii_digit b ≡ true → IsAsciiDigit b
 digit_from_test b e = let p = and_parts (nat_le 48 b) (nat_le b 57) e in (leb-true 48 b p.0, leb-true b 57 p.1)
 
+-- a digit passes the test
 test_from_digit : (b : ℕ) → IsAsciiDigit b → is_ascii_digit b ≡ true
 test_from_digit b h = and_from (nat_le 48 b) (nat_le b 57) (le-leb 48 b h.0) (le-leb b 57 h.1)
 
+-- one byte more in front, by its test
 digits_step : (b : ℕ) (bs : List ℕ) (t : Bool) → is_ascii_digit b ≡ t → (bs ≡ digits bs ++ after_digits bs) × AllByRecursion IsAsciiDigit (digits bs) → (b ∷ bs ≡ cond t (b ∷ digits bs) [] ++ cond t (after_digits bs) (b ∷ bs)) × AllByRecursion IsAsciiDigit (cond t (b ∷ digits bs) [])
 digits_step b bs true e h = (ap (λ (ys : List ℕ). b ∷ ys) h.0, (digit_from_test b e, h.1))
 digits_step b bs false e h = (refl, tt)
@@ -27,6 +30,7 @@ digits_parts : (bs : List ℕ) → (bs ≡ digits bs ++ after_digits bs) × AllB
 digits_parts [] = (refl, tt)
 digits_parts (b ∷ bs) = digits_step b bs (is_ascii_digit b) refl (digits_parts bs)
 
+-- no digit in front
 digits_end : (r : List ℕ) → NoDigitFirst r → (digits r ≡ []) × (after_digits r ≡ r)
 digits_end [] h = (refl, refl)
 digits_end (b ∷ r) h = (rw h refl, rw h refl)
@@ -47,6 +51,7 @@ IsWhole-from_test (d ∷ []) h e =
     elim (cases_eq d 0x30) [ inl same ↦ inl (ap (λ (x : ℕ). x ∷ []) same) | inr other ↦ inr (d, [], refl, omega arith, h.0.1, tt) ]
 IsWhole-from_test (d ∷ c ∷ ds) h e = let lt = ltb-true 0x30 d e in inr (d, c ∷ ds, refl, omega arith, h.0.1, h.1)
 
+-- a digit 1 to 9 and further ones pass the test
 whole_test : (d : ℕ) (others : List ℕ) → 0x31 ≤ d → is_whole (d ∷ others) ≡ true
 whole_test d [] lo = refl
 whole_test d (c ∷ others) lo = lt-ltb 0x30 d (omega arith)
@@ -61,6 +66,7 @@ record WholeParts (ds : List ℕ) : Type 0 where
   low : 48 ≤ first
   high : first ≤ 57
 
+-- a whole number has those parts
 whole_parts : (ds : List ℕ) → IsWhole ds → WholeParts ds
 whole_parts ds (inl e) = subst WholeParts (sym e) (record { passes = refl; all = ((omega arith, omega arith), tt); first = 48; others = []; parts = refl; low = omega arith; high = omega arith })
 whole_parts ds (inr h) =
@@ -83,6 +89,7 @@ in_range-sound true (suc n) z e =
     let le : suc n ≤ 2 ^ 63 = leb-true (suc n) (2 ^ 63) g.0 in
     (subst IsInRange same (omega arith), sym same)
 
+-- a number in range passes the test
 in_range-complete : (negative : Bool) (n : ℕ) → IsInRange (signed negative n) → in_range negative n ≡ Some (signed negative n)
 in_range-complete false n h = rw (lt-ltb n (2 ^ 64) h) refl
 in_range-complete true zero h = refl
@@ -92,6 +99,7 @@ in_range-complete true (suc n) h = rw (le-leb (suc n) (2 ^ 63) (omega arith)) re
 abbrev pub IsInteger : ℤ → List ℕ → Type 0
 IsInteger n bs = IsInRange n × SpellsInteger n bs
 
+-- what is found behind the minus, or without one, is digits of an integer in range
 whole_sound : (negative : Bool) (bs : List ℕ) (n : ℤ) (r : List ℕ) → whole_at negative bs ≡ Some (n, r) → (bs ≡ digits bs ++ r) × IsInteger n (minus negative ++ digits bs)
 whole_sound negative bs n r e =
     let g = guard_parts (is_whole (digits bs)) (option_map (λ z. (z, after_digits bs)) (in_range negative (digits_value 10 (digits bs)))) (n, r) e in
@@ -102,6 +110,7 @@ whole_sound negative bs n r e =
     let d = digits_parts bs in
     (d.0 ∙ ap (λ (ys : List ℕ). digits bs ++ ys) rest, (subst IsInRange same k.0, record { negative = negative; whole = digits bs; parts = refl; is_whole = IsWhole-from_test (digits bs) d.1 g.0; value = sym same ∙ k.1 }))
 
+-- a whole number in range is found, before a byte that is no digit
 whole_complete : (negative : Bool) (whole r : List ℕ) → IsWhole whole → IsInRange (signed negative (digits_value 10 whole)) → NoDigitFirst r → whole_at negative (whole ++ r) ≡ Some (signed negative (digits_value 10 whole), r)
 whole_complete negative whole r w h stop =
     let p = whole_parts whole w in

@@ -1,12 +1,12 @@
 -- The members of an object: keys, colons and values, between braces, and as a list of pairs.
-use Rattle.std.specs.Prelude.{◌≡◌, ◌≢◌, ℕ, suc, ◌≤◌, ◌==◌, max, List, [], ◌∷◌, ◌++◌, Some, None, option_map, option_and_then}
+use Rattle.std.specs.Prelude.{◌≡◌, ◌≢◌, ℕ, ◌≤◌, ◌==◌, max, List, [], ◌∷◌, ◌++◌, Some, option_and_then}
 use Rattle.std.proofs.Common.{refl, sym, ap, ◌∙◌, subst, arith, append_assoc}
 use Rattle.std.proofs.lemmas.Bool.{eqb-true}
 use Rattle.sj_base.specs.Tree.{Tree, Members, no_members, member, depth, members_depth}
-use Rattle.sj_base.specs.Spelling.{AreSpaces, Padded, Pairs, SpellsString, SpellsValue, SpellsMembers, SpellsMoreMembers}
+use Rattle.sj_base.specs.Spelling.{Padded, Pairs, SpellsString, SpellsValue, SpellsMembers, SpellsMoreMembers}
 use Rattle.sj_records.specs.Record.{HasNoDecimal, MembersHaveNoDecimal}
 use Rattle.sj_records.specs.Reading.{Reader, mapped, padded_at, string_at, after_colon, pair_at, members_of}
-use Rattle.sj_records.proofs.Steps.{Takes, Sound, Complete, Plain, guard_parts, chain_parts, mapped_parts, AllByRecursion-append, AllByRecursion-parts}
+use Rattle.sj_records.proofs.Steps.{Sound, Complete, Plain, guard_parts, chain_parts, mapped_parts, AllByRecursion-append, AllByRecursion-parts}
 use Rattle.sj_records.proofs.Spaces.{Stops, NoDigitFirst, NoneAtSpace, Padded-map, Padded-absorbs, Padded-plain, Plain-Padded, Plain-spaces, padded_at-sound, padded_at-complete, padded_at-skips}
 use Rattle.sj_records.proofs.Sequences.{MoreOf, ListOf, IsElement}
 use Rattle.sj_records.proofs.Strings.{IsText, string_at-sound, string_at-complete, string_at-none}
@@ -24,6 +24,7 @@ record PairParts (limit : ℕ) (k : List ℕ) (t : Tree) (bs : List ℕ) : Type 
   shallow : depth t ≤ limit
   no_decimal : HasNoDecimal t
 
+-- a key, a colon and a value have these parts
 pair_parts : (limit : ℕ) (k : List ℕ) (t : Tree) (bs : List ℕ) → IsPair limit (k, t) bs → PairParts limit k t bs
 pair_parts limit k t bs h =
     let v = item_parts limit t h.1 h.4 in
@@ -34,6 +35,7 @@ pair_parts limit k t bs h =
       no_decimal = v.no_decimal;
     }
 
+-- and whatever has them is a key, a colon and a value
 pair_from_parts : (limit : ℕ) (k : List ℕ) (t : Tree) (bs : List ℕ) → PairParts limit k t bs → IsPair limit (k, t) bs
 pair_from_parts limit k t bs h =
     let s = h.spells in
@@ -45,19 +47,20 @@ abbrev pub pairs_of : Members → List (List ℕ × Tree)
 pairs_of no_members = []
 pairs_of (member k t ms) = (k, t) ∷ pairs_of ms
 
+-- the members of those pairs are the members
 pub members_of-pairs_of : (ms : Members) → members_of (pairs_of ms) ≡ ms
 members_of-pairs_of no_members = refl
 members_of-pairs_of (member k t ms) = ap (λ us. member k t us) (members_of-pairs_of ms)
 
 -- members that Spelled says how to spell, within a limit of levels, with no backslash and no decimal literal
-pub record AreMembers (Spelled : Members → List ℕ → Type 0) (limit : ℕ) (ms : Members) (bs : List ℕ) : Type 0 where
+pub record ArePairs (Spelled : Members → List ℕ → Type 0) (limit : ℕ) (ms : Members) (bs : List ℕ) : Type 0 where
   pub spells : Spelled ms bs
   pub plain : Plain bs
   pub shallow : members_depth ms ≤ limit
   pub no_decimal : MembersHaveNoDecimal ms
 
 -- further members, as a sequence
-more_members : (limit : ℕ) (ms : List (List ℕ × Tree)) (bs : List ℕ) → MoreOf (IsPair limit) ms bs → AreMembers SpellsMoreMembers limit (members_of ms) bs
+more_members : (limit : ℕ) (ms : List (List ℕ × Tree)) (bs : List ℕ) → MoreOf (IsPair limit) ms bs → ArePairs SpellsMoreMembers limit (members_of ms) bs
 more_members limit [] bs h = record { spells = h; plain = subst (λ (ys : List ℕ). Plain ys) (sym h) tt; shallow = omega arith; no_decimal = tt }
 more_members limit (m ∷ ms) bs h =
     let p = pair_parts limit m.0 m.1 h.0 h.3 in
@@ -71,7 +74,8 @@ more_members limit (m ∷ ms) bs h =
       no_decimal = (p.no_decimal, k.no_decimal);
     }
 
-more_pairs : (limit : ℕ) (ms : Members) (bs : List ℕ) → AreMembers SpellsMoreMembers limit ms bs → MoreOf (IsPair limit) (pairs_of ms) bs
+-- and a sequence, as further members
+more_pairs : (limit : ℕ) (ms : Members) (bs : List ℕ) → ArePairs SpellsMoreMembers limit ms bs → MoreOf (IsPair limit) (pairs_of ms) bs
 more_pairs limit no_members bs h = h.spells
 more_pairs limit (member k t ms) bs h =
     let s = h.spells in
@@ -80,7 +84,7 @@ more_pairs limit (member k t ms) bs h =
     (s.0, s.1, s.2, pair_from_parts limit k t s.0 (record { spells = s.3; plain = p.0; shallow = omega arith; no_decimal = h.no_decimal.0 }), more_pairs limit ms s.1 (record { spells = s.4; plain = p.1; shallow = omega arith; no_decimal = h.no_decimal.1 }))
 
 -- members, as a sequence
-pub members_from_list : (limit : ℕ) (ms : List (List ℕ × Tree)) (bs : List ℕ) → ListOf (IsPair limit) ms bs → AreMembers SpellsMembers limit (members_of ms) bs
+pub members_from_list : (limit : ℕ) (ms : List (List ℕ × Tree)) (bs : List ℕ) → ListOf (IsPair limit) ms bs → ArePairs SpellsMembers limit (members_of ms) bs
 members_from_list limit [] bs h = record { spells = h; plain = Plain-spaces bs h; shallow = omega arith; no_decimal = tt }
 members_from_list limit (m ∷ ms) bs h =
     let p = pair_parts limit m.0 m.1 h.0 h.3 in
@@ -94,7 +98,8 @@ members_from_list limit (m ∷ ms) bs h =
       no_decimal = (p.no_decimal, k.no_decimal);
     }
 
-pub list_from_members : (limit : ℕ) (ms : Members) (bs : List ℕ) → AreMembers SpellsMembers limit ms bs → ListOf (IsPair limit) (pairs_of ms) bs
+-- and a sequence, as members
+pub list_from_members : (limit : ℕ) (ms : Members) (bs : List ℕ) → ArePairs SpellsMembers limit ms bs → ListOf (IsPair limit) (pairs_of ms) bs
 list_from_members limit no_members bs h = h.spells
 list_from_members limit (member k t ms) bs h =
     let s = h.spells in
@@ -114,6 +119,7 @@ module _ (limit : ℕ) (read : Reader Tree) where
       let parts = k.parts in
       (k.front, cc, subst (λ v. IsItem limit v k.front) (ap (λ q. q.1) p.2) k.holds, ap (λ q. q.0) p.2)
 
+  -- what is found is a key, a colon and a value
   pair_sound : Sound (padded_at read) (IsItem limit) → Sound (pair_at read) (IsPair limit)
   pair_sound sound bs m r e =
       let c = chain_parts (λ p. after_colon (padded_at read) p.0 p.1) (padded_at string_at bs) (m, r) e in
@@ -125,6 +131,7 @@ module _ (limit : ℕ) (read : Reader Tree) where
         holds = (k.front, v.0, refl, subst (λ (s : List ℕ). Padded (IsText s) k.front) v.3 k.holds, v.2);
       }
 
+  -- and these are found
   pair_complete : Complete (padded_at read) (IsItem limit) Stops → Complete (pair_at read) (IsPair limit) Stops
   pair_complete complete m front r h stops =
       let grouped : front ++ r ≡ h.0 ++ 0x3a ∷ (h.1 ++ r) = ap (λ (ys : List ℕ). ys ++ r) h.2 ∙ append_assoc h.0 (0x3a ∷ h.1) r in

@@ -1,6 +1,6 @@
 -- Lines of whitespace alone.
 use Rattle.std.specs.Prelude.{◌≡◌, ℕ, List, [], ◌++◌}
-use Rattle.std.proofs.Common.{refl, sym, ap, ◌∙◌, subst}
+use Rattle.std.proofs.Common.{sym, ap, ◌∙◌, subst}
 use Rattle.std.proofs.lemmas.List.{append-nil}
 use Rattle.sj_base.specs.Spelling.{AreSpaces}
 use Rattle.sj_records.specs.Reading.{after_spaces}

@@ -1,5 +1,5 @@
 -- Elements with commas between them, up to the closing byte.
-use Rattle.std.specs.Prelude.{◌≡◌, ℕ, zero, suc, ◌+◌, ◌<◌, ◌≤◌, ◌⊎◌, Bool, true, false, cond, ◌==◌, List, [], ◌∷◌, ◌++◌, length, Option, Some, None, option_and_then}
+use Rattle.std.specs.Prelude.{◌≡◌, ℕ, zero, suc, ◌+◌, ◌<◌, ◌⊎◌, false, cond, ◌==◌, List, [], ◌∷◌, ◌++◌, length, Some, None, option_and_then}
 use Rattle.std.proofs.Common.{refl, sym, ap, ◌∙◌, subst, inl, inr, arith, append_assoc, length-append}
 use Rattle.std.proofs.lemmas.Bool.{eqb-true, eq-eqb, cases_Bool}
 use Rattle.std.proofs.lemmas.Option.{some_pair_parts}
@@ -59,6 +59,7 @@ module _ (A : Type 0) (close : ℕ) (read : Reader A) (E : A → List ℕ → Ty
             ([], sym p.0, record { front = []; parts = cc; holds = refl })
       ]
 
+  -- what is found within the turns is one element or more, and the closing byte
   some_sound : (n : ℕ) (bs : List ℕ) (xs : List A) (r : List ℕ) → elements_at close read n bs ≡ Some (xs, r) → Takes (SomeOf E xs) bs (close ∷ r)
   unfolding elements_at
   some_sound zero bs xs r e = absurd cc
@@ -79,6 +80,7 @@ module _ (A : Type 0) (close : ℕ) (read : Reader A) (E : A → List ℕ → Ty
   more_stops [] more r h = subst (λ (m : List ℕ). Stops (m ++ close ∷ r)) (sym h) (is.stops r)
   more_stops (x ∷ xs) more r h = subst (λ (m : List ℕ). Stops (m ++ close ∷ r)) (sym h.2) (record { still = refl; no_digit = refl })
 
+  -- and these are found, where the turns are more than the bytes of the further elements
   some_complete : (xs : List A) (x : A) (n : ℕ) (bs more r : List ℕ) → read bs ≡ Some (x, more ++ close ∷ r) → MoreOf E xs more → length more < n → elements_at close read n bs ≡ Some (x ∷ xs, r)
   unfolding elements_at
   some_complete xs x zero bs more r e h lt = absurd (omega arith)
@@ -107,6 +109,7 @@ module _ (A : Type 0) (close : ℕ) (read : Reader A) (E : A → List ℕ → Ty
         | inr h ↦ inr (some_sound (suc (length (b ∷ bs))) (b ∷ bs) xs r h.1)
       ]
 
+  -- one element or more are found there
   nearest_complete : (xs : List A) (x : A) (bs more r : List ℕ) → read bs ≡ Some (x, more ++ close ∷ r) → MoreOf E xs more → sequence_at close read bs ≡ Some (x ∷ xs, r)
   nearest_complete xs x [] more r e h = let none = is.none in absurd cc
   nearest_complete xs x (b ∷ bs) more r e h =

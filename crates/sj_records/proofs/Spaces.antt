@@ -1,10 +1,9 @@
 -- Whitespace in front of what is read, and around it.
-use Rattle.std.specs.Prelude.{◌≡◌, ◌≢◌, ℕ, ◌⊎◌, Bool, true, false, cond, List, [], ◌∷◌, ◌++◌, Option, Some, None, option_map}
-use Rattle.std.specs.List.{AllByRecursion}
+use Rattle.std.specs.Prelude.{◌≡◌, ◌≢◌, ℕ, Bool, true, false, cond, List, [], ◌∷◌, ◌++◌, Some, None, option_map}
 use Rattle.std.specs.Bool.{Decides}
 use Rattle.std.specs.Char.{is_ascii_digit}
 use Rattle.std.proofs.Common.{refl, sym, ap, ◌∙◌, subst, inl, inr, arith, append_assoc}
-use Rattle.std.proofs.lemmas.Bool.{cases_Bool, false_from_ne_true}
+use Rattle.std.proofs.lemmas.Bool.{false_from_ne_true}
 use Rattle.std.proofs.lemmas.Bool.Decides.{Decides-eqb, Decides-or}
 use Rattle.sj_base.specs.Spelling.{IsSpace, AreSpaces, Padded}
 use Rattle.sj_records.specs.Reading.{Reader, is_space, after_spaces, padded_at}
@@ -14,6 +13,7 @@ use Rattle.sj_records.proofs.Steps.{Takes, Sound, Complete, Plain, map_parts, Al
 IsSpace-Decides : (b : ℕ) → Decides (is_space b) (IsSpace b)
 IsSpace-Decides b = Decides-or _ _ (Decides-eqb b 0x20) (Decides-or _ _ (Decides-eqb b 0x09) (Decides-or _ _ (Decides-eqb b 0x0a) (Decides-eqb b 0x0d)))
 
+-- one byte more in front, by its test
 space_step : (b : ℕ) (bs : List ℕ) (t : Bool) → is_space b ≡ t → Takes AreSpaces bs (after_spaces bs) → Takes AreSpaces (b ∷ bs) (cond t (after_spaces bs) (b ∷ bs))
 space_step b bs true e k = record { front = b ∷ k.front; parts = ap (λ (xs : List ℕ). b ∷ xs) k.parts; holds = ((IsSpace-Decides b).0 e, k.holds) }
 space_step b bs false e k = record { front = []; parts = refl; holds = tt }
@@ -28,6 +28,7 @@ pub after_spaces-append : (spaces bs : List ℕ) → AreSpaces spaces → after_
 after_spaces-append [] bs h = refl
 after_spaces-append (b ∷ spaces) bs h = rw ((IsSpace-Decides b).1 h.0) (after_spaces-append spaces bs h.1)
 
+-- one byte more in front, by its test
 still_step : (b : ℕ) (bs : List ℕ) (t : Bool) → is_space b ≡ t → after_spaces (after_spaces bs) ≡ after_spaces bs → after_spaces (cond t (after_spaces bs) (b ∷ bs)) ≡ cond t (after_spaces bs) (b ∷ bs)
 still_step b bs true e k = k
 still_step b bs false e k = rw e refl
@@ -47,6 +48,7 @@ pub record Stops (r : List ℕ) : Type 0 where
   pub still : after_spaces r ≡ r
   pub no_digit : NoDigitFirst r
 
+-- whitespace is no digit
 space_no_digit : (b : ℕ) → IsSpace b → is_ascii_digit b ≡ false
 space_no_digit b (inl e) = rw e refl
 space_no_digit b (inr (inl e)) = rw e refl
@@ -87,7 +89,7 @@ Plain-spaces spaces h = AllByRecursion-weaker IsSpace (λ b. b ≢ 0x5c) no_back
 pub Plain-Padded : (P : List ℕ → Type 0) → ((inner : List ℕ) → P inner → Plain inner) → (bs : List ℕ) → Padded P bs → Plain bs
 Plain-Padded P f bs p =
     subst (λ (ys : List ℕ). Plain ys) (sym p.parts) (AllByRecursion-append (λ b. b ≢ 0x5c) p.before (p.inner ++ p.after) (Plain-spaces p.before p.spaces_before)
-      (AllByRecursion-append (λ b. b ≢ 0x5c) p.inner p.after (f p.inner p.holds) (Plain-spaces p.after p.spaces_after)))
+    (AllByRecursion-append (λ b. b ≢ 0x5c) p.inner p.after (f p.inner p.holds) (Plain-spaces p.after p.spaces_after)))
 
 -- and the other way round
 pub Padded-plain : (P : List ℕ → Type 0) (bs : List ℕ) → Padded P bs → Plain bs → Padded (λ inner. P inner × Plain inner) bs

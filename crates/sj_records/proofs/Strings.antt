@@ -1,5 +1,5 @@
 -- Strings without a backslash: the body is the text.
-use Rattle.std.specs.Prelude.{◌≡◌, ◌≢◌, ℕ, ◌<◌, ◌≤◌, ◌⊎◌, Bool, true, false, cond, ◌||◌, ◌==◌, nat_lt, List, [], ◌∷◌, ◌++◌, map, length, Option, Some, None, option_and_then, encode_utf8, flat_map, IsUtf8}
+use Rattle.std.specs.Prelude.{◌≡◌, ◌≢◌, ℕ, ◌<◌, ◌≤◌, true, cond, ◌||◌, ◌==◌, nat_lt, List, [], ◌∷◌, ◌++◌, map, length, Some, None, option_and_then, encode_utf8, flat_map, IsUtf8}
 use Rattle.std.specs.List.{AllByRecursion}
 use Rattle.std.specs.Char.{IsScalar}
 use Rattle.std.specs.Str.{is_utf8, all_scalars, encode_utf8_all}
@@ -12,7 +12,7 @@ use Rattle.std.proofs.lemmas.Str.{encode_ascii, inside_one, IsUtf8-nil, IsUtf8-a
 use Rattle.sj_base.specs.Characters.{Row, raw, short, unit, pair, IsRow, row_bytes, row_character, Means}
 use Rattle.sj_base.specs.Spelling.{SpellsString}
 use Rattle.sj_records.specs.Reading.{mapped, body_at, if_utf8, string_at}
-use Rattle.sj_records.proofs.Steps.{Takes, Sound, Plain, cond_parts, guard_parts, refusal_parts, chain_parts, mapped_parts, AllByRecursion-append, AllByRecursion-parts, AllByRecursion-weaker}
+use Rattle.sj_records.proofs.Steps.{Sound, Plain, cond_parts, guard_parts, refusal_parts, chain_parts, mapped_parts, AllByRecursion-append, AllByRecursion-parts, AllByRecursion-weaker}
 use Rattle.sj_records.proofs.Spaces.{NoneAtSpace}
 
 -- a string with no backslash
@@ -51,6 +51,7 @@ rows_shown : (cs : List ℕ) → encode_utf8_all cs ≡ flat_map row_bytes (map 
 rows_shown [] = refl
 rows_shown (c ∷ cs) = ap (λ (ys : List ℕ). encode_utf8 c ++ ys) (rows_shown cs)
 
+-- characters as rows that mean themselves
 rows_meant : (cs : List ℕ) → encode_utf8_all cs ≡ flat_map (λ r. encode_utf8 (row_character r)) (map raw cs)
 rows_meant [] = refl
 rows_meant (c ∷ cs) = ap (λ (ys : List ℕ). encode_utf8 c ++ ys) (rows_meant cs)
@@ -63,6 +64,7 @@ row_from_bytes c s h =
       | inr le ↦ (s, omega arith, λ e. omega arith, λ e. omega arith)
     ]
 
+-- likewise each character of a text
 rows_from_bytes : (cs : List ℕ) → all_scalars cs ≡ true → AllByRecursion IsInner (encode_utf8_all cs) → AllByRecursion IsRow (map raw cs)
 rows_from_bytes [] s h = tt
 rows_from_bytes (c ∷ cs) s h =

@@ -1,5 +1,5 @@
 -- What bytes spell is a tree: its texts are UTF-8, its integers are in range.
-use Rattle.std.specs.Prelude.{◌≡◌, ℕ, ◌+◌, ◌-◌, ◌*◌, ◌<◌, ◌≤◌, true, false, cond, ◌==◌, List, [], ◌∷◌, Option, Some, None, unwrap_or, encode_utf8, flat_map, IsUtf8}
+use Rattle.std.specs.Prelude.{ℕ, ◌+◌, ◌-◌, ◌*◌, ◌<◌, ◌≤◌, ◌==◌, List, [], ◌∷◌, Option, unwrap_or, encode_utf8, flat_map, IsUtf8}
 use Rattle.std.specs.List.{AllByRecursion}
 use Rattle.std.specs.Char.{IsScalar}
 use Rattle.std.proofs.Common.{refl, sym, subst, arith}
@@ -37,6 +37,7 @@ IsScalar-row (short letter) h = IsScalar-short letter
 IsScalar-row (unit ds) h = h.1
 IsScalar-row (pair high low) h = IsScalar-pair (hex_value high) (hex_value low) h.2.0 h.2.1 h.3.0 h.3.1
 
+-- the characters of rows, in UTF-8
 IsUtf8-rows : (rows : List Row) → AllByRecursion IsRow rows → IsUtf8 (flat_map (λ r. encode_utf8 (row_character r)) rows)
 IsUtf8-rows [] h = IsUtf8-nil
 IsUtf8-rows (r ∷ rows) h = IsUtf8-append (encode_utf8 (row_character r)) (flat_map (λ q. encode_utf8 (row_character q)) rows) (IsUtf8-encode (row_character r) (IsScalar-row r h.0)) (IsUtf8-rows rows h.1)

@@ -1,6 +1,6 @@
 -- Values: scalars, and what the readers of items and members owe to a reader of values.
-use Rattle.std.specs.Prelude.{◌≡◌, ◌≢◌, ℕ, ◌≤◌, ◌⊎◌, ℤ, true, false, ◌==◌, List, [], ◌∷◌, ◌++◌, Some, None, codes}
-use Rattle.std.proofs.Common.{refl, sym, ap, ◌∙◌, subst, inl, inr, arith, append_assoc}
+use Rattle.std.specs.Prelude.{◌≡◌, ℕ, ◌≤◌, ◌⊎◌, ℤ, true, false, ◌==◌, List, [], ◌∷◌, ◌++◌, Some, None, codes}
+use Rattle.std.proofs.Common.{refl, sym, ap, ◌∙◌, subst, inl, inr, arith}
 use Rattle.std.proofs.lemmas.Bool.{eqb-true, ne_eqb}
 use Rattle.sj_base.specs.Tree.{Tree, null, boolean, integer, decimal, string, list, object, Items, Members, depth}
 use Rattle.sj_base.specs.Spelling.{IsSpace, SpellsValue}
@@ -43,15 +43,19 @@ mapped_sound limit make read E sound to bs t r e =
     let k = sound bs m.0 r m.1 in
     record { front = k.front; parts = k.parts; holds = subst (λ v. IsValue limit v k.front) m.2 (to m.0 k.front k.holds) }
 
+-- `true` is a value
 true_value : (limit : ℕ) → IsValue limit (boolean true) (codes "true")
 true_value limit = record { spells = refl; plain = (λ e. omega arith, (λ e. omega arith, (λ e. omega arith, (λ e. omega arith, tt)))); shallow = omega arith; no_decimal = tt }
 
+-- `false` is a value
 false_value : (limit : ℕ) → IsValue limit (boolean false) (codes "false")
 false_value limit = record { spells = refl; plain = (λ e. omega arith, (λ e. omega arith, (λ e. omega arith, (λ e. omega arith, (λ e. omega arith, tt))))); shallow = omega arith; no_decimal = tt }
 
+-- `null` is a value
 null_value : (limit : ℕ) → IsValue limit null (codes "null")
 null_value limit = record { spells = refl; plain = (λ e. omega arith, (λ e. omega arith, (λ e. omega arith, (λ e. omega arith, tt)))); shallow = omega arith; no_decimal = tt }
 
+-- a string is a value
 string_value : (limit : ℕ) (s bs : List ℕ) → IsText s bs → IsValue limit (string s) bs
 string_value limit s bs h = record { spells = h.0; plain = h.1; shallow = omega arith; no_decimal = tt }
 
