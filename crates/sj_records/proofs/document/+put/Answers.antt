@@ -3,7 +3,7 @@ use Rattle.std.proofs.lemmas.Result.{on_ok_weaker}
 use Rattle.sj_base.specs.Tree.{object}
 use Rattle.sj_base.specs.Text.{text}
 use Rattle.sj_records.specs.View.{tree_of, members_view}
-use Rattle.sj_records.proofs.Trees.{tree_of-Object}
+use Rattle.sj_records.proofs.DocumentTrees.{tree_of-Object}
 use Rattle.sj_records.proofs.document.+put.Goals as goal
 
 pub Document::put-returns-in-Object : goal.Document::put-returns-in-Object

@@ -2,7 +2,7 @@ use Rattle.std.proofs.Common.{◌≡◌, [], ◌∷◌, ◌++◌, cond, false, �
 use Rattle.std.specs.String.{string_bytes}
 use Rattle.sj_records.specs.Kept.{has_key, with_last}
 use Rattle.sj_records.specs.View.{tree_of, members_view}
-use Rattle.sj_records.proofs.Trees.{members_view-push}
+use Rattle.sj_records.proofs.DocumentTrees.{members_view-push}
 use Rattle.sj_records.proofs.document.add_member.Goals as goal
 
 pub returns-in_ok-push-clause-ok : goal.returns-in_ok-push-clause-ok

@@ -1,7 +1,7 @@
 use Rattle.std.proofs.Common.{◌∙◌, ap, sym}
 use Rattle.sj_base.specs.Path.{place, item_at, child}
 use Rattle.sj_records.specs.View.{tree_of, items_view}
-use Rattle.sj_records.proofs.Trees.{tree_of-Array, item_at_from_get}
+use Rattle.sj_records.proofs.DocumentTrees.{tree_of-Array, item_at_from_get}
 use Rattle.sj_records.proofs.document.Document.item.Goals as goal
 
 pub returns-in-Array : goal.returns-in-Array
