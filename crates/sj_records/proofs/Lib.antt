@@ -14,6 +14,7 @@ pub mod Trees
 pub mod DocumentTrees
 pub mod Kept
 pub mod ReadSteps
+pub mod Turns
 pub mod Printed
 pub mod Cut
 pub mod Written

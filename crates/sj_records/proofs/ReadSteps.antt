@@ -1,5 +1,5 @@
 -- Reading on lists, step by step, as the program takes it.
-use Rattle.std.proofs.Common.{◌≡◌, ℕ, ◌<◌, ◌≤◌, ◌^◌, Bool, true, false, cond, eqb, ltb, leb, ◌&&◌, List, [], ◌∷◌, ◌++◌, length, get_or, take, drop, Option, Some, None, Result, Ok, Err, pos, inl, inr, refl, sym, ap, ◌∙◌, arith, rules}
+use Rattle.std.proofs.Common.{◌≡◌, ℕ, ◌+◌, ◌<◌, ◌≤◌, ◌^◌, Bool, true, false, cond, eqb, ltb, leb, ◌&&◌, List, [], ◌∷◌, ◌++◌, length, get_or, take, drop, Option, Some, None, Result, Ok, Err, pos, inl, inr, refl, sym, ap, ◌∙◌, arith, rules}
 use Rattle.std.specs.Prelude.{MatchOption, option_map, OkIff, IsUtf8}
 use Rattle.std.specs.Cmp.Lexicographic.{pointwise}
 use Rattle.std.specs.Borrow.{Bor}
@@ -46,7 +46,7 @@ not_utf8 bs false e h = refl
 
 -- a body that is not UTF-8
 pub string_at-not_utf8 : (bs inner body rest : List ℕ) → bs ≡ 0x22 ∷ inner → body_at inner ≡ Some (body, rest) → (IsUtf8 body → ⊥) → string_at bs ≡ None
-string_at-not_utf8 bs inner body rest opened found no = rw (opened, found, not_utf8 body (is_utf8 body) refl no) refl
+string_at-not_utf8 bs inner body rest opened found bad = rw (opened, found, not_utf8 body (is_utf8 body) refl bad) refl
 
 -- ---- numbers
 
@@ -85,10 +85,6 @@ whole_at-number bs r k whole says is =
 
 pub whole_at-too_large : {E : Type 0} (bs : List ℕ) (r : Result ℕ E) (d : E) → is_whole (digits bs) ≡ true → ParsesUnsigned 64 10 (digits bs) r → r ≡ Err d → whole_at false bs ≡ None
 whole_at-too_large bs r d whole says is =
-    let no = err_not r d (digits_value 10 (digits bs)) _ is (parsed (digits bs) r (digits-AllDigits bs) says) in
-    let above : ltb (digits_value 10 (digits bs)) (2 ^ 64) ≡ false = le-ltb _ _ (not_below _ _ (λ h. no (is_whole-some (digits bs) whole, h))) in
+    let not = err_not r d (digits_value 10 (digits bs)) _ is (parsed (digits bs) r (digits-AllDigits bs) says) in
+    let above : ltb (digits_value 10 (digits bs)) (2 ^ 64) ≡ false = le-ltb _ _ (not_below _ _ (λ h. not (is_whole-some (digits bs) whole, h))) in
     rw (whole, above) refl
-
--- no number of 64 bits begins without digits, or with a zero and more of them
-pub whole_at-not_whole : (bs : List ℕ) → is_whole (digits bs) ≡ false → whole_at false bs ≡ None
-whole_at-not_whole bs no = rw no refl

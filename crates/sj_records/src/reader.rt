@@ -1,14 +1,16 @@
 //! Reading a document byte by byte. A backslash and a decimal literal are refused.
-ghost use Rattle.std.specs.Prelude.{◌≡◌, ℕ, ◌∷◌, [], ◌<◌, ◌≤◌, ◌^◌, ◌↔◌, Bool, false, true, List, length, Some, None, Option, Result, IsTrue, IfOk, IfSome, OnErr, MatchOption, SomeIff, option_map, string_bytes, pos, neg_ℤ};
+ghost use Rattle.std.specs.Prelude.{◌≡◌, ℕ, ◌∷◌, [], ◌<◌, ◌≤◌, ◌^◌, ◌↔◌, Bool, false, true, List, length, Some, None, Option, Result, map, IsTrue, IfOk, IfSome, OnErr, MatchOption, SomeIff, option_map, string_bytes, pos, neg_ℤ};
 ghost use Rattle.std.specs.Str.Parse.{digits_value};
 ghost use Rattle.sj_base.specs.Tree.{Tree, integer};
 ghost use Rattle.sj_base.specs.Keep.{keep};
 ghost use Rattle.sj_base.specs.Scalar.{static_tree};
-ghost use Rattle.sj_records.specs.Reading.{mapped, is_space, after_spaces, body_at, string_at, digits, after_digits, is_whole, in_range, whole_at, integer_at, line_at, after_word};
-ghost use Rattle.sj_records.specs.View.{tree_of};
+ghost use Rattle.sj_records.specs.Reading.{mapped, padded_at, scalar_at, value_at, sequence_at, pair_at, is_space, after_spaces, body_at, string_at, digits, after_digits, is_whole, in_range, whole_at, integer_at, line_at, after_word, word_at};
+ghost use Rattle.sj_records.specs.View.{tree_of, items_view, members_view};
+ghost use Rattle.sj_records.specs.Building.{kept_value, kept_items, kept_members, kept_pair, after_byte};
 ghost use Rattle.sj_records.specs.Stop.{Gives};
 ghost use Rattle.sj_records.specs.declared.reader.Stop.TheVariants.{Memory};
 
+use crate::document::{Document, add_member};
 use sj_base::StaticNode;
 use std::alloc::{AllocError, AllocFailed, Global};
 
@@ -41,6 +43,16 @@ fn split_first(bytes: &[u8]) -> Option<(u8, &[u8])>
     match bytes {
         [] => None,
         [first, rest @ ..] => Some((*first, rest)),
+    }
+}
+
+/// What stands behind the byte.
+fn skip_byte(bytes: &[u8], byte: u8) -> Option<&[u8]>
+    ensures { option_map (λ rest. rest.now) result ≡ after_byte byte bytes.now }
+{
+    match split_first(bytes) {
+        Some((first, rest)) if first == byte => Some(rest),
+        _ => None,
     }
 }
 
@@ -157,5 +169,159 @@ fn negated(number: u64) -> Option<i64>
         Some(i64::MIN)
     } else {
         None
+    }
+}
+
+fn read_integer(bytes: &[u8]) -> Option<(StaticNode, &[u8])>
+    ensures { option_map (λ p. (static_tree p.0, p.1.now)) result ≡ mapped integer (integer_at bytes.now) }
+{
+    match bytes {
+        [b'-', digits @ ..] => {
+            let (number, rest) = read_whole(digits)?;
+            Some((StaticNode::I64(negated(number)?), rest))
+        }
+        _ => {
+            let (number, rest) = read_whole(bytes)?;
+            Some((StaticNode::U64(number), rest))
+        }
+    }
+}
+
+/// A scalar. It keeps no text of the input.
+fn read_scalar(alloc: Global, bytes: &[u8]) -> Result<(Document, &[u8]), Stop>
+    ensures { Gives (λ x. (tree_of x.0, x.1.now)) result (scalar_at bytes.now) }
+{
+    match bytes {
+        [b'"', ..] => {
+            let (text, rest) = read_string(alloc, bytes)?;
+            Ok((Document::String(text), rest))
+        }
+        [b't', ..] => read_word(bytes, b"true", StaticNode::Bool(true)),
+        [b'f', ..] => read_word(bytes, b"false", StaticNode::Bool(false)),
+        [b'n', ..] => read_word(bytes, b"null", StaticNode::Null),
+        _ => match read_integer(bytes) {
+            Some((number, rest)) => Ok((Document::Static(number), rest)),
+            None => Err(Stop::Refused),
+        },
+    }
+}
+
+fn read_word<'a>(
+    bytes: &'a [u8],
+    word: &[u8],
+    meaning: StaticNode,
+) -> Result<(Document, &'a [u8]), Stop>
+    ensures { Gives (λ x. (tree_of x.0, x.1.now)) result
+        (word_at word.now (static_tree meaning) bytes.now) }
+{
+    match skip_word(bytes, word) {
+        Some(rest) => Ok((Document::Static(meaning), rest)),
+        None => Err(Stop::Refused),
+    }
+}
+
+/// A value with no whitespace in front. Arrays and objects may nest `depth` levels deep.
+#[cycle(read)]
+fn read_value(alloc: Global, bytes: &[u8], depth: usize) -> Result<(Document, &[u8]), Stop>
+    ensures { Gives (λ x. (tree_of x.0, x.1.now)) result (kept_value (value_at depth bytes.now)) }
+{
+    if let Some(inner) = skip_byte(bytes, b'[') {
+        if depth == 0 {
+            return Err(Stop::Refused);
+        }
+        let (items, rest) = read_items(alloc, skip_spaces(inner), depth - 1)?;
+        return Ok((Document::Array(items), rest));
+    }
+    if let Some(inner) = skip_byte(bytes, b'{') {
+        if depth == 0 {
+            return Err(Stop::Refused);
+        }
+        let (members, rest) = read_members(alloc, skip_spaces(inner), depth - 1)?;
+        return Ok((Document::Object(members), rest));
+    }
+    read_scalar(alloc, bytes)
+}
+
+/// A value with whitespace around it.
+#[cycle(read)]
+fn read_padded(alloc: Global, bytes: &[u8], depth: usize) -> Result<(Document, &[u8]), Stop>
+    ensures { Gives (λ x. (tree_of x.0, x.1.now)) result
+        (kept_value (padded_at (value_at depth) bytes.now)) }
+{
+    let (value, rest) = read_value(alloc, skip_spaces(bytes), depth)?;
+    Ok((value, skip_spaces(rest)))
+}
+
+/// The values of a list up to its bracket.
+#[cycle(read)]
+fn read_items(alloc: Global, bytes: &[u8], depth: usize) -> Result<(Vec<Document>, &[u8]), Stop>
+    ensures { Gives (λ x. (map tree_of x.0.items, x.1.now)) result
+        (kept_items (sequence_at 0x5d (padded_at (value_at depth)) bytes.now)) }
+{
+    let mut items = Vec::new(alloc);
+    if let Some(rest) = skip_byte(bytes, b']') {
+        return Ok((items, rest));
+    }
+    let mut rest = bytes;
+    loop {
+        let (item, after) = read_padded(alloc, rest, depth)?;
+        items.push(item)?;
+        let (separator, more) = split_first(after).ok_or(Stop::Refused)?;
+        if separator == b']' {
+            return Ok((items, more));
+        }
+        if separator != b',' {
+            return Err(Stop::Refused);
+        }
+        rest = more;
+    }
+}
+
+/// A key, a colon and a value, each with whitespace around it.
+#[cycle(read)]
+fn read_pair(
+    alloc: Global,
+    bytes: &[u8],
+    depth: usize,
+) -> Result<((String, Document), &[u8]), Stop>
+    ensures { Gives (λ x. ((string_bytes x.0.0, tree_of x.0.1), x.1.now)) result
+        (kept_pair (pair_at (value_at depth) bytes.now)) }
+{
+    let (key, rest) = read_string(alloc, skip_spaces(bytes))?;
+    match skip_byte(skip_spaces(rest), b':') {
+        Some(rest) => {
+            let (value, rest) = read_padded(alloc, rest, depth)?;
+            Ok(((key, value), rest))
+        }
+        None => Err(Stop::Refused),
+    }
+}
+
+/// The members of an object up to its brace. Of a key that comes again the first member is kept.
+#[cycle(read)]
+fn read_members(
+    alloc: Global,
+    bytes: &[u8],
+    depth: usize,
+) -> Result<(Vec<(String, Document)>, &[u8]), Stop>
+    ensures { Gives (λ x. (members_view x.0.items, x.1.now)) result
+        (kept_members (sequence_at 0x7d (pair_at (value_at depth)) bytes.now)) }
+{
+    let mut members = Vec::new(alloc);
+    if let Some(rest) = skip_byte(bytes, b'}') {
+        return Ok((members, rest));
+    }
+    let mut rest = bytes;
+    loop {
+        let ((key, value), after) = read_pair(alloc, rest, depth)?;
+        add_member(&mut members, key, value)?;
+        let (separator, more) = split_first(after).ok_or(Stop::Refused)?;
+        if separator == b'}' {
+            return Ok((members, more));
+        }
+        if separator != b',' {
+            return Err(Stop::Refused);
+        }
+        rest = more;
     }
 }
