@@ -5,6 +5,8 @@ mod error;
 mod put;
 mod static_node;
 mod stream;
+#[cfg(test)]
+mod tests;
 
 pub use error::{Error, ErrorType};
 pub use put::{put_int, put_string};
