@@ -15,6 +15,7 @@ pub mod DocumentTrees
 pub mod Kept
 pub mod ReadSteps
 pub mod Turns
+pub mod Openings
 pub mod Printed
 pub mod Cut
 pub mod Written
