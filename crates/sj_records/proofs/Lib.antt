@@ -21,3 +21,4 @@ pub mod Cut
 pub mod Written
 pub mod Total
 pub mod Feeding
+pub mod RecordText

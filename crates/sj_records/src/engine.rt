@@ -7,16 +7,9 @@ ghost use Rattle.sj_records.specs.Progress.{HasNoLineFeed, Answers, Wrote, Wrote
 use crate::form::Form;
 use crate::run_error::RunError;
 use crate::script::Script;
+use crate::task::{Task, make_record};
 use sj_base::{Sink, Source};
-use std::alloc::{AllocError, Global};
-
-/// What is done to each line.
-#[derive(Clone, Copy)]
-struct Task<'s> {
-    script: &'s Script,
-    depth: usize,
-    form: Form,
-}
+use std::alloc::Global;
 
 /// Splits a piece behind its first line feed: the bytes before it, and those behind it.
 fn split_line(piece: &[u8]) -> Option<(&[u8], &[u8])>
@@ -45,14 +38,6 @@ fn write_all<W: Sink>(writer: &mut W, bytes: &[u8]) -> Result<(), RunError>
     Ok(())
 }
 
-/// Makes the record of a line, with its line feed, in the place of what `out` held.
-fn make_record(out: &mut Vec<u8>, line: &[u8], task: Task<'_>) -> Result<(), AllocError>
-    ensures { OnOk result ((bytes : List ℕ) × (out.new.items ≡ bytes ++ 0x0a ∷ [])
-        × Answers task.entry line.now bytes) }
-{
-    Err(AllocError)
-}
-
 /// What is kept from one piece of the stream to the next: room, and the line that no line feed has ended yet.
 #[derive(Drop)]
 struct Pending {
@@ -62,6 +47,7 @@ struct Pending {
 
 /// Writes the record of a line.
 fn answer<W: Sink>(
+    alloc: Global,
     writer: &mut W,
     out: &mut Vec<u8>,
     line: &[u8],
@@ -72,12 +58,13 @@ fn answer<W: Sink>(
     ensures write { IsErrOf result RunError.Write → WrotePrefix task.entry (W.contents writer.old) (W.contents writer.new) (line.now ∷ []) }
     ensures only { IfErr result (λ e. (e ≡ RunError.Memory) ⊎ (e ≡ RunError.Write)) }
 {
-    make_record(out, line, task)?;
+    make_record(alloc, out, line, task)?;
     write_all(writer, out)
 }
 
 /// Writes the record of the line that `end` completes, and forgets what was kept of it.
 fn answer_line<W: Sink>(
+    alloc: Global,
     writer: &mut W,
     pending: &mut Pending,
     end: &[u8],
@@ -94,16 +81,17 @@ fn answer_line<W: Sink>(
     ensures only { IfErr result (λ e. (e ≡ RunError.Memory) ⊎ (e ≡ RunError.Write)) }
 {
     if pending.line.is_empty() {
-        return answer(writer, &mut pending.record, end, task);
+        return answer(alloc, writer, &mut pending.record, end, task);
     }
     pending.line.extend_from_slice(end)?;
-    answer(writer, &mut pending.record, &pending.line, task)?;
+    answer(alloc, writer, &mut pending.record, &pending.line, task)?;
     pending.line.clear();
     Ok(())
 }
 
 /// Goes on with the next piece of the stream: writes the record of each line that it ends, and keeps the rest.
 fn feed<W: Sink>(
+    alloc: Global,
     writer: &mut W,
     pending: &mut Pending,
     piece: &[u8],
@@ -124,7 +112,7 @@ fn feed<W: Sink>(
 {
     let mut rest = piece;
     while let Some((end, more)) = split_line(rest) {
-        answer_line(writer, pending, end, task)?;
+        answer_line(alloc, writer, pending, end, task)?;
         rest = more;
     }
     pending.line.extend_from_slice(rest)?;

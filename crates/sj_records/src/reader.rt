@@ -2,6 +2,7 @@
 ghost use Rattle.std.specs.Prelude.{◌≡◌, ℕ, ◌∷◌, [], ◌<◌, ◌≤◌, ◌^◌, ◌↔◌, Bool, false, true, List, length, Some, None, Option, Result, map, IsTrue, IfOk, IfSome, IfErr, OnErr, MatchOption, SomeIff, option_map, string_bytes, pos, neg_ℤ};
 ghost use Rattle.std.specs.Str.Parse.{digits_value};
 ghost use Rattle.sj_base.specs.Tree.{Tree, integer};
+ghost use Rattle.sj_base.specs.Spelling.{AreSpaces};
 ghost use Rattle.sj_base.specs.Keep.{keep};
 ghost use Rattle.sj_base.specs.Scalar.{static_tree};
 ghost use Rattle.sj_records.specs.Reading.{mapped, padded_at, scalar_at, value_at, sequence_at, pair_at, is_space, after_spaces, body_at, string_at, digits, after_digits, is_whole, in_range, whole_at, integer_at, line_at, after_word, word_at};
@@ -77,6 +78,13 @@ fn skip_spaces(bytes: &[u8]) -> &[u8]
         rest = others;
     }
     rest
+}
+
+/// Whether nothing but whitespace is there.
+pub(crate) fn is_blank(bytes: &[u8]) -> bool
+    ensures { IsTrue result ↔ AreSpaces bytes.now }
+{
+    skip_spaces(bytes).is_empty()
 }
 
 /// What stands behind the word.

@@ -1,4 +1,5 @@
 //! Scripts.
+ghost use Rattle.std.specs.Prelude.{◌≡◌, length};
 use crate::path::PathPart;
 
 /// One command of a script.
@@ -27,4 +28,12 @@ pub enum CommandFault {
 #[derive(Debug, Drop)]
 pub struct Script {
     commands: Vec<Command>,
+}
+
+impl Script {
+    pub(crate) fn commands(&self) -> &[Command]
+        ensures { result.now ≡ self.now.commands.items }
+    {
+        &self.commands
+    }
 }
