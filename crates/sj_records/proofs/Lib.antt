@@ -22,3 +22,4 @@ pub mod Written
 pub mod Total
 pub mod Feeding
 pub mod RecordText
+pub mod Misses

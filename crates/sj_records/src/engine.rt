@@ -2,7 +2,10 @@
 ghost use Rattle.std.specs.Prelude.{◌≡◌, ◌≢◌, ℕ, List, ◌+◌, ◌<◌, ◌≤◌, ◌^◌, [], ◌∷◌, ◌++◌, length, IfOk, OnOk, OnErr, IfErr, MatchOption, IsErrOf, ◌⊎◌};
 ghost use Rattle.std.specs.Io.KnownBytes.{Appends, Consumes, IsAtEnd};
 ghost use Rattle.sj_records.specs.Lines.{ended, unended};
-ghost use Rattle.sj_records.specs.Progress.{HasNoLineFeed, Answers, Wrote, WroteSome, WrotePrefix};
+ghost use Rattle.sj_records.specs.Lines.{if_any};
+ghost use Rattle.sj_records.specs.Run.{Transfers, WritesAll, WritesEnded, WritesSome, WritesPrefix, ReadsFor, WritesFor};
+ghost use Rattle.sj_records.specs.ScriptView.{steps_of};
+ghost use Rattle.sj_records.specs.Progress.{HasNoLineFeed, Wrote, WroteSome, WrotePrefix};
 
 use crate::form::Form;
 use crate::run_error::RunError;
@@ -10,6 +13,7 @@ use crate::script::Script;
 use crate::task::{Task, make_record};
 use sj_base::{Sink, Source};
 use std::alloc::Global;
+use std::io::ErrorKind;
 
 /// Splits a piece behind its first line feed: the bytes before it, and those behind it.
 fn split_line(piece: &[u8]) -> Option<(&[u8], &[u8])>
@@ -27,6 +31,7 @@ fn write_all<W: Sink>(writer: &mut W, bytes: &[u8]) -> Result<(), RunError>
     ensures write { OnErr result ((taken rest : List ℕ) × (bytes.now ≡ taken ++ rest)
         × Appends (W.contents writer.old) (W.contents writer.new) taken) }
     ensures only { IfErr result (λ e. e ≡ RunError.Write) }
+    ensures writes { WritesFor result (W.calls writer.old) (W.calls writer.new) }
 {
     let mut rest = bytes;
     while !rest.is_empty() {
@@ -57,6 +62,7 @@ fn answer<W: Sink>(
     ensures memory { IsErrOf result RunError.Memory → Wrote task.entry (W.contents writer.old) (W.contents writer.new) [] }
     ensures write { IsErrOf result RunError.Write → WrotePrefix task.entry (W.contents writer.old) (W.contents writer.new) (line.now ∷ []) }
     ensures only { IfErr result (λ e. (e ≡ RunError.Memory) ⊎ (e ≡ RunError.Write)) }
+    ensures writes { WritesFor result (W.calls writer.old) (W.calls writer.new) }
 {
     make_record(alloc, out, line, task)?;
     write_all(writer, out)
@@ -79,6 +85,7 @@ fn answer_line<W: Sink>(
         → WrotePrefix task.entry (W.contents writer.old) (W.contents writer.new)
             ((pending.old.line.items ++ end.now) ∷ []) }
     ensures only { IfErr result (λ e. (e ≡ RunError.Memory) ⊎ (e ≡ RunError.Write)) }
+    ensures writes { WritesFor result (W.calls writer.old) (W.calls writer.new) }
 {
     if pending.line.is_empty() {
         return answer(alloc, writer, &mut pending.record, end, task);
@@ -109,6 +116,7 @@ fn feed<W: Sink>(
         → WrotePrefix task.entry (W.contents writer.old) (W.contents writer.new)
             (ended (pending.old.line.items ++ piece.now)) }
     ensures only { IfErr result (λ e. (e ≡ RunError.Memory) ⊎ (e ≡ RunError.Write)) }
+    ensures writes { WritesFor result (W.calls writer.old) (W.calls writer.new) }
 {
     let mut rest = piece;
     while let Some((end, more)) = split_line(rest) {
@@ -117,4 +125,78 @@ fn feed<W: Sink>(
     }
     pending.line.extend_from_slice(rest)?;
     Ok(())
+}
+
+/// Writes the record of a last line that no line feed has ended.
+fn finish<W: Sink>(
+    alloc: Global,
+    writer: &mut W,
+    pending: &mut Pending,
+    task: Task<'_>,
+) -> Result<(), RunError>
+    ensures ok { OnOk result (Wrote task.entry (W.contents writer.old) (W.contents writer.new)
+        (if_any pending.old.line.items)) }
+    ensures memory { IsErrOf result RunError.Memory
+        → Wrote task.entry (W.contents writer.old) (W.contents writer.new) [] }
+    ensures write { IsErrOf result RunError.Write
+        → WrotePrefix task.entry (W.contents writer.old) (W.contents writer.new)
+            (if_any pending.old.line.items) }
+    ensures only { IfErr result (λ e. (e ≡ RunError.Memory) ⊎ (e ≡ RunError.Write)) }
+    ensures writes { WritesFor result (W.calls writer.old) (W.calls writer.new) }
+{
+    if pending.line.is_empty() {
+        return Ok(());
+    }
+    answer(alloc, writer, &mut pending.record, &pending.line, task)
+}
+
+/// The bytes that one read may give.
+const PIECE_LEN: usize = 65536;
+
+/// The reads of one run.
+const MAX_READS: u64 = 1 << 62;
+
+/// `run`, with a bound of its own on the reads.
+fn run_within<R: Source, W: Sink>(
+    alloc: Global,
+    reader: &mut R,
+    writer: &mut W,
+    task: Task<'_>,
+    max_reads: u64,
+) -> Result<(), RunError>
+    ensures ok { OnOk result (Transfers (R.remaining reader.old) (R.remaining reader.new)
+        (W.contents writer.old) (W.contents writer.new)
+        (WritesAll (steps_of task.entry.script.now) task.entry.depth task.entry.form)) }
+    ensures at_end { OnOk result (IsAtEnd (R.remaining reader.new)) }
+    ensures memory { IsErrOf result RunError.Memory → Transfers (R.remaining reader.old)
+        (R.remaining reader.new) (W.contents writer.old) (W.contents writer.new)
+        (WritesSome (steps_of task.entry.script.now) task.entry.depth task.entry.form) }
+    ensures write { IsErrOf result RunError.Write → Transfers (R.remaining reader.old)
+        (R.remaining reader.new) (W.contents writer.old) (W.contents writer.new)
+        (WritesPrefix (steps_of task.entry.script.now) task.entry.depth task.entry.form) }
+    ensures read { IsErrOf result RunError.Read → Transfers (R.remaining reader.old)
+        (R.remaining reader.new) (W.contents writer.old) (W.contents writer.new)
+        (WritesEnded (steps_of task.entry.script.now) task.entry.depth task.entry.form) }
+    ensures too_many_reads { IsErrOf result RunError.TooManyReads → Transfers
+        (R.remaining reader.old) (R.remaining reader.new) (W.contents writer.old)
+        (W.contents writer.new)
+        (WritesEnded (steps_of task.entry.script.now) task.entry.depth task.entry.form) }
+    ensures reads { ReadsFor max_reads result (R.calls reader.old) (R.calls reader.new) }
+    ensures bound { (R.calls reader.new).made ≤ (R.calls reader.old).made + max_reads }
+    ensures writes { WritesFor result (W.calls writer.old) (W.calls writer.new) }
+{
+    let mut pending = Pending {
+        line: Vec::new(alloc),
+        record: Vec::new(alloc),
+    };
+    let mut piece = vec![in alloc; 0; PIECE_LEN]?;
+    for _ in 0..max_reads {
+        match reader.read(&mut piece) {
+            Ok(0) => return finish(alloc, writer, &mut pending, task),
+            Ok(taken) => feed(alloc, writer, &mut pending, &piece[..taken], task)?,
+            Err(e) if e.kind() == ErrorKind::Interrupted => {}
+            Err(_) => return Err(RunError::Read),
+        }
+    }
+    Err(RunError::TooManyReads)
 }
