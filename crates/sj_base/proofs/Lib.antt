@@ -5,3 +5,7 @@ mod Bodies
 mod Cuts
 mod Values
 mod Meanings
+mod Quotes
+mod Decimals
+mod Compact
+mod Pretty
