@@ -63,7 +63,7 @@ pub stops_at : (b : ℕ) (bs : List ℕ) → kind_of b ≡ 8 → Stops (b ∷ bs
 stops_at b bs k = record { no_space = no_space (b ∷ bs) (omega arith); no_number = no_number b k }
 
 -- whitespace stands in no number
-space_low : (b : ℕ) → IsSpace b → b ≤ 0x20
+pub space_low : (b : ℕ) → IsSpace b → b ≤ 0x20
 space_low b (inl e) = omega arith
 space_low b (inr (inl e)) = omega arith
 space_low b (inr (inr (inl e))) = omega arith

@@ -9,3 +9,6 @@ mod Quotes
 mod Decimals
 mod Compact
 mod Pretty
+mod Trees
+mod Utf8
+mod OneLine

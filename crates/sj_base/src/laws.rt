@@ -1,5 +1,5 @@
 //! Laws of the definitions that the contracts cite: each function has no code, and its contract is the law.
-ghost use Rattle.sj_base.specs.Laws.{OneMeaning, PrintsBack, OneText};
+ghost use Rattle.sj_base.specs.Laws.{OneMeaning, PrintsBack, OneText, SpellsTrees, SpelledInUtf8, OneLine};
 ghost use Rattle.sj_base.specs.Text.{text, pretty};
 
 /// Bytes spell one tree at most.
@@ -16,4 +16,15 @@ pub fn printing_reads_back()
 /// Trees have one text just where they are one tree: the order of the members counts.
 pub fn one_text()
     ensures { OneText }
+{}
+
+/// What bytes spell is a tree that there is, and those bytes are UTF-8.
+pub fn spelled()
+    ensures tree { SpellsTrees }
+    ensures utf8 { SpelledInUtf8 }
+{}
+
+/// A compact text is one line: it has no byte below 0x20.
+pub fn one_line()
+    ensures { OneLine }
 {}
