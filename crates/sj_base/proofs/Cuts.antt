@@ -22,6 +22,7 @@ kind_of b =
     (cond (b == 0x7d) 8
     (cond (nat_le 0x2d b && nat_lt b 0x3a) 7 0))))))))))
 
+-- what a list begins
 abbrev pub kind_at : List ℕ → ℕ
 kind_at [] = 0
 kind_at (b ∷ bs) = kind_of b
@@ -33,13 +34,14 @@ kind_of-digit b d =
     let high : b ≤ 57 = d.1 in
     rw (ne_eqb b 0x22 (λ e. omega arith), ne_eqb b 0x5b (λ e. omega arith), ne_eqb b 0x7b (λ e. omega arith), ne_eqb b 0x74 (λ e. omega arith), ne_eqb b 0x66 (λ e. omega arith), ne_eqb b 0x6e (λ e. omega arith), ne_eqb b 0x2c (λ e. omega arith), ne_eqb b 0x3a (λ e. omega arith), ne_eqb b 0x5d (λ e. omega arith), ne_eqb b 0x7d (λ e. omega arith), le-leb 0x2d b (omega arith), lt-ltb b 0x3a (omega arith)) refl
 
--- something begins here that is no whitespace
+-- whitespace begins nothing
 space_kind : (b : ℕ) → IsSpace b → kind_of b ≡ 0
 space_kind b (inl e) = rw e refl
 space_kind b (inr (inl e)) = rw e refl
 space_kind b (inr (inr (inl e))) = rw e refl
 space_kind b (inr (inr (inr e))) = rw e refl
 
+-- what begins something has no whitespace in front
 pub no_space : (bs : List ℕ) → 0 < kind_at bs → NotFirst IsSpace bs
 no_space [] h = tt
 no_space (b ∷ bs) h = λ s. let e = space_kind b s in omega arith
@@ -50,25 +52,26 @@ pub record Stops (bs : List ℕ) : Type 0 where
   pub no_number : NotFirst IsInNumber bs
 
 -- a comma, a colon and a closing byte stand in no number
-no_number : (b : ℕ) → kind_of b ≡ 8 → IsInNumber b → ⊥
-no_number b k (inl d) = let e = kind_of-digit b d in omega arith
-no_number b k (inr (inl e)) = let seven = ap kind_of e in omega arith
-no_number b k (inr (inr (inl e))) = let none = ap kind_of e in omega arith
-no_number b k (inr (inr (inr (inl e)))) = let none = ap kind_of e in omega arith
-no_number b k (inr (inr (inr (inr (inl e))))) = let none = ap kind_of e in omega arith
-no_number b k (inr (inr (inr (inr (inr e))))) = let none = ap kind_of e in omega arith
+stop_no_number : (b : ℕ) → kind_of b ≡ 8 → IsInNumber b → ⊥
+stop_no_number b k (inl d) = let e = kind_of-digit b d in omega arith
+stop_no_number b k (inr (inl e)) = let seven = ap kind_of e in omega arith
+stop_no_number b k (inr (inr (inl e))) = let none = ap kind_of e in omega arith
+stop_no_number b k (inr (inr (inr (inl e)))) = let none = ap kind_of e in omega arith
+stop_no_number b k (inr (inr (inr (inr (inl e))))) = let none = ap kind_of e in omega arith
+stop_no_number b k (inr (inr (inr (inr (inr e))))) = let none = ap kind_of e in omega arith
 
 -- so they stop a value
 pub stops_at : (b : ℕ) (bs : List ℕ) → kind_of b ≡ 8 → Stops (b ∷ bs)
-stops_at b bs k = record { no_space = no_space (b ∷ bs) (omega arith); no_number = no_number b k }
+stops_at b bs k = record { no_space = no_space (b ∷ bs) (omega arith); no_number = stop_no_number b k }
 
--- whitespace stands in no number
+-- whitespace is no byte above a space
 pub space_low : (b : ℕ) → IsSpace b → b ≤ 0x20
 space_low b (inl e) = omega arith
 space_low b (inr (inl e)) = omega arith
 space_low b (inr (inr (inl e))) = omega arith
 space_low b (inr (inr (inr e))) = omega arith
 
+-- so what stands in no number stands in none behind whitespace either
 spaces_no_number : (spaces bs : List ℕ) → AreSpaces spaces → NotFirst IsInNumber bs → NotFirst IsInNumber (spaces ++ bs)
 spaces_no_number [] bs h n = n
 spaces_no_number (b ∷ spaces) bs h n = λ i. let low = space_low b h.0 in let high = number_low b i in omega arith

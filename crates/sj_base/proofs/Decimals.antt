@@ -15,9 +15,11 @@ record Digits (n : ℕ) (ds : List ℕ) : Type 0 where
   none : n ≡ 0 → ds ≡ 0x30 ∷ []
   some : 0 < n → (d : ℕ) × (others : List ℕ) × (ds ≡ d ∷ others) × (0x31 ≤ d) × (d ≤ 0x39) × AllByRecursion IsAsciiDigit others
 
+-- a number of one digit
 one_digit : (n : ℕ) → n < 10 → Digits n ((48 + n) ∷ [])
 one_digit n h = record { none = λ e. ap (λ m. (48 + m) ∷ []) e; some = λ above. (48 + n, [], refl, omega arith, omega arith, tt) }
 
+-- a number with one digit more
 more_digits : (n : ℕ) (ds : List ℕ) → 10 ≤ n → Digits (n / 10) ds → Digits n (ds ++ ((48 + n % 10) ∷ []))
 more_digits n ds h k = record {
   none = λ e. absurd (omega arith);

@@ -79,18 +79,21 @@ no_decimal n bs h k =
     let digits : AllByRecursion IsAsciiDigit (k.whole ++ more) = subst (λ (ys : List ℕ). AllByRecursion IsAsciiDigit ys) (sym (append-nil h.whole) ∙ p.1) (whole_digits h.whole h.is_whole) in
     k.has_one (all_none IsAsciiDigit more (AllByRecursion-parts IsAsciiDigit k.whole more digits).1 (fraction_start k.fraction k.exponent k.is_fraction (exponent_start k.exponent k.is_exponent)))
 
--- the bytes of a sign, of digits, of a fraction and of an exponent
+-- the bytes of a sign
 minus_bytes : (b : Bool) → AllByRecursion IsInNumber (minus b)
 minus_bytes true = (inr (inl refl), tt)
 minus_bytes false = tt
 
+-- the bytes of digits
 digit_bytes : (ds : List ℕ) → AllByRecursion IsAsciiDigit ds → AllByRecursion IsInNumber ds
 digit_bytes ds h = AllByRecursion-weaker IsAsciiDigit IsInNumber (λ b d. inl d) ds h
 
+-- the bytes of a fraction
 fraction_bytes : (bs : List ℕ) → IsFraction bs → AllByRecursion IsInNumber bs
 fraction_bytes bs (inl e) = subst (λ (ys : List ℕ). AllByRecursion IsInNumber ys) (sym e) tt
 fraction_bytes bs (inr h) = subst (λ (ys : List ℕ). AllByRecursion IsInNumber ys) (sym h.1) (inr (inr (inr (inl refl))), digit_bytes h.0 h.2.1)
 
+-- the bytes of an exponent
 exponent_bytes : (bs : List ℕ) → IsExponent bs → AllByRecursion IsInNumber bs
 exponent_bytes bs (inl e) = subst (λ (ys : List ℕ). AllByRecursion IsInNumber ys) (sym e) tt
 exponent_bytes bs (inr h) = subst (λ (ys : List ℕ). AllByRecursion IsInNumber ys) (sym h.3) (letter h.0 h.4, AllByRecursion-append IsInNumber h.1 h.2 (sign h.1 h.5) (digit_bytes h.2 h.6.1))

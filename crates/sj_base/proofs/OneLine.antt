@@ -16,10 +16,11 @@ use Rattle.sj_base.proofs.Decimals.{integer_spells}
 abbrev Visible : List ℕ → Type 0
 Visible bs = AllByRecursion (λ b. 0x20 ≤ b) bs
 
+-- two parts with none
 visible_append : (xs ys : List ℕ) → Visible xs → Visible ys → Visible (xs ++ ys)
 visible_append xs ys h k = AllByRecursion-append (λ b. 0x20 ≤ b) xs ys h k
 
--- the digit of an escape is none
+-- the digit of an escape is no such byte
 digit_visible : (d : ℕ) → 0x20 ≤ digit_char d
 digit_visible d = cond_both (nat_lt d 10) _ _ (λ c. 0x20 ≤ c) (λ e. omega arith) (λ e. omega arith)
 
@@ -39,6 +40,7 @@ escaped_visible b =
     cond_both (nat_lt b 0x20) _ _ P (λ _. (omega arith, (omega arith, (omega arith, (omega arith, (omega arith, (digit_visible (b - 0x10), tt))))))) (λ e.
     (ltb-false b 0x20 e, tt))))))))))
 
+-- so the body of a string has none
 body_visible : (s : List ℕ) → Visible (flat_map escaped s)
 body_visible [] = tt
 body_visible (b ∷ s) = visible_append (escaped b) (flat_map escaped s) (escaped_visible b) (body_visible s)
@@ -47,6 +49,7 @@ body_visible (b ∷ s) = visible_append (escaped b) (flat_map escaped s) (escape
 between_visible : (left right : ℕ) (inner : List ℕ) → 0x20 ≤ left → 0x20 ≤ right → Visible inner → Visible (left ∷ (inner ++ right ∷ []))
 between_visible left right inner l r h = (l, visible_append inner (right ∷ []) h (r, tt))
 
+-- nor has a string with its quotes
 quoted_visible : (s : List ℕ) → Visible (quoted s)
 quoted_visible s = between_visible 0x22 0x22 (flat_map escaped s) (omega arith) (omega arith) (body_visible s)
 

@@ -19,10 +19,11 @@ record Shows (c : ℕ) (bytes : List ℕ) : Type 0 where
   shown : bytes ≡ row_bytes row
   meant : c ≡ row_character row
 
--- the last digit of an escape by four, behind 000 or 001
+-- an escape with its last digit behind 000
 low_digits : (d : ℕ) → d < 16 → IsHex (0x30 ∷ 0x30 ∷ 0x30 ∷ digit_char d ∷ []) × (hex_value (0x30 ∷ 0x30 ∷ 0x30 ∷ digit_char d ∷ []) ≡ d)
 low_digits d h = let v = digit_value-digit_char d (omega arith) in ((refl, (omega arith, (omega arith, (omega arith, (omega arith, tt))))), omega arith)
 
+-- the same behind 001
 high_digits : (d : ℕ) → d < 16 → IsHex (0x30 ∷ 0x30 ∷ 0x31 ∷ digit_char d ∷ []) × (hex_value (0x30 ∷ 0x30 ∷ 0x31 ∷ digit_char d ∷ []) ≡ 16 + d)
 high_digits d h = let v = digit_value-digit_char d (omega arith) in ((refl, (omega arith, (omega arith, (omega arith, (omega arith, tt))))), omega arith)
 

@@ -18,6 +18,7 @@ use Rattle.sj_base.proofs.Cuts.{space_low}
 abbrev Ascii : List ℕ → Type 0
 Ascii bs = AllByRecursion (λ b. b < 128) bs
 
+-- ASCII is UTF-8
 ascii_utf8 : (bs : List ℕ) → Ascii bs → IsUtf8 bs
 ascii_utf8 bs h = IsUtf8-from_ascii bs (at bs h)
   where
@@ -68,13 +69,15 @@ rows_utf8 (r ∷ rows) h = IsUtf8-append (row_bytes r) (flat_map row_bytes rows)
 between_utf8 : (left right : ℕ) (bs inner : List ℕ) → left < 128 → right < 128 → bs ≡ left ∷ (inner ++ right ∷ []) → IsUtf8 inner → IsUtf8 bs
 between_utf8 left right bs inner l r e h = subst (λ (ys : List ℕ). IsUtf8 ys) (sym e) (IsUtf8-append (left ∷ []) (inner ++ right ∷ []) (ascii_utf8 (left ∷ []) (l, tt)) (IsUtf8-append inner (right ∷ []) h (ascii_utf8 (right ∷ []) (r, tt))))
 
+-- a string
 string_utf8 : (s bs : List ℕ) → SpellsString s bs → IsUtf8 bs
 string_utf8 s bs h = between_utf8 0x22 0x22 bs h.body (omega arith) (omega arith) h.parts (subst (λ (ys : List ℕ). IsUtf8 ys) (sym h.means.shown) (rows_utf8 h.means.rows h.means.are_rows))
 
--- whitespace, and what stands within
+-- whitespace
 spaces_utf8 : (bs : List ℕ) → AreSpaces bs → IsUtf8 bs
 spaces_utf8 bs h = ascii_utf8 bs (AllByRecursion-weaker IsSpace (λ b. b < 128) (λ b s. let low = space_low b s in omega arith) bs h)
 
+-- what stands in whitespace
 padded_utf8 : (P : List ℕ → Type 0) (bs : List ℕ) (p : Padded P bs) → IsUtf8 p.inner → IsUtf8 bs
 padded_utf8 P bs p h = subst (λ (ys : List ℕ). IsUtf8 ys) (sym p.parts) (IsUtf8-append p.before (p.inner ++ p.after) (spaces_utf8 p.before p.spaces_before) (IsUtf8-append p.inner p.after h (spaces_utf8 p.after p.spaces_after)))
 
@@ -87,16 +90,19 @@ number_ascii b (inr (inr (inr (inl e)))) = omega arith
 number_ascii b (inr (inr (inr (inr (inl e))))) = omega arith
 number_ascii b (inr (inr (inr (inr (inr e))))) = omega arith
 
+-- a number
 number_utf8 : (bs : List ℕ) → AllByRecursion IsInNumber bs → IsUtf8 bs
 number_utf8 bs h = ascii_utf8 bs (AllByRecursion-weaker IsInNumber (λ b. b < 128) number_ascii bs h)
 
--- two parts, and two behind a comma
+-- two parts
 both_utf8 : (bs first rest : List ℕ) → bs ≡ first ++ rest → IsUtf8 first → IsUtf8 rest → IsUtf8 bs
 both_utf8 bs first rest e h k = subst (λ (ys : List ℕ). IsUtf8 ys) (sym e) (IsUtf8-append first rest h k)
 
+-- an ASCII byte in front
 behind_utf8 : (b : ℕ) (bs : List ℕ) → b < 128 → IsUtf8 bs → IsUtf8 (b ∷ bs)
 behind_utf8 b bs low h = IsUtf8-append (b ∷ []) bs (ascii_utf8 (b ∷ []) (low, tt)) h
 
+-- a comma and two parts
 comma_utf8 : (bs first rest : List ℕ) → bs ≡ 0x2c ∷ (first ++ rest) → IsUtf8 first → IsUtf8 rest → IsUtf8 bs
 comma_utf8 bs first rest e h k = subst (λ (ys : List ℕ). IsUtf8 ys) (sym e) (behind_utf8 0x2c (first ++ rest) (omega arith) (IsUtf8-append first rest h k))
 

@@ -76,7 +76,7 @@ same_between left right f g i j r q h k e = sym (append_assoc i (right ∷ []) r
 abbrev pub CutsValue : Tree → Type 0
 CutsValue t = Cuts SpellsValue (NotFirst IsInNumber) t
 
--- the last clause of each is for a tree of another kind
+-- `null`. The last clause here and below is for a tree of another kind.
 pub null_cuts : CutsValue null
 unfolding kind
 null_cuts null f g r q h k m n e = (refl, same_word (codes "null") f g r q h k e)
@@ -86,19 +86,21 @@ null_cuts t f g r q h k m n e = let d = same_kind null t f g r q h k e in absurd
 no_word : (f g r q : List ℕ) → f ≡ codes "true" → g ≡ codes "false" → f ++ r ≡ g ++ q → ⊥
 no_word f g r q h k e = let t = (cons_parts (ap (λ (ys : List ℕ). ys ++ r) (sym h) ∙ e ∙ ap (λ (ys : List ℕ). ys ++ q) k)).0 in omega arith
 
+-- `true`
 pub true_cuts : CutsValue (boolean true)
 unfolding kind
 true_cuts (boolean true) f g r q h k m n e = (refl, same_word (codes "true") f g r q h k e)
 true_cuts (boolean false) f g r q h k m n e = absurd (no_word f g r q h k e)
 true_cuts t f g r q h k m n e = let d = same_kind (boolean true) t f g r q h k e in absurd (omega arith)
 
+-- `false`
 pub false_cuts : CutsValue (boolean false)
 unfolding kind
 false_cuts (boolean false) f g r q h k m n e = (refl, same_word (codes "false") f g r q h k e)
 false_cuts (boolean true) f g r q h k m n e = absurd (no_word g f q r k h (sym e))
 false_cuts t f g r q h k m n e = let d = same_kind (boolean false) t f g r q h k e in absurd (omega arith)
 
--- of two numbers the bytes are the same
+-- An integer: of two numbers in front of one rest the bytes are the same.
 pub integer_cuts : (z : ℤ) → CutsValue (integer z)
 unfolding kind
 integer_cuts z (integer y) f g r q h k m n e =
@@ -110,6 +112,7 @@ integer_cuts z (decimal literal) f g r q h k m n e =
     absurd (no_decimal z g (subst (λ (ys : List ℕ). SpellsInteger z ys) p.0 h.1) is)
 integer_cuts z t f g r q h k m n e = let d = same_kind (integer z) t f g r q h k e in absurd (omega arith)
 
+-- a decimal literal
 pub decimal_cuts : (literal : List ℕ) → CutsValue (decimal literal)
 unfolding kind
 decimal_cuts l (decimal literal) f g r q h k m n e =
@@ -121,6 +124,7 @@ decimal_cuts l (integer y) f g r q h k m n e =
     absurd (no_decimal y f (subst (λ (ys : List ℕ). SpellsInteger y ys) p.0 k.1) is)
 decimal_cuts l t f g r q h k m n e = let d = same_kind (decimal l) t f g r q h k e in absurd (omega arith)
 
+-- a string
 pub string_cuts : (s : List ℕ) → CutsValue (string s)
 unfolding kind
 string_cuts s (string t) f g r q h k m n e = let p = same_string s t f g r q h k e in (ap string p.0, p.1)
@@ -134,6 +138,7 @@ key_cuts s t f g r q h k m n e = same_string s t f g r q h k e
 abbrev pub Before : ℕ → List ℕ → Type 0
 Before b bs = (others : List ℕ) × (bs ≡ b ∷ others)
 
+-- a list, where what stands between its brackets is cut off in one way
 pub list_cuts : (ts : Items) → Cuts SpellsItems (Before 0x5d) ts → CutsValue (list ts)
 unfolding kind
 list_cuts ss cuts (list ts) f g r q h k m n e =
@@ -141,6 +146,7 @@ list_cuts ss cuts (list ts) f g r q h k m n e =
     (ap list p.0, (cons_parts p.1).1)
 list_cuts ss cuts t f g r q h k m n e = let d = same_kind (list ss) t f g r q h k e in absurd (omega arith)
 
+-- an object, likewise
 pub object_cuts : (ms : Members) → Cuts SpellsMembers (Before 0x7d) ms → CutsValue (object ms)
 unfolding kind
 object_cuts ss cuts (object ts) f g r q h k m n e =

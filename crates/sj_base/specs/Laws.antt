@@ -25,6 +25,10 @@ SpellsTrees = (bytes : List ℕ) (t : Tree) → Spells bytes t → IsTree t
 abbrev pub SpelledInUtf8 : Type 0
 SpelledInUtf8 = (bytes : List ℕ) (t : Tree) → Spells bytes t → IsUtf8 bytes
 
+-- What prints a tree writes UTF-8.
+abbrev pub PrintsUtf8 : (Tree → List ℕ) → Type 0
+PrintsUtf8 print = (t : Tree) → IsTree t → IsUtf8 (print t)
+
 -- A text has no control character below U+0020, so no line feed.
 abbrev pub OneLine : Type 0
 OneLine = (t : Tree) → IsTree t → AllByRecursion (λ b. 0x20 ≤ b) (text t)

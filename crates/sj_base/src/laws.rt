@@ -1,5 +1,5 @@
 //! Laws of the definitions that the contracts cite: each function has no code, and its contract is the law.
-ghost use Rattle.sj_base.specs.Laws.{OneMeaning, PrintsBack, OneText, SpellsTrees, SpelledInUtf8, OneLine};
+ghost use Rattle.sj_base.specs.Laws.{OneMeaning, PrintsBack, OneText, SpellsTrees, SpelledInUtf8, PrintsUtf8, OneLine};
 ghost use Rattle.sj_base.specs.Text.{text, pretty};
 
 /// Bytes spell one tree at most.
@@ -24,7 +24,9 @@ pub fn spelled()
     ensures utf8 { SpelledInUtf8 }
 {}
 
-/// A compact text is one line: it has no byte below 0x20.
-pub fn one_line()
-    ensures { OneLine }
+/// What is printed is UTF-8, and a compact text is one line: it has no byte below 0x20.
+pub fn printed_bytes()
+    ensures compact { PrintsUtf8 text }
+    ensures indented { PrintsUtf8 pretty }
+    ensures one_line { OneLine }
 {}
