@@ -1,1 +1,14 @@
 mod Runs
+mod Fronts
+mod NumberBytes
+mod Bodies
+mod Cuts
+mod Values
+mod Meanings
+mod Quotes
+mod Decimals
+mod Compact
+mod Pretty
+mod Trees
+mod Utf8
+mod OneLine

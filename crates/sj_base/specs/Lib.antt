@@ -10,3 +10,4 @@ pub mod Scalar
 pub mod Names
 pub mod Calls
 pub mod Rows
+pub mod Laws
