@@ -23,3 +23,4 @@ pub mod Total
 pub mod Feeding
 pub mod RecordText
 pub mod Misses
+pub mod Running

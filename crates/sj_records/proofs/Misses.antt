@@ -7,7 +7,7 @@ use Rattle.std.specs.declared.io.ErrorKind.{ErrorKind}
 use Rattle.std.specs.declared.io.ErrorKind.TheVariants.{Interrupted}
 use Rattle.std.proofs.lemmas.Bool.Decides.{nat_tests}
 use Rattle.sj_base.specs.Calls.{Calls, CountsOk, CountsErr, one_interrupted, one_failed}
-use Rattle.sj_records.specs.Run.{missed}
+use Rattle.sj_records.specs.Run.{missed, GoesOn}
 
 -- an error is an interruption or it isn't
 pub interrupted_or_not : (k : ErrorKind) → (k ≡ Interrupted) ⊎ (k ≡ Interrupted → ⊥)
@@ -33,3 +33,16 @@ pub missed-some : (old new : Calls) (buf : List ℕ) (n : ℕ) → 0 < n → Cou
 missed-some old new buf n some h =
     let busy : eqb n 0 ≡ false = grind arith in
     ap missed (rw busy at h) ∙ omega arith
+
+-- A read that gave something is not the end, nor one that was interrupted.
+pub GoesOn-some : (old new : Calls) (buf : List ℕ) (n : ℕ) → 0 < n → CountsOk old new buf n → GoesOn old new
+GoesOn-some old new buf n some h =
+    let busy : eqb n 0 ≡ false = grind arith in
+    let is = rw busy at h in
+    (ap (λ (c : Calls). c.failed) is, ap (λ (c : Calls). c.nothing) is)
+
+pub GoesOn-interrupted : (old new : Calls) → new ≡ one_interrupted old → GoesOn old new
+GoesOn-interrupted old new is = (ap (λ (c : Calls). c.failed) is, ap (λ (c : Calls). c.nothing) is)
+
+pub GoesOn-then : (a b c : Calls) → GoesOn a b → GoesOn b c → GoesOn a c
+GoesOn-then a b c h k = (k.0 ∙ h.0, k.1 ∙ h.1)

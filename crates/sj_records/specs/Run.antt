@@ -30,6 +30,14 @@ WritesSome script limit form input output = (k : ℕ) × AreRecords (take k (end
 abbrev pub WritesPrefix : List Step → ℕ → Form → List ℕ → List ℕ → Type 0
 WritesPrefix script limit form input output = (unwritten : List ℕ) × IsOutput input script limit form (output ++ unwritten)
 
+-- What stands written, by the answer.
+abbrev pub Leaves : Result Unit RunError → List Step → ℕ → Form → List ℕ → List ℕ → Type 0
+Leaves (Ok done) script limit form input output = WritesAll script limit form input output
+Leaves (Err Memory) script limit form input output = WritesSome script limit form input output
+Leaves (Err Write) script limit form input output = WritesPrefix script limit form input output
+Leaves (Err Read) script limit form input output = WritesEnded script limit form input output
+Leaves (Err TooManyReads) script limit form input output = WritesEnded script limit form input output
+
 -- No read failed, but by an interruption, and none but the last gave nothing, which gave the reader's end.
 abbrev pub ReachesEnd : Calls → Calls → Type 0
 ReachesEnd old new = (new.failed ≡ old.failed) × (new.nothing ≡ old.nothing + 1)

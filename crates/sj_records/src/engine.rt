@@ -1,9 +1,9 @@
 //! The loop over a stream: cuts its lines, runs the script on each, and writes their records.
-ghost use Rattle.std.specs.Prelude.{◌≡◌, ◌≢◌, ℕ, List, ◌+◌, ◌<◌, ◌≤◌, ◌^◌, [], ◌∷◌, ◌++◌, length, IfOk, OnOk, OnErr, IfErr, MatchOption, IsErrOf, ◌⊎◌};
+ghost use Rattle.std.specs.Prelude.{◌≡◌, ◌≢◌, ℕ, List, ◌+◌, ◌<◌, ◌≤◌, ◌^◌, [], ◌∷◌, ◌++◌, length, vec_len, IfOk, OnOk, OnErr, IfErr, MatchOption, IsErrOf, ◌⊎◌};
 ghost use Rattle.std.specs.Io.KnownBytes.{Appends, Consumes, IsAtEnd};
 ghost use Rattle.sj_records.specs.Lines.{ended, unended};
 ghost use Rattle.sj_records.specs.Lines.{if_any};
-ghost use Rattle.sj_records.specs.Run.{Transfers, WritesAll, WritesEnded, WritesSome, WritesPrefix, ReadsFor, WritesFor};
+ghost use Rattle.sj_records.specs.Run.{Transfers, Leaves, ReadsFor, WritesFor};
 ghost use Rattle.sj_records.specs.ScriptView.{steps_of};
 ghost use Rattle.sj_records.specs.Progress.{HasNoLineFeed, Wrote, WroteSome, WrotePrefix};
 
@@ -12,7 +12,7 @@ use crate::run_error::RunError;
 use crate::script::Script;
 use crate::task::{Task, make_record};
 use sj_base::{Sink, Source};
-use std::alloc::Global;
+use std::alloc::{AllocError, Global};
 use std::io::ErrorKind;
 
 /// Splits a piece behind its first line feed: the bytes before it, and those behind it.
@@ -156,6 +156,12 @@ const PIECE_LEN: usize = 65536;
 /// The reads of one run.
 const MAX_READS: u64 = 1 << 62;
 
+fn zeros(alloc: Global, len: usize) -> Result<Vec<u8>, AllocError>
+    ensures { IfOk result (λ v. vec_len v ≡ len) }
+{
+    vec![in alloc; 0; len]
+}
+
 /// `run`, with a bound of its own on the reads.
 fn run_within<R: Source, W: Sink>(
     alloc: Global,
@@ -164,23 +170,10 @@ fn run_within<R: Source, W: Sink>(
     task: Task<'_>,
     max_reads: u64,
 ) -> Result<(), RunError>
-    ensures ok { OnOk result (Transfers (R.remaining reader.old) (R.remaining reader.new)
+    ensures stands { Transfers (R.remaining reader.old) (R.remaining reader.new)
         (W.contents writer.old) (W.contents writer.new)
-        (WritesAll (steps_of task.entry.script.now) task.entry.depth task.entry.form)) }
+        (Leaves result (steps_of task.entry.script.now) task.entry.depth task.entry.form) }
     ensures at_end { OnOk result (IsAtEnd (R.remaining reader.new)) }
-    ensures memory { IsErrOf result RunError.Memory → Transfers (R.remaining reader.old)
-        (R.remaining reader.new) (W.contents writer.old) (W.contents writer.new)
-        (WritesSome (steps_of task.entry.script.now) task.entry.depth task.entry.form) }
-    ensures write { IsErrOf result RunError.Write → Transfers (R.remaining reader.old)
-        (R.remaining reader.new) (W.contents writer.old) (W.contents writer.new)
-        (WritesPrefix (steps_of task.entry.script.now) task.entry.depth task.entry.form) }
-    ensures read { IsErrOf result RunError.Read → Transfers (R.remaining reader.old)
-        (R.remaining reader.new) (W.contents writer.old) (W.contents writer.new)
-        (WritesEnded (steps_of task.entry.script.now) task.entry.depth task.entry.form) }
-    ensures too_many_reads { IsErrOf result RunError.TooManyReads → Transfers
-        (R.remaining reader.old) (R.remaining reader.new) (W.contents writer.old)
-        (W.contents writer.new)
-        (WritesEnded (steps_of task.entry.script.now) task.entry.depth task.entry.form) }
     ensures reads { ReadsFor max_reads result (R.calls reader.old) (R.calls reader.new) }
     ensures bound { (R.calls reader.new).made ≤ (R.calls reader.old).made + max_reads }
     ensures writes { WritesFor result (W.calls writer.old) (W.calls writer.new) }
@@ -189,7 +182,7 @@ fn run_within<R: Source, W: Sink>(
         line: Vec::new(alloc),
         record: Vec::new(alloc),
     };
-    let mut piece = vec![in alloc; 0; PIECE_LEN]?;
+    let mut piece = zeros(alloc, PIECE_LEN)?;
     for _ in 0..max_reads {
         match reader.read(&mut piece) {
             Ok(0) => return finish(alloc, writer, &mut pending, task),
@@ -199,4 +192,36 @@ fn run_within<R: Source, W: Sink>(
         }
     }
     Err(RunError::TooManyReads)
+}
+
+/// Runs a script on each line of a stream, and writes one record for each line, in order.
+///
+/// A line is a document where it nests at most `depth` levels deep. The record has the replies to the
+/// script's commands and the document after them, or the line's fault. An interrupted read is tried
+/// again; an interrupted write is not. Nothing is flushed.
+pub fn run<R: Source, W: Sink>(
+    alloc: Global,
+    reader: &mut R,
+    writer: &mut W,
+    script: &Script,
+    depth: usize,
+    form: Form,
+) -> Result<(), RunError>
+    // What stands written: on `Ok` the records of all lines.
+    ensures stands { Transfers (R.remaining reader.old) (R.remaining reader.new)
+        (W.contents writer.old) (W.contents writer.new)
+        (Leaves result (steps_of script.now) depth form) }
+    ensures at_end { OnOk result (IsAtEnd (R.remaining reader.new)) }
+
+    // When each answer comes, by the calls that were made.
+    ensures reads { ReadsFor (2 ^ 62) result (R.calls reader.old) (R.calls reader.new) }
+    ensures bound { (R.calls reader.new).made ≤ (R.calls reader.old).made + 2 ^ 62 }
+    ensures writes { WritesFor result (W.calls writer.old) (W.calls writer.new) }
+{
+    let task = Task {
+        script,
+        depth,
+        form,
+    };
+    run_within(alloc, reader, writer, task, MAX_READS)
 }

@@ -10,6 +10,7 @@ mod run_error;
 mod script;
 mod task;
 
+pub use engine::run;
 pub use form::Form;
 pub use path::PathPart;
 pub use run_error::RunError;
