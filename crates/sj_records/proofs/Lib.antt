@@ -24,3 +24,4 @@ pub mod Feeding
 pub mod RecordText
 pub mod Misses
 pub mod Running
+pub mod ScriptSteps

@@ -1,6 +1,7 @@
 //! Scripts of commands over a stream of JSON lines.
 #![tactic(auto)]
 
+mod commands;
 mod document;
 mod engine;
 mod form;
@@ -14,4 +15,4 @@ pub use engine::run;
 pub use form::Form;
 pub use path::PathPart;
 pub use run_error::RunError;
-pub use script::{Command, CommandFault, Script};
+pub use script::{Command, CommandFault, Script, ScriptFault};
