@@ -1,7 +1,7 @@
 //! What keeps the program from its end, with the line and the status that tell of it.
 ghost use Rattle.std.specs.Prelude.{◌≡◌, OnOk};
 ghost use Rattle.std.specs.Io.KnownBytes.{Appends};
-ghost use Rattle.records_cli.specs.Fault.{line_of, status_of};
+ghost use Rattle.records_cli.specs.Fault.{line_of, status_of, of_load, of_run};
 ghost use Rattle.records_cli.specs.declared.fault.Fault.TheVariants.{Memory};
 
 use crate::load::LoadFault;
@@ -77,6 +77,8 @@ impl<T: Drop> From<AllocFailed<T>> for Fault {
 }
 
 impl From<LoadFault> for Fault {
+    ghost from_gives = { λ l f. f ≡ of_load l };
+
     fn from(fault: LoadFault) -> Fault {
         match fault {
             LoadFault::Memory => Fault::Memory,
@@ -86,6 +88,8 @@ impl From<LoadFault> for Fault {
 }
 
 impl From<RunError> for Fault {
+    ghost from_gives = { λ e f. f ≡ of_run e };
+
     fn from(error: RunError) -> Fault {
         match error {
             RunError::Memory => Fault::Memory,

@@ -1,11 +1,11 @@
 //! Reading a file to its end.
-ghost use Rattle.std.specs.Prelude.{◌≡◌, ◌++◌, IfSome, OnOk};
+ghost use Rattle.std.specs.Prelude.{◌≡◌, ◌≢◌, ◌++◌, IfErr, IfSome, OnOk};
+ghost use Rattle.std.specs.IoError.{error_kind};
 ghost use Rattle.std.specs.Io.KnownBytes.{IsAtEnd};
 
-use std::fs;
-use std::io;
 use std::io::{ErrorKind, Read};
 use std::rt::Files;
+use std::{fs, io};
 
 /// Why a file's bytes are not at hand.
 #[derive(Clone, Copy, Debug, PartialEq, Eq)]
@@ -33,7 +33,11 @@ pub fn read_file<R: Files + AllocGlobal>(rt: &R, name: &str) -> Result<Vec<u8>, 
     }
 }
 
-fn load_fault(error: &io::Error) -> LoadFault {
+/// What an error of the system says.
+fn load_fault(error: &io::Error) -> LoadFault
+    ensures memory { error_kind error.now ≡ ErrorKind.OutOfMemory → result ≡ LoadFault.Memory }
+    ensures other { error_kind error.now ≢ ErrorKind.OutOfMemory → result ≡ LoadFault.Unreadable }
+{
     if error.kind() == ErrorKind::OutOfMemory {
         LoadFault::Memory
     } else {
@@ -62,7 +66,8 @@ pub fn read_rest<R: Read>(reader: &mut R, bytes: &mut Vec<u8>, reads: u64) -> Re
 }
 
 fn append(bytes: &mut Vec<u8>, piece: &[u8]) -> Result<(), LoadFault>
-    ensures { OnOk result (bytes.new.items ≡ bytes.old.items ++ piece.now) }
+    ensures ok { OnOk result (bytes.new.items ≡ bytes.old.items ++ piece.now) }
+    ensures only { IfErr result (λ e. e ≡ LoadFault.Memory) }
 {
     match bytes.extend_from_slice(piece) {
         Ok(()) => Ok(()),

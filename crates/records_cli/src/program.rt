@@ -1,5 +1,6 @@
 //! The program, over the words, the file, the input and the outputs that it is given.
-ghost use Rattle.std.specs.Prelude.{◌≡◌, ◌≤◌};
+ghost use Rattle.std.specs.Prelude.{◌≡◌, ◌≤◌, IfErr, OnOk};
+ghost use Rattle.std.specs.Io.KnownBytes.{Appends, Keeps};
 ghost use Rattle.records_cli.specs.Fault.{status_of};
 
 use crate::fault::Fault;
@@ -75,7 +76,10 @@ where
 }
 
 /// Writes the text, and flushes.
-fn show<O: Write>(output: &mut O, text: &str) -> Result<(), Fault> {
+fn show<O: Write>(output: &mut O, text: &str) -> Result<(), Fault>
+    ensures ok { OnOk result (Appends (O.contents output.old) (O.contents output.new) text.now) }
+    ensures only { IfErr result (λ f. f ≡ Fault.Write) }
+{
     match output.write_all(text.as_bytes()) {
         Ok(()) => flush(output),
         Err(_) => Err(Fault::Write),
@@ -83,7 +87,10 @@ fn show<O: Write>(output: &mut O, text: &str) -> Result<(), Fault> {
 }
 
 /// A failed flush is a failed write.
-fn flush<O: Write>(output: &mut O) -> Result<(), Fault> {
+fn flush<O: Write>(output: &mut O) -> Result<(), Fault>
+    ensures bytes { Keeps (O.contents output.old) (O.contents output.new) }
+    ensures only { IfErr result (λ f. f ≡ Fault.Write) }
+{
     match output.flush() {
         Ok(()) => Ok(()),
         Err(_) => Err(Fault::Write),
@@ -118,10 +125,18 @@ fn run_script<I: Read + Drop, O: Write, L: Ledger, M: Ledger>(
 ) -> Result<(), Fault>
     requires reads { (reads.name ≡ L.name) × (reads.parts ≡ L.parts) × (reads.parts ≡ 4) }
     requires writes { (writes.name ≡ M.name) × (writes.parts ≡ M.parts) × (writes.parts ≡ 4) }
+    ensures { IfErr result (λ f. status_of f ≡ 1) }
 {
     let mut source = Counted::<I, L>::new(input, reads);
     let mut sink = Counted::<&mut O, M>::new(output, writes);
-    let ran = run(alloc, &mut source, &mut sink, script, DEFAULT_MAX_DEPTH, Form::Owned);
+    let ran = run(
+        alloc,
+        &mut source,
+        &mut sink,
+        script,
+        DEFAULT_MAX_DEPTH,
+        Form::Owned,
+    );
     let _ = source.into_inner();
     let flushed = flush(sink.into_inner());
     ran?;

@@ -120,12 +120,7 @@ fn answered(
 }
 
 // What the program answers with the script `SCRIPT` in the file `get.json`.
-fn runs<I: Read + Drop>(
-    alloc: Global,
-    input: I,
-    output: &mut Narrow,
-    faults: &mut Narrow,
-) -> u8 {
+fn runs<I: Read + Drop>(alloc: Global, input: I, output: &mut Narrow, faults: &mut Narrow) -> u8 {
     let load = |name: &str| {
         if name == "get.json" {
             copied(alloc, SCRIPT)
@@ -181,7 +176,10 @@ fn help_reads_nothing(rt: HostRuntime) {
     let words = ["records", "--help"];
     let faults = Vec::new(rt.alloc());
     let status = program(rt.alloc(), &words, load, &mut input, &mut output, faults);
-    assert_eq!(rt; (status, input.bytes.len(), output.is_flushed), (0, LINE.len(), true));
+    assert_eq!(rt;
+        (status, input.bytes.len(), output.is_flushed),
+        (0, LINE.len(), true)
+    );
 }
 
 #[test]
@@ -265,7 +263,13 @@ fn writes_a_record_for_each_line(rt: HostRuntime) -> Result<(), Fail> {
     let mut records = Vec::from_slice(alloc, RECORD)?;
     records.extend_from_slice(RECORD)?;
     let mut output = Narrow::new(alloc, usize::MAX, false);
-    expect(&rt, alloc, lines.as_slice(), &mut output, (0, records.as_slice(), ""));
+    expect(
+        &rt,
+        alloc,
+        lines.as_slice(),
+        &mut output,
+        (0, records.as_slice(), ""),
+    );
     let empty: &[u8] = b"";
     let mut output = Narrow::new(alloc, usize::MAX, false);
     expect(&rt, alloc, empty, &mut output, (0, b"", ""));
@@ -284,7 +288,13 @@ fn input_fails_in_mid_stream(rt: HostRuntime) -> Result<(), Fail> {
             is_slow,
         };
         let mut output = Narrow::new(alloc, usize::MAX, is_stuck);
-        expect(&rt, alloc, input, &mut output, (1, RECORD, "records: read\n"));
+        expect(
+            &rt,
+            alloc,
+            input,
+            &mut output,
+            (1, RECORD, "records: read\n"),
+        );
         assert!(rt; output.is_flushed == !is_stuck);
     }
     Ok(())
@@ -296,10 +306,22 @@ fn output_fails(rt: HostRuntime) {
     for room in 0..RECORD.len() {
         let mut output = Narrow::new(alloc, room, false);
         let written = &RECORD[..room];
-        expect(&rt, alloc, LINE, &mut output, (1, written, "records: write\n"));
+        expect(
+            &rt,
+            alloc,
+            LINE,
+            &mut output,
+            (1, written, "records: write\n"),
+        );
     }
     let mut output = Narrow::new(alloc, usize::MAX, true);
-    expect(&rt, alloc, LINE, &mut output, (1, RECORD, "records: write\n"));
+    expect(
+        &rt,
+        alloc,
+        LINE,
+        &mut output,
+        (1, RECORD, "records: write\n"),
+    );
 }
 
 #[test]
