@@ -119,15 +119,18 @@ fn answered(
     (status, output, faults)
 }
 
-// What the program answers with the script `SCRIPT` in the file `get.json`.
+// The files of a folder that has `get.json` alone.
+fn stored(alloc: Global, name: &str) -> Result<Vec<u8>, LoadFault> {
+    if name == "get.json" {
+        copied(alloc, SCRIPT)
+    } else {
+        Err(LoadFault::Unreadable)
+    }
+}
+
+// What the program answers with the script `SCRIPT`.
 fn runs<I: Read + Drop>(alloc: Global, input: I, output: &mut Narrow, faults: &mut Narrow) -> u8 {
-    let load = |name: &str| {
-        if name == "get.json" {
-            copied(alloc, SCRIPT)
-        } else {
-            Err(LoadFault::Unreadable)
-        }
-    };
+    let load = |name: &str| stored(alloc, name);
     let words = ["records", "get.json"];
     program(alloc, &words, load, input, output, faults)
 }

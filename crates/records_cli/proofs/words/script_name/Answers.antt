@@ -1,4 +1,3 @@
-use Rattle.std.proofs.Common.{rules}
 use Rattle.clap.proofs.CallerLemmas.{some_of_text}
 use Rattle.records_cli.proofs.words.script_name.Goals as goal
 
