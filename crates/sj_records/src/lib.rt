@@ -10,6 +10,8 @@ mod reader;
 mod run_error;
 mod script;
 mod task;
+#[cfg(test)]
+mod tests;
 
 pub use engine::run;
 pub use form::Form;
