@@ -1,8 +1,7 @@
 -- Lines of a stream that comes in pieces.
-use Rattle.std.proofs.Common.{◌≡◌, ℕ, Bool, true, false, cond, eqb, List, [], ◌∷◌, ◌++◌, refl, sym, ap, ap₂, ◌∙◌, append_assoc, arith}
-use Rattle.std.proofs.lemmas.Bool.{eqb-true, eqb-false}
-use Rattle.std.proofs.lemmas.List.{append-nil}
-use Rattle.sj_records.specs.Lines.{ended, unended, onto_first, onto_last, lines, if_any}
+use Rattle.std.proofs.Common.{◌≡◌, ℕ, Bool, true, false, cond, eqb, List, [], ◌∷◌, ◌++◌, refl, ap, ap₂, ◌∙◌, arith}
+use Rattle.std.proofs.lemmas.Bool.{eqb-false}
+use Rattle.sj_records.specs.Lines.{ended, unended, onto_first, onto_last}
 use Rattle.sj_records.specs.Progress.{HasNoLineFeed}
 
 -- a test that fails

@@ -1,12 +1,12 @@
 -- What one call adds to the counts.
-use Rattle.std.proofs.Common.{◌≡◌, ℕ, ◌+◌, ◌<◌, Bool, true, false, cond, eqb, ltb, List, length, ap, ◌∙◌, inl, inr, refl, arith}
-use Rattle.std.specs.Prelude.{◌⊎◌, ◌&&◌}
+use Rattle.std.proofs.Common.{◌≡◌, ℕ, ◌+◌, ◌<◌, true, false, eqb, ltb, List, length, ap, ◌∙◌, inl, inr, refl, arith}
+use Rattle.std.specs.Prelude.{◌⊎◌}
 use Rattle.std.specs.IoError.{error_kind}
 use Rattle.std.specs.declared.io.Error.{Error}
 use Rattle.std.specs.declared.io.ErrorKind.{ErrorKind}
 use Rattle.std.specs.declared.io.ErrorKind.TheVariants.{Interrupted}
 use Rattle.std.proofs.lemmas.Bool.Decides.{nat_tests}
-use Rattle.sj_base.specs.Calls.{Calls, CountsOk, CountsErr, one_interrupted, one_failed}
+use Rattle.sj_base.specs.Calls.{Calls, CountsOk, CountsErr, one_interrupted}
 use Rattle.sj_records.specs.Run.{missed, GoesOn}
 
 -- an error is an interruption or it isn't

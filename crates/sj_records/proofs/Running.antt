@@ -1,18 +1,18 @@
 -- A run so far: what was read was cut into lines, each ended one was answered, and the rest is kept.
-use Rattle.std.proofs.Common.{◌≡◌, ℕ, ◌<◌, List, [], ◌∷◌, ◌++◌, length, take, Option, Some, None, Result, Ok, Err, refl, sym, ap, subst, ◌∙◌, append_assoc, inl, inr, arith}
+use Rattle.std.proofs.Common.{◌≡◌, ℕ, ◌<◌, List, [], ◌∷◌, ◌++◌, length, Option, Some, None, Result, Ok, Err, refl, sym, ap, subst, ◌∙◌, append_assoc, inl, inr, arith}
 use Rattle.std.specs.Prelude.{◌⊎◌, OnOk, IsErrOf, IfErr}
 use Rattle.std.proofs.lemmas.List.{append-nil, take_all}
-use Rattle.std.specs.Io.KnownBytes.{Appends, Consumes, Keeps}
+use Rattle.std.specs.Io.KnownBytes.{Consumes, Keeps}
 use Rattle.sj_records.specs.declared.run_error.RunError.{RunError}
 use Rattle.sj_records.specs.declared.run_error.RunError.TheVariants.{Memory, Write, Read, TooManyReads}
 use Rattle.sj_records.specs.declared.task.Task.{Task}
-use Rattle.sj_records.specs.Lines.{ended, unended, if_any, lines}
+use Rattle.sj_records.specs.Lines.{ended, unended, if_any}
 use Rattle.sj_records.specs.Record.{AreRecords}
-use Rattle.sj_records.specs.Run.{Transfers, Leaves, WritesEnded}
+use Rattle.sj_records.specs.Run.{Transfers, Leaves}
 use Rattle.sj_records.specs.ScriptView.{steps_of}
 use Rattle.sj_records.specs.Progress.{HasNoLineFeed, Wrote, WroteSome, WrotePrefix}
 use Rattle.sj_records.proofs.Cut.{ended-append, unended-append, unended-HasNoLineFeed}
-use Rattle.sj_records.proofs.Written.{Consumes-nothing, Consumes-then, Wrote-nothing, Wrote-then, WroteSome-then, WroteSome-front, WrotePrefix-then, AreRecords-append}
+use Rattle.sj_records.proofs.Written.{Consumes-nothing, Consumes-then, Wrote-nothing, Wrote-then, WroteSome-then, WrotePrefix-then, AreRecords-append}
 use Rattle.sj_records.proofs.Total.{AreRecords-exist}
 
 -- a part that is not empty is a line

@@ -10,7 +10,7 @@ use Rattle.sj_records.specs.declared.script.CommandFault.{CommandFault}
 use Rattle.sj_records.specs.declared.commands.CommandStop.{CommandStop}
 use Rattle.sj_records.specs.declared.commands.CommandStop.TheVariants as stops
 use Rattle.sj_records.specs.declared.document.Document.{Document}
-use Rattle.sj_records.specs.Command.{Step, Refusal, command, ◌>>=◌, part_of, parts_of, path_of, get_of, named, command_of, placed, commands_from, commands_of}
+use Rattle.sj_records.specs.Command.{Step, Refusal, command, ◌>>=◌, part_of, parts_of, path_of, get_of, named, command_of, commands_from, commands_of}
 use Rattle.sj_records.specs.Refused.{IsFaultOf}
 use Rattle.sj_records.specs.View.{tree_of, items_view}
 

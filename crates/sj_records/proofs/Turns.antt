@@ -1,16 +1,13 @@
 -- One turn of a loop over the elements of a list or an object.
 use Rattle.std.proofs.Common.{◌≡◌, ℕ, zero, suc, ◌+◌, ◌-◌, ◌<◌, ◌≤◌, Bool, true, false, cond, eqb, List, [], ◌∷◌, ◌++◌, map, length, Option, Some, None, refl, sym, ap, ◌∙◌, append_assoc, arith}
-use Rattle.std.specs.Prelude.{option_map, option_and_then}
-use Rattle.std.proofs.lemmas.List.{length-append, append-nil}
-use Rattle.std.proofs.lemmas.Bool.{eqb-false}
-use Rattle.std.proofs.lemmas.Bool.Decides.{nat_tests}
+use Rattle.std.proofs.lemmas.List.{length-append}
 use Rattle.sj_base.specs.Tree.{Tree, Members, no_members}
 use Rattle.sj_base.specs.Keep.{keep, keep_members}
-use Rattle.sj_records.specs.Reading.{Reader, mapped, padded_at, after_spaces, more_at, elements_at, sequence_at, value_at, pair_at, members_of}
+use Rattle.sj_records.specs.Reading.{Reader, mapped, padded_at, elements_at, sequence_at, value_at, pair_at, members_of}
 use Rattle.sj_records.specs.Kept.{add_member}
-use Rattle.sj_records.specs.Building.{kept_items, kept_members, kept_pair, kept_value, after_byte}
+use Rattle.sj_records.specs.Building.{kept_items, kept_members, after_byte}
 use Rattle.sj_records.proofs.Kept.{kept_onto, kept_onto-is}
-use Rattle.sj_records.proofs.Steps.{Takes, mapped_parts}
+use Rattle.sj_records.proofs.Steps.{Takes}
 use Rattle.sj_records.proofs.Spaces.{padded_at-sound}
 use Rattle.sj_records.proofs.Nesting.{value_at-sound, value_at-complete, value_at-none}
 use Rattle.sj_records.proofs.Pairs.{IsElement-members}

@@ -1,5 +1,5 @@
 -- Records that are written one after the other.
-use Rattle.std.proofs.Common.{◌≡◌, ℕ, ◌+◌, List, [], ◌∷◌, ◌++◌, take, length, Option, Some, None, refl, sym, ap, ◌∙◌, append_assoc, arith}
+use Rattle.std.proofs.Common.{◌≡◌, ℕ, ◌+◌, List, [], ◌∷◌, ◌++◌, take, length, Option, Some, None, refl, sym, ap, ◌∙◌, append_assoc}
 use Rattle.std.proofs.Math.Nat.{zero-add, suc-add}
 use Rattle.std.proofs.lemmas.List.{append-nil, take_at}
 use Rattle.std.specs.Io.KnownBytes.{Appends, Consumes}

@@ -1,5 +1,5 @@
 -- Scripts: which commands a script has, or its first fault.
-use Rattle.std.specs.Prelude.{◌≡◌, ℕ, pos, negsuc, suc, cond, List, [], ◌∷◌, Result, Ok, Err, codes, bytes_eq}
+use Rattle.std.specs.Prelude.{ℕ, pos, negsuc, suc, cond, List, [], ◌∷◌, Result, Ok, Err, codes, bytes_eq}
 use Rattle.sj_base.specs.Tree.{Tree, null, boolean, integer, decimal, string, list, object, Items, no_items, item}
 use Rattle.sj_base.specs.Path.{Part, key, place}
 use Rattle.sj_base.specs.declared.error.Error.{Error}

@@ -1,5 +1,5 @@
 -- What has been written of the lines that were cut so far. Only clauses of private functions cite this.
-use Rattle.std.specs.Prelude.{◌≡◌, ◌≢◌, ℕ, List, ◌++◌, [], ◌∷◌, take, Option}
+use Rattle.std.specs.Prelude.{◌≢◌, ℕ, List, ◌++◌, [], take, Option}
 use Rattle.std.specs.List.{AllByRecursion}
 use Rattle.std.specs.Io.KnownBytes.{Appends}
 use Rattle.sj_records.specs.declared.task.Task.{Task}

@@ -5,7 +5,7 @@ use Rattle.sj_records.specs.declared.script.ScriptFault.{ScriptFault}
 use Rattle.sj_records.specs.declared.script.ScriptFault.TheVariants.{Json, NotAnArray, Command, Memory}
 use Rattle.sj_records.specs.declared.commands.CommandStop.{CommandStop}
 use Rattle.sj_records.specs.declared.commands.CommandStop.TheVariants as stops
-use Rattle.sj_records.specs.Command.{Step, Refusal, json, not_an_array, command}
+use Rattle.sj_records.specs.Command.{Refusal, json, not_an_array, command}
 use Rattle.sj_records.specs.Record.{IsReadAs}
 
 -- The bytes were refused so. Want of memory says nothing.

@@ -1,5 +1,5 @@
 -- What a run has read and written when it ends, and which of its calls failed.
-use Rattle.std.specs.Prelude.{◌≡◌, ℕ, ◌+◌, ◌^◌, List, ◌++◌, take, Option, Result, Ok, Err}
+use Rattle.std.specs.Prelude.{◌≡◌, ℕ, ◌+◌, List, ◌++◌, take, Option, Result, Ok, Err}
 use Rattle.std.specs.Io.KnownBytes.{Consumes, Appends}
 use Rattle.sj_base.specs.Calls.{Calls}
 use Rattle.sj_records.specs.declared.form.Form.{Form}

@@ -1,5 +1,5 @@
 -- What a reader of the program gives, against reading on lists. Only clauses of private functions cite this.
-use Rattle.std.specs.Prelude.{◌≡◌, ℕ, List, Option, Some, None, Result, Ok, Err, ⊤}
+use Rattle.std.specs.Prelude.{◌≡◌, Option, Some, None, Result, Ok, Err, ⊤}
 use Rattle.sj_records.specs.declared.reader.Stop.{Stop}
 use Rattle.sj_records.specs.declared.reader.Stop.TheVariants.{Memory, Refused}
 

@@ -1,4 +1,4 @@
-use Rattle.std.proofs.Common.{◌≡◌, ℕ, List, [], ◌∷◌, ◌++◌, Err, refl, ap, sym, ◌∙◌}
+use Rattle.std.proofs.Common.{Err, refl, ap, sym, ◌∙◌}
 use Rattle.std.specs.Prelude.{IsErrOf}
 use Rattle.std.proofs.lemmas.Result.{err_from_is_err_and}
 use Rattle.sj_records.specs.declared.run_error.RunError.TheVariants.{Memory, Write}

@@ -1,4 +1,4 @@
-use Rattle.std.proofs.Common.{◌≡◌, ℕ, ◌+◌, ◌<◌, List, [], take, drop, length, Result, Ok, Err, sym, ap, ◌∙◌, rules, arith}
+use Rattle.std.proofs.Common.{◌≡◌, [], take, drop, length, Err, sym, ap, ◌∙◌, rules, arith}
 use denote.Enum.Bare.{same_true}
 use Rattle.std.specs.contracts.io.ErrorKind.{the_type}
 use Rattle.std.specs.IoError.{error_kind}
@@ -6,7 +6,6 @@ use Rattle.std.specs.declared.io.ErrorKind.TheVariants.{Interrupted}
 use Rattle.std.specs.Io.KnownBytes.{Consumes}
 use Rattle.std.proofs.lemmas.List.{take_at}
 use Rattle.std.proofs.lemmas.Result.{err_from_is_err_and}
-use Rattle.sj_records.specs.Run.{missed}
 use Rattle.sj_records.proofs.Misses.{GoesOn-some, GoesOn-interrupted, GoesOn-then}
 use Rattle.sj_records.proofs.Running.{Running-clean, Running-idle, Running-more, Running-fed, Running-ended}
 use Rattle.sj_records.proofs.engine.run_within.Goals as goal

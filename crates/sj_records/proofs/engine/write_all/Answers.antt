@@ -1,7 +1,7 @@
-use Rattle.std.proofs.Common.{◌≡◌, ℕ, List, ◌++◌, length, take, drop, sym, ap, ◌∙◌, append_assoc, arith}
+use Rattle.std.proofs.Common.{ℕ, List, ◌++◌, take, drop, sym, ap, ◌∙◌, append_assoc, arith}
 use Rattle.std.proofs.lemmas.List.{take_rest, take-append-drop}
 use Rattle.sj_records.proofs.Written.{Appends-then}
-use Rattle.sj_records.proofs.Misses.{missed-some, missed-nothing, missed-err}
+use Rattle.sj_records.proofs.Misses.{missed-some}
 use Rattle.sj_records.proofs.engine.write_all.Goals as goal
 
 pub loop-rest-preserved : goal.loop-rest-preserved

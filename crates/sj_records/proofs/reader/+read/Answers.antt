@@ -1,4 +1,4 @@
-use Rattle.std.proofs.Common.{◌≡◌, ℕ, suc, ◌+◌, ◌-◌, ◌<◌, ◌≤◌, List, [], ◌∷◌, ◌++◌, map, length, Option, Some, None, refl, sym, ap, ◌∙◌, rules, arith}
+use Rattle.std.proofs.Common.{◌≡◌, ℕ, suc, ◌+◌, ◌-◌, ◌<◌, List, [], ◌∷◌, ◌++◌, map, length, Option, Some, None, sym, ap, ◌∙◌, rules, arith}
 use Rattle.std.proofs.lemmas.List.{map_push}
 use Rattle.std.proofs.lemmas.Result.{err_from_is_err_and}
 use Rattle.sj_base.specs.Tree.{Tree, list, object}
@@ -13,7 +13,7 @@ use Rattle.sj_records.specs.declared.reader.Stop.TheVariants.{Memory, Refused}
 use Rattle.sj_records.specs.View.{tree_of, members_view}
 use Rattle.sj_records.proofs.Steps.{mapped_parts}
 use Rattle.sj_records.proofs.DocumentTrees.{tree_of-Array, tree_of-Object}
-use Rattle.sj_records.proofs.Openings.{after_byte-is, value_at-list, value_at-object, value_at-no_list, value_at-no_object, value_at-scalar, kept-list, kept-object, kept-scalar}
+use Rattle.sj_records.proofs.Openings.{value_at-list, value_at-object, value_at-no_list, value_at-no_object, value_at-scalar, kept-list, kept-object, kept-scalar}
 use Rattle.sj_records.proofs.Turns.{mapped-none, elements-none, elements-stop, elements-other, elements-end, elements-more, sequence-open, padded_at-nil, pair_at-nil, padded_at-shorter, pair_at-shorter, items_after, items_after-more, members_after, members_after-nothing, members_after-more}
 use Rattle.sj_records.proofs.reader.+read.Goals as goal
 

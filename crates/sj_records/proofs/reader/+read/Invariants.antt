@@ -1,4 +1,4 @@
-use Rattle.std.proofs.Common.{◌≡◌, ℕ, ◌+◌, ◌*◌, ◌<◌, List, [], map, length}
+use Rattle.std.proofs.Common.{◌≡◌, ℕ, ◌+◌, ◌*◌, ◌<◌, map, length}
 use Rattle.sj_records.specs.Reading.{padded_at, value_at, pair_at, elements_at, sequence_at}
 use Rattle.sj_records.specs.Building.{kept_items, kept_members}
 use Rattle.sj_records.specs.View.{tree_of, members_view}

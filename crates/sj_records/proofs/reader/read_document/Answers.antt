@@ -1,9 +1,9 @@
-use Rattle.std.proofs.Common.{◌≡◌, ℕ, List, [], refl, length, Option, Some, None, Err, ap, sym, ◌∙◌, arith}
+use Rattle.std.proofs.Common.{◌≡◌, ℕ, List, refl, length, Some, None, sym, arith}
 use Rattle.std.proofs.lemmas.Grind.{common_steps}
 use Rattle.std.proofs.lemmas.Result.{err_from_is_err_and}
 use Rattle.sj_base.specs.Tree.{Tree}
 use Rattle.sj_base.specs.Keep.{keep}
-use Rattle.sj_records.specs.Reading.{padded_at, value_at, line_at, if_last}
+use Rattle.sj_records.specs.Reading.{padded_at, value_at, line_at}
 use Rattle.sj_records.specs.Record.{IsNoDocument}
 use Rattle.sj_records.specs.Building.{kept_value}
 use Rattle.sj_records.specs.Stop.{Stops, IfRefused}

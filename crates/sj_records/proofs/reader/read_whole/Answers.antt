@@ -1,5 +1,4 @@
-use Rattle.std.proofs.Common.{◌≡◌, ◌∙◌, ◌++◌, ap, sym, true}
-use Rattle.std.proofs.Common.{Some, None, pos}
+use Rattle.std.proofs.Common.{◌≡◌, ◌∙◌, sym, true}
 use Rattle.std.specs.Str.Parse.{ParsesUnsigned}
 use Rattle.sj_records.specs.Reading.{is_whole, digits}
 use Rattle.sj_records.proofs.ReadSteps.{whole_at-number, whole_at-too_large}

@@ -1,4 +1,4 @@
-use Rattle.std.proofs.Common.{◌≡◌, ℕ, List, ◌++◌, ◌∷◌, [], ap, ◌∙◌, codes}
+use Rattle.std.proofs.Common.{ℕ, List, ◌++◌, ◌∷◌, [], ap, ◌∙◌, codes}
 use Rattle.sj_base.specs.Tree.{list}
 use Rattle.sj_base.specs.Text.{text}
 use Rattle.sj_records.specs.View.{tree_of}

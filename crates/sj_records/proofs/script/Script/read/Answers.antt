@@ -1,11 +1,9 @@
-use Rattle.std.proofs.Common.{◌≡◌, ℕ, List, Result, Ok, Err, inl, ap, sym, ◌∙◌}
-use Rattle.std.specs.Prelude.{IfErr}
+use Rattle.std.proofs.Common.{◌≡◌, ℕ, List, Result, inl, ap, sym, ◌∙◌}
 use Rattle.std.proofs.lemmas.Result.{err_from_is_err_and}
 use Rattle.sj_base.specs.Tree.{Tree}
 use Rattle.sj_base.specs.Keep.{keep}
 use Rattle.sj_records.specs.declared.script.ScriptFault.{ScriptFault}
 use Rattle.sj_records.specs.declared.script.ScriptFault.TheVariants.{Json, NotAnArray, Command, Memory}
-use Rattle.sj_records.specs.declared.document.Document.{Document}
 use Rattle.sj_records.specs.Command.{Step, Refusal, commands_of}
 use Rattle.sj_records.specs.Record.{PlainDocument, IsReadAs, script_limit}
 use Rattle.sj_records.specs.Refused.{IsRefusedAs, IsRefusalOf}
