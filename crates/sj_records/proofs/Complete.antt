@@ -4,7 +4,7 @@ use Rattle.std.proofs.Common.{refl, sym, ap, ◌∙◌}
 use Rattle.std.proofs.lemmas.List.{append-nil}
 use Rattle.std.proofs.lemmas.Option.{same_Some, none-some}
 use Rattle.sj_base.specs.Tree.{Tree}
-use Rattle.sj_records.specs.Record.{PlainDocument, IsNoDocument}
+use Rattle.sj_records.specs.Record.{PlainDocument, IsNoPlainDocument}
 use Rattle.sj_records.specs.Reading.{padded_at, value_at, if_last, line_at}
 use Rattle.sj_records.proofs.Spaces.{padded_at-complete}
 use Rattle.sj_records.proofs.Values.{IsValue}
@@ -19,8 +19,8 @@ line_at-complete limit line t h =
     ap (λ (ys : List ℕ). line_at limit ys) (sym (append-nil line)) ∙ ap (λ o. option_and_then if_last o) found
 
 -- a line from which nothing is read has no document
-pub IsNoDocument-from_none : (limit : ℕ) (line : List ℕ) → line_at limit line ≡ None → IsNoDocument line limit
-IsNoDocument-from_none limit line e t h = none-some t (sym e ∙ line_at-complete limit line t h)
+pub IsNoPlainDocument-from_none : (limit : ℕ) (line : List ℕ) → line_at limit line ≡ None → IsNoPlainDocument line limit
+IsNoPlainDocument-from_none limit line e t h = none-some t (sym e ∙ line_at-complete limit line t h)
 
 -- a line has one document at most
 pub PlainDocument-unique : (line : List ℕ) (limit : ℕ) (s t : Tree) → PlainDocument line limit s → PlainDocument line limit t → s ≡ t

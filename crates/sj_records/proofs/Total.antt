@@ -9,9 +9,9 @@ use Rattle.sj_base.specs.declared.error.ErrorType.TheVariants.{Eof, NoStructure}
 use Rattle.sj_records.specs.declared.form.Form.{Form}
 use Rattle.sj_records.specs.Command.{Step}
 use Rattle.sj_records.specs.Reading.{line_at, after_spaces}
-use Rattle.sj_records.specs.Record.{PlainDocument, IsNoDocument, IsFault, fault_at_no_byte, fault_record, outcome, IsRecord, AreRecords}
+use Rattle.sj_records.specs.Record.{PlainDocument, IsNoPlainDocument, IsFault, fault_at_no_byte, fault_record, outcome, IsRecord, AreRecords}
 use Rattle.sj_records.proofs.Sound.{line_at-sound}
-use Rattle.sj_records.proofs.Complete.{IsNoDocument-from_none}
+use Rattle.sj_records.proofs.Complete.{IsNoPlainDocument-from_none}
 use Rattle.sj_records.proofs.Readings.{AreSpaces-from_after_spaces, after_spaces-from_AreSpaces}
 
 -- a line that is no document has a fault
@@ -20,11 +20,11 @@ fault_from line [] e = (fault_at_no_byte Eof, inl (AreSpaces-from_after_spaces l
 fault_from line (b ∷ rest) e = (fault_at_no_byte NoStructure, inr (λ spaces. let none = after_spaces-from_AreSpaces line spaces in absurd cc, refl))
 
 -- a line is a document or none
-decided : (line : List ℕ) (limit : ℕ) (o : Option Tree) → length line ≤ longest → line_at limit line ≡ o → ((t : Tree) × PlainDocument line limit t) ⊎ IsNoDocument line limit
-decided line limit None short e = inr (IsNoDocument-from_none limit line e)
+decided : (line : List ℕ) (limit : ℕ) (o : Option Tree) → length line ≤ longest → line_at limit line ≡ o → ((t : Tree) × PlainDocument line limit t) ⊎ IsNoPlainDocument line limit
+decided line limit None short e = inr (IsNoPlainDocument-from_none limit line e)
 decided line limit (Some t) short e = inl (t, line_at-sound limit line t short e)
 
-pub is_document_or_none : (line : List ℕ) (limit : ℕ) → ((t : Tree) × PlainDocument line limit t) ⊎ IsNoDocument line limit
+pub is_document_or_none : (line : List ℕ) (limit : ℕ) → ((t : Tree) × PlainDocument line limit t) ⊎ IsNoPlainDocument line limit
 is_document_or_none line limit =
     elim (cases_lt longest (length line)) [
       | inl long ↦ inr (λ t d. let short = d.document.short in absurd (omega arith))

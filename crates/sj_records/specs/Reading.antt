@@ -1,5 +1,6 @@
 -- Reading from left to right, byte by byte: a value, and the bytes behind it. Only clauses of private
--- functions cite this; what it reads is what the grammar spells (proofs/Sound.antt, proofs/Complete.antt).
+-- functions cite this, but for `items_of`; what it reads is what the grammar spells (proofs/Sound.antt,
+-- proofs/Complete.antt).
 use Rattle.std.specs.Prelude.{ℕ, zero, suc, ℤ, pos, neg_ℤ, ◌^◌, Bool, true, false, cond, ◌||◌, ◌==◌, nat_lt, nat_le, List, [], ◌∷◌, length, Option, Some, None, option_map, option_and_then, codes}
 use Rattle.std.specs.Str.{is_utf8}
 use Rattle.std.specs.Char.{is_ascii_digit}

@@ -39,16 +39,17 @@ pub record PlainDocument (line : List ℕ) (limit : ℕ) (t : Tree) : Type 0 whe
   pub no_backslash : AllByRecursion (λ b. b ≢ 0x5c) line
   pub no_decimal : HasNoDecimal t
 
--- The fault of a line that is none: `Eof` for whitespace alone, else `NoStructure`, at no byte.
+-- an error about no byte
 abbrev pub fault_at_no_byte : ErrorType → Error
 fault_at_no_byte kind = record { error = kind; index = 0; character = None }
 
+-- The fault of a line that is none: `Eof` for whitespace alone, else `NoStructure`, at no byte.
 abbrev pub IsFault : List ℕ → Error → Type 0
 IsFault line e = (AreSpaces line × (e ≡ fault_at_no_byte Eof)) ⊎ ((AreSpaces line → ⊥) × (e ≡ fault_at_no_byte NoStructure))
 
--- no tree is the line's document
-abbrev pub IsNoDocument : List ℕ → ℕ → Type 0
-IsNoDocument line limit = (t : Tree) → PlainDocument line limit t → ⊥
+-- no tree is the line's document without backslash and decimal literal
+abbrev pub IsNoPlainDocument : List ℕ → ℕ → Type 0
+IsNoPlainDocument line limit = (t : Tree) → PlainDocument line limit t → ⊥
 
 -- the record of replies and a document, as a tree
 abbrev pub record_of : Items → Tree → Tree
@@ -70,11 +71,11 @@ begun t form = record { tree = start t form; bases = [] }
 abbrev pub outcome : Tree → List Step → ℕ → Form → Tree
 outcome t script limit form = record_of (replies (begun t form) form limit script) (after (begun t form) form limit script).tree
 
--- The record of a line: what the script makes of its tree, where it is a document, and else its fault.
+-- The record of a line: what the script makes of its tree, where it is a document that is read today, and else its fault.
 abbrev pub IsRecord : List ℕ → List Step → ℕ → Form → List ℕ → Type 0
 IsRecord line script limit form bytes =
     ((t : Tree) × PlainDocument line limit t × (bytes ≡ text (outcome t script limit form)))
-    ⊎ (IsNoDocument line limit × ((e : Error) × IsFault line e × (bytes ≡ text (fault_record e))))
+    ⊎ (IsNoPlainDocument line limit × ((e : Error) × IsFault line e × (bytes ≡ text (fault_record e))))
 
 -- the records of lines in order, each followed by a line feed
 abbrev pub AreRecords : List (List ℕ) → List Step → ℕ → Form → List ℕ → Type 0
@@ -93,4 +94,4 @@ script_limit = 1024
 abbrev pub IsReadAs : List ℕ → Result (List Step) Refusal → Type 0
 IsReadAs bytes r =
     ((t : Tree) × PlainDocument bytes script_limit t × (r ≡ commands_of t))
-    ⊎ (IsNoDocument bytes script_limit × ((e : Error) × IsFault bytes e × (r ≡ Err (json e))))
+    ⊎ (IsNoPlainDocument bytes script_limit × ((e : Error) × IsFault bytes e × (r ≡ Err (json e))))

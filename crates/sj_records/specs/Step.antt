@@ -7,7 +7,7 @@ use Rattle.sj_records.specs.declared.form.Form.{Form}
 use Rattle.sj_records.specs.declared.form.Form.TheVariants.{Owned}
 use Rattle.sj_records.specs.Command.{Step, get}
 
--- the document, and the trees on which writes were tested, newest first
+-- the document, and the trees on which the writes were tested that were not refused, newest first
 pub record State : Type 0 where
   pub tree : Tree
   pub bases : List Tree

@@ -8,7 +8,7 @@ ghost use Rattle.sj_base.specs.Scalar.{static_tree};
 ghost use Rattle.sj_records.specs.Reading.{mapped, padded_at, scalar_at, value_at, sequence_at, pair_at, is_space, after_spaces, body_at, string_at, digits, after_digits, is_whole, in_range, whole_at, integer_at, line_at, after_word, word_at};
 ghost use Rattle.sj_records.specs.View.{tree_of, items_view, members_view};
 ghost use Rattle.sj_records.specs.Building.{kept_value, kept_items, kept_members, kept_pair, after_byte};
-ghost use Rattle.sj_records.specs.Record.{PlainDocument, IsNoDocument};
+ghost use Rattle.sj_records.specs.Record.{PlainDocument, IsNoPlainDocument};
 ghost use Rattle.sj_records.specs.Stop.{Gives, IfRefused};
 ghost use Rattle.sj_records.specs.declared.reader.Stop.TheVariants.{Memory};
 
@@ -341,7 +341,7 @@ fn read_members(
 /// The document of a line: one value with whitespace around it, or nothing else. No longer line than `u32::MAX` bytes is read.
 pub(crate) fn read_document(alloc: Global, line: &[u8], depth: usize) -> Result<Document, Stop>
     ensures found { IfOk result (λ d. (t : Tree) × PlainDocument line.now depth t × (tree_of d ≡ keep t)) }
-    ensures refused { IfErr result (λ e. IfRefused e (IsNoDocument line.now depth)) }
+    ensures refused { IfErr result (λ e. IfRefused e (IsNoPlainDocument line.now depth)) }
 {
     if line.len() > LONGEST_LINE {
         return Err(Stop::Refused);
