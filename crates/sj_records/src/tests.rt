@@ -197,6 +197,28 @@ fn rows(rt: HostRuntime) {
     }
 }
 
+// Lines of real package data.
+#[test]
+fn packages(rt: HostRuntime) {
+    let script = "[[\"get\",[\"package\"]],[\"get\",[\"depends\",0]]]";
+    for (line, record) in [
+        (
+            "{\"package\": \"adduser\", \"version\": \"3.134\", \"installed_size\": 686, \
+             \"depends\": [\"passwd\"]}\n",
+            "{\"replies\":[[\"adduser\"],[\"passwd\"]],\"document\":{\"package\":\"adduser\",\
+             \"version\":\"3.134\",\"installed_size\":686,\"depends\":[\"passwd\"]}}\n",
+        ),
+        (
+            "{\"package\": \"alsa-topology-conf\", \"version\": \"1.2.5.1-2\", \"depends\": []}\n",
+            "{\"replies\":[[\"alsa-topology-conf\"],[]],\"document\":{\"package\":\
+             \"alsa-topology-conf\",\"version\":\"1.2.5.1-2\",\"depends\":[]}}\n",
+        ),
+    ] {
+        let found = written(&rt, rt.alloc(), script, line, LIMIT, 65536);
+        assert_eq!(rt; found.as_slice(), record.as_bytes(), "{line}");
+    }
+}
+
 #[test]
 fn limits(rt: HostRuntime) {
     let refused = "{\"error\":\"NoStructure\",\"index\":0,\"character\":null}\n";
