@@ -8,5 +8,6 @@ pub mod Path
 pub mod Text
 pub mod Scalar
 pub mod Names
+pub mod Classes
 pub mod Calls
 pub mod Rows

@@ -2,6 +2,7 @@
 #![tactic(auto)]
 
 mod error;
+mod fault;
 mod put;
 mod static_node;
 mod stream;
@@ -9,6 +10,13 @@ mod stream;
 mod tests;
 
 pub use error::{Error, ErrorType};
+pub use fault::{AccessError, TryTypeError};
 pub use put::{put_int, put_string};
-pub use static_node::StaticNode;
+pub use static_node::{StaticNode, ValueType};
 pub use stream::{Counted, Sink, Source};
+
+/// The depth of nesting at which reading stops, in levels, where no other limit is given.
+pub const DEFAULT_MAX_DEPTH: usize = 1024;
+
+/// The room that a padded input has behind its end, in bytes.
+pub const INPUT_PADDING: usize = 64;
