@@ -1,17 +1,25 @@
 -- The tree of a scalar, whichever carrier holds an integer.
 use Rattle.std.specs.Prelude.{ℕ, ℤ, pos, Bool, cond, ◌==◌}
 use Rattle.std.specs.Ordering.{on, int_eq, eq_of_both}
-use Rattle.sj_base.specs.Tree.{Tree, null, boolean, integer}
+use Rattle.sj_base.specs.Tree.{Tree, null, boolean, integer, decimal, string}
+use Rattle.sj_base.specs.Literal.{decimal_text}
 use Rattle.sj_base.specs.declared.static_node.ValueType.{ValueType}
 use Rattle.sj_base.specs.declared.static_node.ValueType.TheVariants.{Null as null_type, Bool as boolean_type, I64 as signed_type, U64 as unsigned_type}
 use Rattle.sj_base.specs.declared.static_node.StaticNode.{StaticNode}
 use Rattle.sj_base.specs.declared.static_node.StaticNode.TheVariants.{Null, Bool as Boolean, I64, U64}
+use Rattle.sj_base.specs.declared.scalar.Scalar.{Scalar}
+use Rattle.sj_base.specs.declared.scalar.Scalar.TheVariants.{Static, Text, Literal}
 
 abbrev pub static_tree : StaticNode → Tree
 static_tree Null = null
 static_tree (Boolean b) = boolean b
 static_tree (I64 n) = integer n
 static_tree (U64 n) = integer (pos n)
+
+abbrev pub scalar_tree : Scalar → Tree
+scalar_tree (Static node) = static_tree node
+scalar_tree (Text s) = string s.now
+scalar_tree (Literal d) = decimal (decimal_text d)
 
 -- the type tells the carrier
 abbrev pub static_type : StaticNode → ValueType
