@@ -4,7 +4,7 @@ use Rattle.std.specs.Ordering.{on, int_eq, eq_of_both}
 use Rattle.sj_base.specs.Tree.{Tree, null, boolean, integer, decimal, string}
 use Rattle.sj_base.specs.Literal.{decimal_text}
 use Rattle.sj_base.specs.declared.static_node.ValueType.{ValueType}
-use Rattle.sj_base.specs.declared.static_node.ValueType.TheVariants.{Null as null_type, Bool as boolean_type, I64 as signed_type, U64 as unsigned_type}
+use Rattle.sj_base.specs.declared.static_node.ValueType.TheVariants.{Null as null_type, Bool as boolean_type, I64 as signed_type, U64 as unsigned_type, Decimal as decimal_type, String as string_type}
 use Rattle.sj_base.specs.declared.static_node.StaticNode.{StaticNode}
 use Rattle.sj_base.specs.declared.static_node.StaticNode.TheVariants.{Null, Bool as Boolean, I64, U64}
 use Rattle.sj_base.specs.declared.scalar.Scalar.{Scalar}
@@ -27,6 +27,11 @@ static_type Null = null_type
 static_type (Boolean b) = boolean_type
 static_type (I64 n) = signed_type
 static_type (U64 n) = unsigned_type
+
+abbrev pub scalar_type : Scalar → ValueType
+scalar_type (Static node) = static_type node
+scalar_type (Text s) = string_type
+scalar_type (Literal d) = decimal_type
 
 -- 0 for null, 1 for a truth value, 2 for an integer
 abbrev pub static_rank : StaticNode → ℕ
