@@ -1,2 +1,3 @@
 mod Runs
-mod Literals
+pub mod Literals
+pub mod Carriers

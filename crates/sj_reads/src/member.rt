@@ -56,7 +56,7 @@ pub trait ValueGetScalar: TypedValue {
     /// The member as a truth value, or the type met; none where the key is not there.
     fn try_get_bool(&self, key: &str) -> Result<Option<bool>, TryTypeError>
         ensures { let found = looked_up (Self.kind self.now) (member self.now key.now) in
-            result ≡ try_found (bool_read) ValueType.Bool found }
+            result ≡ try_found bool_read ValueType.Bool found }
     {
         let Some(member) = self.try_get_member(key)? else {
             return Ok(None);
@@ -320,7 +320,7 @@ pub trait ValueGetScalar: TypedValue {
     /// The member as a text, or the type met; none where the key is not there.
     fn try_get_str(&self, key: &str) -> Result<Option<&str>, TryTypeError>
         ensures { let found = looked_up (Self.kind self.now) (member self.now key.now) in
-            found_text result ≡ try_found (str_read) ValueType.String found }
+            found_text result ≡ try_found str_read ValueType.String found }
     {
         let Some(member) = self.try_get_member(key)? else {
             return Ok(None);
@@ -342,7 +342,7 @@ pub trait ValueGetScalar: TypedValue {
     /// The member as a decimal literal, or the type met; none where the key is not there.
     fn try_get_decimal(&self, key: &str) -> Result<Option<Decimal<'_>>, TryTypeError>
         ensures { let found = looked_up (Self.kind self.now) (member self.now key.now) in
-            found_literal result ≡ try_found (decimal_read) ValueType.Decimal found }
+            found_literal result ≡ try_found decimal_read ValueType.Decimal found }
     {
         let Some(member) = self.try_get_member(key)? else {
             return Ok(None);

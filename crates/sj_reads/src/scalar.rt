@@ -31,7 +31,7 @@ pub trait ValueAsScalar: TypedValue {
         ensures tree { option_map scalar_tree result ≡ scalar self.now }
         ensures kind { IfSome result (λ s. scalar_type s ≡ Self.kind self.now) };
 
-    /// The value as null.
+    /// `Some` where the value is null.
     fn as_null(&self) -> Option<()>
         ensures { result ≡ null_read (scalar self.now) }
     {
@@ -45,9 +45,10 @@ pub trait ValueAsScalar: TypedValue {
         self.as_null().is_some()
     }
 
-    /// The value as null, or the type met.
+    /// `Ok` where the value is null, else the type met.
     fn try_as_null(&self) -> Result<(), TryTypeError>
-        ensures { result ≡ ok_or (null_read (scalar self.now)) (mismatch ValueType.Null (Self.kind self.now)) }
+        ensures { result ≡ ok_or (null_read (scalar self.now))
+            (mismatch ValueType.Null (Self.kind self.now)) }
     {
         self.as_null().ok_or(TryTypeError {
             expected: ValueType::Null,
@@ -71,7 +72,8 @@ pub trait ValueAsScalar: TypedValue {
 
     /// The value as a truth value, or the type met.
     fn try_as_bool(&self) -> Result<bool, TryTypeError>
-        ensures { result ≡ ok_or (bool_read (scalar self.now)) (mismatch ValueType.Bool (Self.kind self.now)) }
+        ensures { result ≡ ok_or (bool_read (scalar self.now))
+            (mismatch ValueType.Bool (Self.kind self.now)) }
     {
         self.as_bool().ok_or(TryTypeError {
             expected: ValueType::Bool,
@@ -95,7 +97,8 @@ pub trait ValueAsScalar: TypedValue {
 
     /// The value as an integer that fits `i8`, or the type met.
     fn try_as_i8(&self) -> Result<i8, TryTypeError>
-        ensures { result ≡ ok_or (signed_read 7 (scalar self.now)) (mismatch ValueType.I64 (Self.kind self.now)) }
+        ensures { result ≡ ok_or (signed_read 7 (scalar self.now))
+            (mismatch ValueType.I64 (Self.kind self.now)) }
     {
         self.as_i8().ok_or(TryTypeError {
             expected: ValueType::I64,
@@ -119,7 +122,8 @@ pub trait ValueAsScalar: TypedValue {
 
     /// The value as an integer that fits `i16`, or the type met.
     fn try_as_i16(&self) -> Result<i16, TryTypeError>
-        ensures { result ≡ ok_or (signed_read 15 (scalar self.now)) (mismatch ValueType.I64 (Self.kind self.now)) }
+        ensures { result ≡ ok_or (signed_read 15 (scalar self.now))
+            (mismatch ValueType.I64 (Self.kind self.now)) }
     {
         self.as_i16().ok_or(TryTypeError {
             expected: ValueType::I64,
@@ -143,7 +147,8 @@ pub trait ValueAsScalar: TypedValue {
 
     /// The value as an integer that fits `i32`, or the type met.
     fn try_as_i32(&self) -> Result<i32, TryTypeError>
-        ensures { result ≡ ok_or (signed_read 31 (scalar self.now)) (mismatch ValueType.I64 (Self.kind self.now)) }
+        ensures { result ≡ ok_or (signed_read 31 (scalar self.now))
+            (mismatch ValueType.I64 (Self.kind self.now)) }
     {
         self.as_i32().ok_or(TryTypeError {
             expected: ValueType::I64,
@@ -167,7 +172,8 @@ pub trait ValueAsScalar: TypedValue {
 
     /// The value as an integer that fits `i64`, or the type met.
     fn try_as_i64(&self) -> Result<i64, TryTypeError>
-        ensures { result ≡ ok_or (signed_read 63 (scalar self.now)) (mismatch ValueType.I64 (Self.kind self.now)) }
+        ensures { result ≡ ok_or (signed_read 63 (scalar self.now))
+            (mismatch ValueType.I64 (Self.kind self.now)) }
     {
         self.as_i64().ok_or(TryTypeError {
             expected: ValueType::I64,
@@ -191,7 +197,8 @@ pub trait ValueAsScalar: TypedValue {
 
     /// The value as an integer that fits `i128`, or the type met.
     fn try_as_i128(&self) -> Result<i128, TryTypeError>
-        ensures { result ≡ ok_or (signed_read 127 (scalar self.now)) (mismatch ValueType.I64 (Self.kind self.now)) }
+        ensures { result ≡ ok_or (signed_read 127 (scalar self.now))
+            (mismatch ValueType.I64 (Self.kind self.now)) }
     {
         self.as_i128().ok_or(TryTypeError {
             expected: ValueType::I64,
@@ -215,7 +222,8 @@ pub trait ValueAsScalar: TypedValue {
 
     /// The value as an integer that fits `u8`, or the type met.
     fn try_as_u8(&self) -> Result<u8, TryTypeError>
-        ensures { result ≡ ok_or (unsigned_read 8 (scalar self.now)) (mismatch ValueType.U64 (Self.kind self.now)) }
+        ensures { result ≡ ok_or (unsigned_read 8 (scalar self.now))
+            (mismatch ValueType.U64 (Self.kind self.now)) }
     {
         self.as_u8().ok_or(TryTypeError {
             expected: ValueType::U64,
@@ -239,7 +247,8 @@ pub trait ValueAsScalar: TypedValue {
 
     /// The value as an integer that fits `u16`, or the type met.
     fn try_as_u16(&self) -> Result<u16, TryTypeError>
-        ensures { result ≡ ok_or (unsigned_read 16 (scalar self.now)) (mismatch ValueType.U64 (Self.kind self.now)) }
+        ensures { result ≡ ok_or (unsigned_read 16 (scalar self.now))
+            (mismatch ValueType.U64 (Self.kind self.now)) }
     {
         self.as_u16().ok_or(TryTypeError {
             expected: ValueType::U64,
@@ -263,7 +272,8 @@ pub trait ValueAsScalar: TypedValue {
 
     /// The value as an integer that fits `u32`, or the type met.
     fn try_as_u32(&self) -> Result<u32, TryTypeError>
-        ensures { result ≡ ok_or (unsigned_read 32 (scalar self.now)) (mismatch ValueType.U64 (Self.kind self.now)) }
+        ensures { result ≡ ok_or (unsigned_read 32 (scalar self.now))
+            (mismatch ValueType.U64 (Self.kind self.now)) }
     {
         self.as_u32().ok_or(TryTypeError {
             expected: ValueType::U64,
@@ -287,7 +297,8 @@ pub trait ValueAsScalar: TypedValue {
 
     /// The value as an integer that fits `u64`, or the type met.
     fn try_as_u64(&self) -> Result<u64, TryTypeError>
-        ensures { result ≡ ok_or (unsigned_read 64 (scalar self.now)) (mismatch ValueType.U64 (Self.kind self.now)) }
+        ensures { result ≡ ok_or (unsigned_read 64 (scalar self.now))
+            (mismatch ValueType.U64 (Self.kind self.now)) }
     {
         self.as_u64().ok_or(TryTypeError {
             expected: ValueType::U64,
@@ -311,7 +322,8 @@ pub trait ValueAsScalar: TypedValue {
 
     /// The value as an integer that fits `u128`, or the type met.
     fn try_as_u128(&self) -> Result<u128, TryTypeError>
-        ensures { result ≡ ok_or (unsigned_read 128 (scalar self.now)) (mismatch ValueType.U64 (Self.kind self.now)) }
+        ensures { result ≡ ok_or (unsigned_read 128 (scalar self.now))
+            (mismatch ValueType.U64 (Self.kind self.now)) }
     {
         self.as_u128().ok_or(TryTypeError {
             expected: ValueType::U64,
@@ -335,7 +347,8 @@ pub trait ValueAsScalar: TypedValue {
 
     /// The value as an integer that fits `usize`, or the type met.
     fn try_as_usize(&self) -> Result<usize, TryTypeError>
-        ensures { result ≡ ok_or (unsigned_read 64 (scalar self.now)) (mismatch ValueType.U64 (Self.kind self.now)) }
+        ensures { result ≡ ok_or (unsigned_read 64 (scalar self.now))
+            (mismatch ValueType.U64 (Self.kind self.now)) }
     {
         self.as_usize().ok_or(TryTypeError {
             expected: ValueType::U64,
@@ -359,7 +372,8 @@ pub trait ValueAsScalar: TypedValue {
 
     /// The value as a text, or the type met.
     fn try_as_str(&self) -> Result<&str, TryTypeError>
-        ensures { ok_text result ≡ ok_or (str_read (scalar self.now)) (mismatch ValueType.String (Self.kind self.now)) }
+        ensures { ok_text result ≡ ok_or (str_read (scalar self.now))
+            (mismatch ValueType.String (Self.kind self.now)) }
     {
         self.as_str().ok_or(TryTypeError {
             expected: ValueType::String,
@@ -383,7 +397,8 @@ pub trait ValueAsScalar: TypedValue {
 
     /// The value as a decimal literal, or the type met.
     fn try_as_decimal(&self) -> Result<Decimal<'_>, TryTypeError>
-        ensures { ok_literal result ≡ ok_or (decimal_read (scalar self.now)) (mismatch ValueType.Decimal (Self.kind self.now)) }
+        ensures { ok_literal result ≡ ok_or (decimal_read (scalar self.now))
+            (mismatch ValueType.Decimal (Self.kind self.now)) }
     {
         self.as_decimal().ok_or(TryTypeError {
             expected: ValueType::Decimal,

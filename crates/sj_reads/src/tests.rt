@@ -8,6 +8,7 @@ use sj_base::{Decimal, Scalar, StaticNode, TryTypeError, ValueType};
 use std::test::Fail;
 
 // A value that is one scalar.
+#[derive(Drop)]
 struct One<'a>(Scalar<'a>);
 
 impl TypedValue for One<'_> {
@@ -31,6 +32,7 @@ impl ValueAsScalar for One<'_> {
 }
 
 // An object with one member.
+#[derive(Drop)]
 struct Pair<'a> {
     key: &'a str,
     member: Member<'a>,
