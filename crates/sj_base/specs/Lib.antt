@@ -13,3 +13,4 @@ pub mod Names
 pub mod Classes
 pub mod Calls
 pub mod Rows
+pub mod Laws

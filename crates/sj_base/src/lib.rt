@@ -5,6 +5,7 @@ mod decimal;
 mod error;
 mod fault;
 mod part;
+pub mod laws;
 mod put;
 mod scalar;
 mod static_node;

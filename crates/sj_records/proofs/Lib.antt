@@ -15,8 +15,13 @@ pub mod DocumentTrees
 pub mod Kept
 pub mod ReadSteps
 pub mod Turns
+pub mod Openings
 pub mod Printed
 pub mod Cut
 pub mod Written
 pub mod Total
 pub mod Feeding
+pub mod RecordText
+pub mod Misses
+pub mod Running
+pub mod ScriptSteps

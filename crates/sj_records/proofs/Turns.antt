@@ -12,7 +12,8 @@ use Rattle.sj_records.specs.Building.{kept_items, kept_members, kept_pair, kept_
 use Rattle.sj_records.proofs.Kept.{kept_onto, kept_onto-is}
 use Rattle.sj_records.proofs.Steps.{Takes, mapped_parts}
 use Rattle.sj_records.proofs.Spaces.{padded_at-sound}
-use Rattle.sj_records.proofs.Nesting.{value_at-sound}
+use Rattle.sj_records.proofs.Nesting.{value_at-sound, value_at-complete, value_at-none}
+use Rattle.sj_records.proofs.Pairs.{IsElement-members}
 
 -- ---- what was found, through a function
 
@@ -110,7 +111,7 @@ pub padded_at-shorter : (limit : ℕ) (bs rest : List ℕ) (t : Tree) → padded
 padded_at-shorter limit bs rest t e = shorter _ bs rest (padded_at-sound (value_at limit) _ (value_at-sound limit) bs t rest e)
 
 pub pair_at-shorter : (limit : ℕ) (bs rest : List ℕ) (m : List ℕ × Tree) → pair_at (value_at limit) bs ≡ Some (m, rest) → length rest ≤ length bs
-pair_at-shorter limit bs rest m e = ?
+pair_at-shorter limit bs rest m e = shorter _ bs rest ((IsElement-members limit (value_at limit) (value_at-sound limit) (value_at-complete limit) (value_at-none limit)).sound bs m rest e)
 
 -- ---- items
 

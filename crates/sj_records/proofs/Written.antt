@@ -6,7 +6,7 @@ use Rattle.std.specs.Io.KnownBytes.{Appends, Consumes}
 use Rattle.sj_records.specs.declared.form.Form.{Form}
 use Rattle.sj_records.specs.Command.{Step}
 use Rattle.sj_records.specs.Record.{IsRecord, AreRecords}
-use Rattle.sj_records.specs.declared.engine.Task.{Task}
+use Rattle.sj_records.specs.declared.task.Task.{Task}
 use Rattle.sj_records.specs.ScriptView.{steps_of}
 use Rattle.sj_records.specs.Progress.{Wrote, WroteSome, WrotePrefix}
 

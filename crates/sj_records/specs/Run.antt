@@ -1,7 +1,10 @@
--- What a run has read and written when it ends.
-use Rattle.std.specs.Prelude.{◌≡◌, ℕ, List, [], ◌∷◌, ◌++◌, take, Option}
+-- What a run has read and written when it ends, and which of its calls failed.
+use Rattle.std.specs.Prelude.{◌≡◌, ℕ, ◌+◌, ◌^◌, List, ◌++◌, take, Option, Result, Ok, Err}
 use Rattle.std.specs.Io.KnownBytes.{Consumes, Appends}
+use Rattle.sj_base.specs.Calls.{Calls}
 use Rattle.sj_records.specs.declared.form.Form.{Form}
+use Rattle.sj_records.specs.declared.run_error.RunError.{RunError}
+use Rattle.sj_records.specs.declared.run_error.RunError.TheVariants.{Memory, Write, Read, TooManyReads}
 use Rattle.sj_records.specs.Command.{Step}
 use Rattle.sj_records.specs.Lines.{ended}
 use Rattle.sj_records.specs.Record.{IsOutput, AreRecords}
@@ -11,18 +14,58 @@ abbrev pub Transfers : Option (List ℕ) → Option (List ℕ) → Option (List 
 Transfers unread_old unread_new held_old held_new P =
     (input output : List ℕ) × Consumes unread_old unread_new input × Appends held_old held_new output × P input output
 
--- all of them
+-- the records of all lines
 abbrev pub WritesAll : List Step → ℕ → Form → List ℕ → List ℕ → Type 0
 WritesAll script limit form input output = IsOutput input script limit form output
 
--- the records of the lines that a line feed ended
+-- those of the lines that a line feed ended
 abbrev pub WritesEnded : List Step → ℕ → Form → List ℕ → List ℕ → Type 0
 WritesEnded script limit form input output = AreRecords (ended input) script limit form output
 
--- the whole records of the first of these, as many as there may be
+-- those of the first k of these lines, for some k
 abbrev pub WritesSome : List Step → ℕ → Form → List ℕ → List ℕ → Type 0
 WritesSome script limit form input output = (k : ℕ) × AreRecords (take k (ended input)) script limit form output
 
--- a prefix of all
+-- a prefix of the records of all lines
 abbrev pub WritesPrefix : List Step → ℕ → Form → List ℕ → List ℕ → Type 0
 WritesPrefix script limit form input output = (unwritten : List ℕ) × IsOutput input script limit form (output ++ unwritten)
+
+-- What stands written, by the answer.
+abbrev pub Leaves : Result Unit RunError → List Step → ℕ → Form → List ℕ → List ℕ → Type 0
+Leaves (Ok done) script limit form input output = WritesAll script limit form input output
+Leaves (Err Memory) script limit form input output = WritesSome script limit form input output
+Leaves (Err Write) script limit form input output = WritesPrefix script limit form input output
+Leaves (Err Read) script limit form input output = WritesEnded script limit form input output
+Leaves (Err TooManyReads) script limit form input output = WritesEnded script limit form input output
+
+-- No read failed, but by an interruption, and none but the last gave nothing, which gave the reader's end.
+abbrev pub ReachesEnd : Calls → Calls → Type 0
+ReachesEnd old new = (new.failed ≡ old.failed) × (new.nothing ≡ old.nothing + 1)
+
+-- None gave the end yet.
+abbrev pub GoesOn : Calls → Calls → Type 0
+GoesOn old new = (new.failed ≡ old.failed) × (new.nothing ≡ old.nothing)
+
+-- One failed.
+abbrev pub FailsOnce : Calls → Calls → Type 0
+FailsOnce old new = (new.failed ≡ old.failed + 1) × (new.nothing ≡ old.nothing)
+
+-- The reads, by the answer. `bound` is the number of reads that a run makes at the most.
+abbrev pub ReadsFor : ℕ → Result Unit RunError → Calls → Calls → Type 0
+ReadsFor bound (Ok done) old new = ReachesEnd old new
+ReadsFor bound (Err Read) old new = FailsOnce old new
+ReadsFor bound (Err TooManyReads) old new = GoesOn old new × (new.made ≡ old.made + bound)
+ReadsFor bound (Err Memory) old new = new.failed ≡ old.failed
+ReadsFor bound (Err Write) old new = new.failed ≡ old.failed
+
+-- writes that failed, were interrupted or took nothing
+abbrev pub missed : Calls → ℕ
+missed c = c.failed + c.interrupted + c.nothing
+
+-- The writes, by the answer: one missed where the answer is `Write`, and else none.
+abbrev pub WritesFor : Result Unit RunError → Calls → Calls → Type 0
+WritesFor (Ok done) old new = missed new ≡ missed old
+WritesFor (Err Write) old new = missed new ≡ missed old + 1
+WritesFor (Err Read) old new = missed new ≡ missed old
+WritesFor (Err TooManyReads) old new = missed new ≡ missed old
+WritesFor (Err Memory) old new = missed new ≡ missed old

@@ -12,3 +12,8 @@ Stops Refused read = read ≡ None
 abbrev pub Gives : {X A : Type 0} → (X → A) → Result X Stop → Option A → Type 0
 Gives view (Ok x) read = read ≡ Some (view x)
 Gives view (Err e) read = Stops e read
+
+-- for a refusal, and not for want of memory
+abbrev pub IfRefused : Stop → Type 0 → Type 0
+IfRefused Memory P = ⊤
+IfRefused Refused P = P

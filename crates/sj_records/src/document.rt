@@ -148,7 +148,7 @@ fn put_members(members: &[(String, Document)], out: &mut Vec<u8>) -> Result<(), 
 }
 
 // A comma before each element but the first.
-fn put_comma(place: usize, out: &mut Vec<u8>) -> Result<(), AllocError>
+pub(crate) fn put_comma(place: usize, out: &mut Vec<u8>) -> Result<(), AllocError>
     ensures { OnOk result (out.new.items ≡ out.old.items ++ comma place) }
 {
     if place > 0 {

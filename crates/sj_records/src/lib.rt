@@ -1,17 +1,20 @@
 //! Scripts of commands over a stream of JSON lines.
 #![tactic(auto)]
 
-#[allow(dead_code)]
+mod commands;
 mod document;
 mod engine;
 mod form;
 mod path;
-#[allow(dead_code)]
 mod reader;
 mod run_error;
 mod script;
+mod task;
+#[cfg(test)]
+mod tests;
 
+pub use engine::run;
 pub use form::Form;
 pub use path::PathPart;
 pub use run_error::RunError;
-pub use script::{Command, CommandFault, Script};
+pub use script::{Command, CommandFault, Script, ScriptFault};

@@ -1,18 +1,23 @@
 //! Reading a document byte by byte. A backslash and a decimal literal are refused.
-ghost use Rattle.std.specs.Prelude.{◌≡◌, ℕ, ◌∷◌, [], ◌<◌, ◌≤◌, ◌^◌, ◌↔◌, Bool, false, true, List, length, Some, None, Option, Result, map, IsTrue, IfOk, IfSome, OnErr, MatchOption, SomeIff, option_map, string_bytes, pos, neg_ℤ};
+ghost use Rattle.std.specs.Prelude.{◌≡◌, ℕ, ◌∷◌, [], ◌<◌, ◌≤◌, ◌^◌, ◌↔◌, Bool, false, true, List, length, Some, None, Option, Result, map, IsTrue, IfOk, IfSome, IfErr, OnErr, MatchOption, SomeIff, option_map, string_bytes, pos, neg_ℤ};
 ghost use Rattle.std.specs.Str.Parse.{digits_value};
 ghost use Rattle.sj_base.specs.Tree.{Tree, integer};
+ghost use Rattle.sj_base.specs.Spelling.{AreSpaces};
 ghost use Rattle.sj_base.specs.Keep.{keep};
 ghost use Rattle.sj_base.specs.Scalar.{static_tree};
 ghost use Rattle.sj_records.specs.Reading.{mapped, padded_at, scalar_at, value_at, sequence_at, pair_at, is_space, after_spaces, body_at, string_at, digits, after_digits, is_whole, in_range, whole_at, integer_at, line_at, after_word, word_at};
 ghost use Rattle.sj_records.specs.View.{tree_of, items_view, members_view};
 ghost use Rattle.sj_records.specs.Building.{kept_value, kept_items, kept_members, kept_pair, after_byte};
-ghost use Rattle.sj_records.specs.Stop.{Gives};
+ghost use Rattle.sj_records.specs.Record.{PlainDocument, IsNoDocument};
+ghost use Rattle.sj_records.specs.Stop.{Gives, IfRefused};
 ghost use Rattle.sj_records.specs.declared.reader.Stop.TheVariants.{Memory};
 
 use crate::document::{Document, add_member};
 use sj_base::StaticNode;
 use std::alloc::{AllocError, AllocFailed, Global};
+
+/// In bytes.
+const LONGEST_LINE: usize = u32::MAX as usize;
 
 /// Why reading stopped.
 #[derive(Clone, Copy, Debug)]
@@ -73,6 +78,13 @@ fn skip_spaces(bytes: &[u8]) -> &[u8]
         rest = others;
     }
     rest
+}
+
+/// Whether nothing but whitespace is there.
+pub(crate) fn is_blank(bytes: &[u8]) -> bool
+    ensures { IsTrue result ↔ AreSpaces bytes.now }
+{
+    skip_spaces(bytes).is_empty()
 }
 
 /// What stands behind the word.
@@ -266,7 +278,9 @@ fn read_items(alloc: Global, bytes: &[u8], depth: usize) -> Result<(Vec<Document
     loop {
         let (item, after) = read_padded(alloc, rest, depth)?;
         items.push(item)?;
-        let (separator, more) = split_first(after).ok_or(Stop::Refused)?;
+        let Some((separator, more)) = split_first(after) else {
+            return Err(Stop::Refused);
+        };
         if separator == b']' {
             return Ok((items, more));
         }
@@ -315,7 +329,9 @@ fn read_members(
     loop {
         let ((key, value), after) = read_pair(alloc, rest, depth)?;
         add_member(&mut members, key, value)?;
-        let (separator, more) = split_first(after).ok_or(Stop::Refused)?;
+        let Some((separator, more)) = split_first(after) else {
+            return Err(Stop::Refused);
+        };
         if separator == b'}' {
             return Ok((members, more));
         }
@@ -324,4 +340,23 @@ fn read_members(
         }
         rest = more;
     }
+}
+
+/// The document of a line: one value with whitespace around it, or nothing else. No longer line than `u32::MAX` bytes is read.
+pub(crate) fn read_document(
+    alloc: Global,
+    line: &[u8],
+    depth: usize,
+) -> Result<Document, Stop>
+    ensures found { IfOk result (λ d. (t : Tree) × PlainDocument line.now depth t × (tree_of d ≡ keep t)) }
+    ensures refused { IfErr result (λ e. IfRefused e (IsNoDocument line.now depth)) }
+{
+    if line.len() > LONGEST_LINE {
+        return Err(Stop::Refused);
+    }
+    let (document, rest) = read_padded(alloc, line, depth)?;
+    if !rest.is_empty() {
+        return Err(Stop::Refused);
+    }
+    Ok(document)
 }

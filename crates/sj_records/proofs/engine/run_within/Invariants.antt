@@ -1,0 +1,13 @@
+use Rattle.std.proofs.Common.{◌≡◌, ◌+◌, ◌<◌, vec_len}
+use Rattle.sj_records.specs.Run.{missed, GoesOn}
+use Rattle.sj_records.proofs.Running.{Running}
+use Rattle.sj_records.proofs.engine.run_within.Given as goal
+
+abbrev pub invariant-loop : goal.invariant-loop
+invariant-loop g l = record {
+  running : Running l.task (g.R.Source.remaining l.initial.reader) (g.R.Source.remaining l.reader) (g.W.Sink.contents l.initial.writer) (g.W.Sink.contents l.writer) l.pending.line.items;
+  goes_on : GoesOn (g.R.Source.calls l.initial.reader) (g.R.Source.calls l.reader);
+  made : (g.R.Source.calls l.reader).made ≡ (g.R.Source.calls l.initial.reader).made + l.counter;
+  written : missed (g.W.Sink.calls l.writer) ≡ missed (g.W.Sink.calls l.initial.writer);
+  room : 0 < vec_len l.piece
+}

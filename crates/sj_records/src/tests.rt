@@ -1,0 +1,331 @@
+use super::*;
+use sj_base::{Counted, Error, ErrorType};
+use std::alloc::Global;
+use std::io;
+use std::io::{ErrorKind, Read, Write};
+use std::marker::Brand;
+use std::process::Abort;
+use std::sync::ledger::{Blank, Ledger};
+use std::test::Fail;
+
+const LIMIT: usize = 1024;
+
+// Gives its bytes, at most `step` a read, then an error of the kind, and then its end. Where `is_cut`,
+// an interruption comes before each read.
+#[derive(Drop)]
+struct Pieces<'a> {
+    bytes: &'a [u8],
+    step: usize,
+    failure: Option<ErrorKind>,
+    is_cut: bool,
+    was_cut: bool,
+}
+
+impl<'a> Pieces<'a> {
+    fn new(bytes: &'a [u8], step: usize) -> Pieces<'a> {
+        Pieces {
+            bytes,
+            step,
+            failure: None,
+            is_cut: false,
+            was_cut: false,
+        }
+    }
+}
+
+impl Read for Pieces<'_> {
+    fn read(&mut self, buf: &mut [u8]) -> io::Result<usize> {
+        if self.is_cut && !self.was_cut {
+            self.was_cut = true;
+            return Err(io::Error::from(ErrorKind::Interrupted));
+        }
+        self.was_cut = false;
+        if self.bytes.is_empty() {
+            return match self.failure.take() {
+                Some(kind) => Err(io::Error::from(kind)),
+                None => Ok(0),
+            };
+        }
+        let taken = self.step.min(buf.len());
+        self.bytes.read(&mut buf[..taken])
+    }
+}
+
+// How a writer refuses what it has no room for.
+#[derive(Clone, Copy, Debug)]
+enum Refusal {
+    Fails,
+    Interrupts,
+    TakesNothing,
+}
+
+// Takes at most `step` bytes a write, and `room` in all.
+#[derive(Drop)]
+struct Narrow {
+    taken: Vec<u8>,
+    step: usize,
+    room: usize,
+    refusal: Refusal,
+}
+
+impl Write for Narrow {
+    fn write(&mut self, buf: &[u8]) -> io::Result<usize> {
+        let taken = buf.len().min(self.step).min(self.room);
+        if taken == 0 && !buf.is_empty() {
+            return match self.refusal {
+                Refusal::Fails => Err(io::Error::from(ErrorKind::Other)),
+                Refusal::Interrupts => Err(io::Error::from(ErrorKind::Interrupted)),
+                Refusal::TakesNothing => Ok(0),
+            };
+        }
+        self.taken.extend_from_slice(&buf[..taken])?;
+        self.room -= taken;
+        Ok(taken)
+    }
+
+    fn flush(&mut self) -> io::Result<()> {
+        Ok(())
+    }
+}
+
+// A run with counts, which the blanks open.
+fn counted_run<I: Read + Drop, O: Write + Drop, L: Ledger, M: Ledger>(
+    alloc: Global,
+    input: I,
+    output: &mut O,
+    script: &Script,
+    depth: usize,
+    reads: Blank,
+    writes: Blank,
+) -> Result<(), RunError>
+    requires reads { (reads.name ≡ L.name) × (reads.parts ≡ L.parts) × (reads.parts ≡ 4) }
+    requires writes { (writes.name ≡ M.name) × (writes.parts ≡ M.parts) × (writes.parts ≡ 4) }
+{
+    let mut source = Counted::<I, L>::new(input, reads);
+    let mut sink = Counted::<&mut O, M>::new(output, writes);
+    let result = run(alloc, &mut source, &mut sink, script, depth, Form::Owned);
+    let _ = source.into_inner();
+    let _ = sink.into_inner();
+    result
+}
+
+fn run_on<I: Read + Drop, O: Write + Drop>(
+    alloc: Global,
+    input: I,
+    output: &mut O,
+    script: &Script,
+    depth: usize,
+) -> Result<(), RunError> {
+    counted_run::<I, O, Brand, Brand>(
+        alloc,
+        input,
+        output,
+        script,
+        depth,
+        Blank::new(4),
+        Blank::new(4),
+    )
+}
+
+fn script_of(alloc: Global, text: &str) -> Result<Script, ScriptFault> {
+    let mut bytes = Vec::from_slice(alloc, text.as_bytes())?;
+    Script::read(alloc, &mut bytes)
+}
+
+// What a script writes for a stream that comes in pieces of so many bytes.
+fn written(
+    rt: &impl Abort,
+    alloc: Global,
+    script: &str,
+    stream: &str,
+    depth: usize,
+    step: usize,
+) -> Vec<u8> {
+    let script = script_of(alloc, script).expect(rt, "a script");
+    let mut output = Vec::new(alloc);
+    let input = Pieces::new(stream.as_bytes(), step);
+    let result = run_on(alloc, input, &mut output, &script, depth);
+    assert_eq!(rt; result, Ok(()));
+    output
+}
+
+#[test]
+fn rows(rt: HostRuntime) {
+    for (script, stream, output) in [
+        (
+            "[[\"get\",[\"key\"]]]",
+            "{\"key\": \"value\", \"snot\": 42}\n",
+            "{\"replies\":[[\"value\"]],\"document\":{\"key\":\"value\",\"snot\":42}}\n",
+        ),
+        (
+            "[[\"get\",[\"a\"]],[\"get\",[\"b\"]]]",
+            "{\"a\":1,\"a\":2}\n",
+            "{\"replies\":[[1],[]],\"document\":{\"a\":1}}\n",
+        ),
+        (
+            "[[\"get\",[1]]]",
+            "[-0,[7]]\n",
+            "{\"replies\":[[[7]]],\"document\":[0,[7]]}\n",
+        ),
+        ("[]", "null", "{\"replies\":[],\"document\":null}\n"),
+        (
+            "[]",
+            "[1.5]\n",
+            "{\"error\":\"NoStructure\",\"index\":0,\"character\":null}\n",
+        ),
+        (
+            "[]",
+            "\n",
+            "{\"error\":\"Eof\",\"index\":0,\"character\":null}\n",
+        ),
+        ("[]", "", ""),
+        ("[]", "1\r\n", "{\"replies\":[],\"document\":1}\n"),
+        (
+            "[[\"get\",[]],[\"get\",[0,\"k\",1]]]",
+            " [ {\"k\" : [true,false]} ] \n \nnull",
+            "{\"replies\":[[[{\"k\":[true,false]}]],[false]],\"document\":[{\"k\":[true,false]}]}\n\
+             {\"error\":\"Eof\",\"index\":0,\"character\":null}\n\
+             {\"replies\":[[null],[]],\"document\":null}\n",
+        ),
+    ] {
+        for step in [1, 2, 65536] {
+            let found = written(&rt, rt.alloc(), script, stream, LIMIT, step);
+            assert_eq!(rt; found.as_slice(), output.as_bytes(), "{stream} by {step}");
+        }
+    }
+}
+
+#[test]
+fn limits(rt: HostRuntime) {
+    let refused = "{\"error\":\"NoStructure\",\"index\":0,\"character\":null}\n";
+    for (stream, depth, output) in [
+        ("[[]]", 2, "{\"replies\":[],\"document\":[[]]}\n"),
+        ("[[]]", 1, refused),
+        ("7", 0, "{\"replies\":[],\"document\":7}\n"),
+        ("[]", 0, refused),
+        ("18446744073709551615", 0, "{\"replies\":[],\"document\":18446744073709551615}\n"),
+        ("18446744073709551616", 0, refused),
+        ("-9223372036854775808", 0, "{\"replies\":[],\"document\":-9223372036854775808}\n"),
+        ("-9223372036854775809", 0, refused),
+        ("[01]", 9, refused),
+        ("[1,]", 9, refused),
+        ("{\"a\":1,}", 9, refused),
+        ("1 2", 9, refused),
+        ("\"a\\n\"", 9, refused),
+    ] {
+        let found = written(&rt, rt.alloc(), "[]", stream, depth, 65536);
+        assert_eq!(rt; found.as_slice(), output.as_bytes(), "{stream} under {depth}");
+    }
+}
+
+#[test]
+fn refused_scripts(rt: HostRuntime) -> Result<(), Fail> {
+    let none = Error::generic(ErrorType::NoStructure);
+    let blank = Error::generic(ErrorType::Eof);
+    for (script, fault, text) in [
+        (
+            "[[\"get\"]]",
+            ScriptFault::Command { place: 0, fault: CommandFault::WrongCount },
+            "command 0: WrongCount",
+        ),
+        (
+            "[[\"get\",[]],[\"frob\",[]]]",
+            ScriptFault::Command { place: 1, fault: CommandFault::UnknownName },
+            "command 1: UnknownName",
+        ),
+        ("{}", ScriptFault::NotAnArray, "NotAnArray"),
+        (
+            "[[\"get\",[-1]]]",
+            ScriptFault::Command { place: 0, fault: CommandFault::BadPath },
+            "command 0: BadPath",
+        ),
+        (
+            "[[]]",
+            ScriptFault::Command { place: 0, fault: CommandFault::NoName },
+            "command 0: NoName",
+        ),
+        (
+            "[7]",
+            ScriptFault::Command { place: 0, fault: CommandFault::NotAnArray },
+            "command 0: NotAnArray",
+        ),
+        (
+            "[[\"get\",[-1],1]]",
+            ScriptFault::Command { place: 0, fault: CommandFault::WrongCount },
+            "command 0: WrongCount",
+        ),
+        ("time", ScriptFault::Json(none), "NoStructure at 0"),
+        (" ", ScriptFault::Json(blank), "Eof at 0"),
+    ] {
+        let found = script_of(rt.alloc(), script).err();
+        assert_eq!(rt; found, Some(fault), "{script}");
+        let mut out = Vec::from_slice(rt.alloc(), b"is ")?;
+        fault.put_fault(&mut out)?;
+        assert_eq!(rt; &out[3..], text.as_bytes(), "{script}");
+    }
+    Ok(())
+}
+
+#[test]
+fn accepted_script(rt: HostRuntime) -> Result<(), Fail> {
+    let script = script_of(rt.alloc(), "[[\"get\",[\"a\",-0]],[\"get\",[]]]");
+    let script = script.expect(&rt, "a script");
+    assert!(rt; !script.is_empty());
+    assert_eq!(rt; script.len(), 2);
+    let Command::Get(path) = script.command(0);
+    assert_eq!(rt; path.len(), 2);
+    assert!(rt; matches!(&path[0], PathPart::Key(key) if key.as_str() == "a"));
+    assert!(rt; matches!(&path[1], PathPart::Item(0)));
+    let Command::Get(path) = script.command(1);
+    assert!(rt; path.is_empty());
+    let empty = script_of(rt.alloc(), "[]").expect(&rt, "a script");
+    assert!(rt; empty.is_empty());
+    Ok(())
+}
+
+#[test]
+fn failing_reader(rt: HostRuntime) {
+    let script = script_of(rt.alloc(), "[]").expect(&rt, "a script");
+    for step in [1, 65536] {
+        let mut input = Pieces::new(b"1\n2", step);
+        input.failure = Some(ErrorKind::Other);
+        let mut output = Vec::new(rt.alloc());
+        let result = run_on(rt.alloc(), input, &mut output, &script, LIMIT);
+        assert_eq!(rt; result, Err(RunError::Read));
+        assert_eq!(rt; output.as_slice(), b"{\"replies\":[],\"document\":1}\n".as_slice());
+    }
+}
+
+#[test]
+fn interrupted_reader(rt: HostRuntime) {
+    let script = script_of(rt.alloc(), "[]").expect(&rt, "a script");
+    let mut input = Pieces::new(b"1\n2", 1);
+    input.is_cut = true;
+    let mut output = Vec::new(rt.alloc());
+    let result = run_on(rt.alloc(), input, &mut output, &script, LIMIT);
+    assert_eq!(rt; result, Ok(()));
+    let both = b"{\"replies\":[],\"document\":1}\n{\"replies\":[],\"document\":2}\n";
+    assert_eq!(rt; output.as_slice(), both.as_slice());
+}
+
+#[test]
+fn narrow_writer(rt: HostRuntime) {
+    let script = script_of(rt.alloc(), "[]").expect(&rt, "a script");
+    let whole = b"{\"replies\":[],\"document\":1}\n{\"replies\":[],\"document\":2}\n";
+    for refusal in [Refusal::Fails, Refusal::Interrupts, Refusal::TakesNothing] {
+        for room in 0..whole.len() + 1 {
+            let mut output = Narrow {
+                taken: Vec::new(rt.alloc()),
+                step: 7,
+                room,
+                refusal,
+            };
+            let input: &[u8] = b"1\r\n2";
+            let result = run_on(rt.alloc(), input, &mut output, &script, LIMIT);
+            let is_whole = room == whole.len();
+            assert_eq!(rt; result.is_ok(), is_whole, "{refusal:?} at {room}");
+            assert!(rt; is_whole || result == Err(RunError::Write));
+            assert_eq!(rt; output.taken.as_slice(), &whole[..room], "{refusal:?} at {room}");
+        }
+    }
+}
