@@ -1,4 +1,6 @@
 mod Runs
+pub mod Literals
+pub mod Carriers
 mod Fronts
 mod NumberBytes
 mod Bodies

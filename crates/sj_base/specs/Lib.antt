@@ -7,7 +7,10 @@ pub mod Keep
 pub mod Path
 pub mod Text
 pub mod Scalar
+pub mod Parts
+pub mod Literal
 pub mod Names
+pub mod Classes
 pub mod Calls
 pub mod Rows
 pub mod Laws

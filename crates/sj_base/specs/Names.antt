@@ -1,5 +1,7 @@
--- The names of the kinds of errors, as they are printed.
-use Rattle.std.specs.Prelude.{ℕ, List, codes}
+-- How errors and their kinds are printed.
+use Rattle.std.specs.Prelude.{ℕ, List, [], ◌++◌, codes, decimal, encode_utf8}
+use Rattle.std.specs.Option.{option_map_or}
+use Rattle.sj_base.specs.declared.error.Error.{Error}
 use Rattle.sj_base.specs.declared.error.ErrorType.{ErrorType}
 use Rattle.sj_base.specs.declared.error.ErrorType.TheVariants.{Unexpected, InputTooLarge, InsufficientPadding, BadKeyType, ExpectedArray, ExpectedArrayComma, ExpectedBoolean, ExpectedEnum, ExpectedFloat, ExpectedInteger, ExpectedMap, ExpectedObjectColon, ExpectedMapComma, ExpectedMapEnd, ExpectedNull, ExpectedTrue, ExpectedFalse, ExpectedNumber, ExpectedSigned, ExpectedString, ExpectedUnsigned, InternalError, InvalidEscape, InvalidExponent, InvalidNumber, InvalidUtf8, InvalidUnicodeEscape, InvalidUnicodeCodepoint, KeyMustBeAString, NoStructure, Parser, Eof, Serde, Syntax, TrailingData, UnexpectedCharacter, UnterminatedString, ExpectedArrayContent, ExpectedObjectContent, ExpectedObjectKey, OutOfMemory}
 
@@ -45,3 +47,8 @@ name_of ExpectedArrayContent = codes "ExpectedArrayContent"
 name_of ExpectedObjectContent = codes "ExpectedObjectContent"
 name_of ExpectedObjectKey = codes "ExpectedObjectKey"
 name_of OutOfMemory = codes "OutOfMemory"
+
+-- the kind, the index, and the character where there is one
+abbrev pub error_text : Error → List ℕ
+error_text e =
+    name_of e.error ++ (codes " at character " ++ (decimal e.index ++ option_map_or (λ c. codes " ('" ++ (encode_utf8 c ++ codes "')")) e.character []))

@@ -1,6 +1,9 @@
 //! What is wrong with a text, and where.
-ghost use Rattle.std.specs.Prelude.{◌≡◌, Some, None};
-ghost use Rattle.sj_base.specs.Names.{name_of};
+ghost use Rattle.std.specs.Prelude.{◌≡◌, ◌≢◌, ◌↔◌, Some, None, IsTrue};
+ghost use Rattle.sj_base.specs.Names.{name_of, error_text};
+ghost use Rattle.sj_base.specs.Classes.{class_of, io_class, eof_class, syntax_class, data_class};
+
+use std::fmt;
 
 /// The kind of an error. It has the names of `simd_json::ErrorType`, without their payloads.
 #[derive(Clone, Copy, Debug, PartialEq, Eq)]
@@ -150,4 +153,76 @@ impl Error {
     {
         self.error
     }
+
+    /// Whether reading or writing failed. No kind says so.
+    pub fn is_io(&self) -> bool
+        ensures { IsTrue result ↔ (class_of self.now.error ≡ io_class) }
+    {
+        false
+    }
+
+    /// Whether the input ended too early.
+    pub fn is_eof(&self) -> bool
+        ensures { IsTrue result ↔ (class_of self.now.error ≡ eof_class) }
+    {
+        let Error { error, .. } = self;
+        *error == ErrorType::Eof
+    }
+
+    /// Whether the input is no JSON text within the limits.
+    pub fn is_syntax(&self) -> bool
+        ensures { IsTrue result ↔ (class_of self.now.error ≡ syntax_class) }
+    {
+        let Error { error, .. } = self;
+        matches!(
+            error,
+            ErrorType::InternalError
+                | ErrorType::Syntax
+                | ErrorType::ExpectedArrayContent
+                | ErrorType::ExpectedObjectContent
+                | ErrorType::ExpectedObjectKey
+                | ErrorType::ExpectedObjectColon
+                | ErrorType::ExpectedArrayComma
+                | ErrorType::ExpectedMapComma
+                | ErrorType::ExpectedTrue
+                | ErrorType::ExpectedFalse
+                | ErrorType::ExpectedNull
+                | ErrorType::InvalidNumber
+                | ErrorType::InvalidEscape
+                | ErrorType::InvalidUnicodeEscape
+                | ErrorType::InvalidUnicodeCodepoint
+                | ErrorType::TrailingData
+                | ErrorType::InvalidUtf8
+        )
+    }
+
+    /// Whether the error is about anything else, as memory or a value of another type.
+    pub fn is_data(&self) -> bool
+        ensures class { IsTrue result ↔ (class_of self.now.error ≡ data_class) }
+        // of the four tests exactly one is true
+        ensures exactly_one { let class = class_of self.now.error in
+            IsTrue result ↔ ((class ≢ io_class) × (class ≢ eof_class) × (class ≢ syntax_class)) }
+    {
+        !self.is_io() && !self.is_eof() && !self.is_syntax()
+    }
 }
+
+impl fmt::Display for Error {
+    ghost output = { λ e. Some (error_text e) };
+
+    fn fmt<W: fmt::Write>(&self, f: &mut fmt::Formatter<W>) -> fmt::Result {
+        let Error {
+            error,
+            index,
+            character,
+        } = self;
+        let name = error.name();
+        write!(f, "{name} at character {index}")?;
+        if let Some(character) = character {
+            write!(f, " ('{character}')")?;
+        }
+        Ok(())
+    }
+}
+
+impl std::error::Error for Error {}

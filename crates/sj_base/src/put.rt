@@ -2,8 +2,11 @@
 ghost use Rattle.std.specs.Prelude.{◌≡◌, ◌<◌, [], ◌∷◌, ◌++◌, IsTrue, OnOk, OnErr, flat_map};
 ghost use Rattle.std.specs.Char.{digit_char};
 ghost use Rattle.std.specs.Io.{StartsWith};
-ghost use Rattle.sj_base.specs.Text.{escaped, quoted};
+ghost use Rattle.sj_base.specs.Scalar.{static_tree, scalar_tree};
+ghost use Rattle.sj_base.specs.Text.{escaped, quoted, text, line_break};
 
+use crate::scalar::Scalar;
+use crate::static_node::StaticNode;
 use itoa::{Buffer, Integer};
 use std::alloc::AllocError;
 
@@ -28,6 +31,56 @@ pub fn put_int<I: Integer>(out: &mut Vec<u8>, n: I) -> Result<(), AllocError>
 {
     let mut buffer = Buffer::new();
     out.extend_from_slice(buffer.format(n).as_bytes())
+}
+
+/// Appends the scalar's compact text. Without memory it appends nothing.
+pub fn put_text(out: &mut Vec<u8>, scalar: &Scalar<'_>) -> Result<(), AllocError>
+    ensures ok { OnOk result (out.new.items ≡ out.old.items ++ text (scalar_tree scalar.now)) }
+    ensures err { OnErr result (out.new.items ≡ out.old.items) }
+{
+    match scalar {
+        Scalar::Static(node) => put_static(out, *node),
+        Scalar::Text(text) => put_string(out, text),
+        Scalar::Literal(literal) => out.extend_from_slice(literal.as_str().as_bytes()),
+    }
+}
+
+/// Appends a line feed and 2 spaces a level. Without memory it appends nothing.
+pub fn put_break(out: &mut Vec<u8>, level: usize) -> Result<(), AllocError>
+    ensures ok { OnOk result (out.new.items ≡ out.old.items ++ line_break level) }
+    ensures err { OnErr result (out.new.items ≡ out.old.items) }
+{
+    let length = out.len();
+    if let Err(e) = put_indent(out, level) {
+        out.truncate(length);
+        return Err(e);
+    }
+    Ok(())
+}
+
+fn put_static(out: &mut Vec<u8>, node: StaticNode) -> Result<(), AllocError>
+    ensures ok { OnOk result (out.new.items ≡ out.old.items ++ text (static_tree node)) }
+    ensures err { OnErr result (out.new.items ≡ out.old.items) }
+{
+    match node {
+        StaticNode::Null => out.extend_from_slice(b"null"),
+        StaticNode::Bool(true) => out.extend_from_slice(b"true"),
+        StaticNode::Bool(false) => out.extend_from_slice(b"false"),
+        StaticNode::I64(n) => put_int(out, n),
+        StaticNode::U64(n) => put_int(out, n),
+    }
+}
+
+// Without memory, a part of the spaces may stand.
+fn put_indent(out: &mut Vec<u8>, level: usize) -> Result<(), AllocError>
+    ensures ok { OnOk result (out.new.items ≡ out.old.items ++ line_break level) }
+    ensures err { OnErr result (StartsWith out.new.items out.old.items) }
+{
+    out.push(b'\n')?;
+    for _i in 0..level {
+        out.extend_from_slice(b"  ")?;
+    }
+    Ok(())
 }
 
 // Without memory, a part of the text may stand.

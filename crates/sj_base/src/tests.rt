@@ -1,6 +1,7 @@
 ghost use Rattle.std.specs.Prelude.{◌≡◌, ◌+◌};
 
 use super::*;
+use std::alloc::AllocError;
 use std::io;
 use std::io::{ErrorKind, Read};
 use std::marker::Brand;
@@ -38,6 +39,117 @@ fn errors(rt: HostRuntime) {
     assert_eq!(rt; (error.index(), error.character()), (7, Some('\u{e9}')));
     let error = Error::generic(ErrorType::OutOfMemory);
     assert_eq!(rt; (error.index(), error.character()), (0, None));
+}
+
+#[test]
+fn error_texts(rt: HostRuntime) -> Result<(), Fail> {
+    let error = Error::at(ErrorType::ExpectedTrue, 5, b't');
+    let text = error.to_string(rt.alloc())?;
+    assert_eq!(rt; text.as_str(), "ExpectedTrue at character 5 ('t')");
+    let text = Error::generic(ErrorType::Eof).to_string(rt.alloc())?;
+    assert_eq!(rt; text.as_str(), "Eof at character 0");
+    let met = TryTypeError {
+        expected: ValueType::I64,
+        got: ValueType::Bool,
+    };
+    let text = met.to_string(rt.alloc())?;
+    assert_eq!(rt; text.as_str(), "TryTypeError");
+    for (fault, name) in [
+        (AccessError::NotAnObject, "NotAnObject"),
+        (AccessError::NotAnArray, "NotAnArray"),
+        (AccessError::Memory, "Memory"),
+    ] {
+        let text = fault.to_string(rt.alloc())?;
+        assert_eq!(rt; text.as_str(), name);
+    }
+    Ok(())
+}
+
+#[test]
+fn classes(rt: HostRuntime) {
+    for (kind, is_eof, is_syntax, is_data) in [
+        (ErrorType::Eof, true, false, false),
+        (ErrorType::ExpectedTrue, false, true, false),
+        (ErrorType::InvalidUtf8, false, true, false),
+        (ErrorType::InputTooLarge, false, false, true),
+        (ErrorType::OutOfMemory, false, false, true),
+    ] {
+        let error = Error::generic(kind);
+        assert!(rt; !error.is_io());
+        assert_eq!(rt; error.is_eof(), is_eof);
+        assert_eq!(rt; error.is_syntax(), is_syntax);
+        assert_eq!(rt; error.is_data(), is_data);
+    }
+}
+
+#[test]
+fn static_nodes(rt: HostRuntime) -> Result<(), Fail> {
+    assert!(rt; StaticNode::I64(5) == StaticNode::U64(5));
+    assert!(rt; StaticNode::I64(-1) != StaticNode::U64(u64::MAX));
+    assert!(rt; StaticNode::Null != StaticNode::Bool(false));
+    assert_eq!(rt; StaticNode::I64(5).value_type(), ValueType::I64);
+    assert_eq!(rt; StaticNode::U64(5).value_type(), ValueType::U64);
+    for (node, want) in [
+        (StaticNode::Null, "null"),
+        (StaticNode::Bool(true), "true"),
+        (StaticNode::I64(-7), "-7"),
+        (StaticNode::U64(u64::MAX), "18446744073709551615"),
+    ] {
+        let text = node.to_string(rt.alloc())?;
+        assert_eq!(rt; text.as_str(), want);
+    }
+    Ok(())
+}
+
+fn copy_of<T: TryCopy>(value: &T) -> Result<T, AllocError> {
+    value.try_clone()
+}
+
+#[test]
+fn decimals(rt: HostRuntime) -> Result<(), Fail> {
+    for text in ["1.50", "-0e0", "1E+5"] {
+        let literal = Decimal::new(text).ok_or("refused")?;
+        assert_eq!(rt; literal.as_str(), text);
+        let owned = DecimalBuf::new(rt.alloc(), literal)?;
+        assert_eq!(rt; copy_of(&owned)?.as_decimal().as_str(), text);
+        let cow = DecimalCow::Owned(owned);
+        assert_eq!(rt; copy_of(&cow)?.as_decimal().as_str(), text);
+        let cow = DecimalCow::Borrowed(literal);
+        assert_eq!(rt; copy_of(&cow)?.as_decimal().as_str(), text);
+    }
+    for text in [
+        "1", "01.5", "1.", ".5", "1e", "+1.5", "", "1.5 ", "-", "1.5e+",
+    ] {
+        assert!(rt; Decimal::new(text).is_none(), "at {text}");
+    }
+    Ok(())
+}
+
+#[test]
+fn scalars(rt: HostRuntime) -> Result<(), Fail> {
+    let mut out = Vec::new(rt.alloc());
+    let literal = Decimal::new("1.50").ok_or("refused")?;
+    for scalar in [
+        Scalar::Static(StaticNode::Null),
+        Scalar::Static(StaticNode::Bool(false)),
+        Scalar::Static(StaticNode::I64(-3)),
+        Scalar::Text("a\"b"),
+        Scalar::Literal(literal),
+    ] {
+        put_text(&mut out, &scalar)?;
+        put_break(&mut out, 2)?;
+    }
+    let want = "null\n    false\n    -3\n    \"a\\\"b\"\n    1.50\n    ";
+    assert_eq!(rt; out.as_slice(), want.as_bytes());
+    out.clear();
+    put_break(&mut out, 0)?;
+    assert_eq!(rt; out.as_slice(), b"\n".as_slice());
+    Ok(())
+}
+
+#[test]
+fn limits(rt: HostRuntime) {
+    assert_eq!(rt; (DEFAULT_MAX_DEPTH, INPUT_PADDING), (1024, 64));
 }
 
 // One byte a call, and every second call is interrupted.

@@ -1,0 +1,22 @@
+//! What is wrong with a call on a value of the wrong type.
+use crate::static_node::ValueType;
+use thiserror::Error;
+
+/// A read that asked for another type than it met (`value_trait::TryTypeError`).
+#[derive(Clone, Copy, Debug, PartialEq, Eq, Error)]
+#[error("TryTypeError")]
+pub struct TryTypeError {
+    pub expected: ValueType,
+    pub got: ValueType,
+}
+
+/// A write to a value that has no members or items, or for which there is no memory (`value_trait::AccessError`).
+#[derive(Clone, Copy, Debug, PartialEq, Eq, Error)]
+pub enum AccessError {
+    #[error("NotAnObject")]
+    NotAnObject,
+    #[error("NotAnArray")]
+    NotAnArray,
+    #[error("Memory")]
+    Memory,
+}

@@ -1,0 +1,3 @@
+pub mod Reads
+pub mod Views
+pub mod Member
