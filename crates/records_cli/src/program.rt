@@ -6,16 +6,13 @@ ghost use Rattle.records_cli.specs.Fault.{status_of};
 use crate::fault::Fault;
 use crate::load::LoadFault;
 use crate::words::{Words, read_words};
-use sj_base::Counted;
+use sj_base::{Counted, DEFAULT_MAX_DEPTH};
 use sj_records::{Form, Script, ScriptFault, run};
 use std::alloc::{AllocError, Global};
 use std::convert::AsStr;
 use std::io::{Read, Write};
 use std::marker::Brand;
 use std::sync::ledger::{Blank, Ledger};
-
-/// So deep a document may be.
-const DEFAULT_MAX_DEPTH: usize = 1024;
 
 /// Does what the words ask for, and answers the exit status. What is wrong is written to `faults`.
 pub fn program<S, L, I, O, E>(

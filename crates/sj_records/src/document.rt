@@ -2,7 +2,6 @@
 ghost use Rattle.std.specs.Prelude.{◌≡◌, ◌++◌, OnOk, OnErr, option_map, string_bytes};
 ghost use Rattle.sj_base.specs.Tree.{list, object};
 ghost use Rattle.sj_base.specs.Path.{key, place, member_at, item_at, child, at};
-ghost use Rattle.sj_base.specs.Scalar.{static_tree};
 ghost use Rattle.sj_base.specs.Text.{text};
 ghost use Rattle.sj_records.specs.Step.{reply_of};
 ghost use Rattle.sj_records.specs.Separators.{comma};
@@ -10,7 +9,7 @@ ghost use Rattle.sj_records.specs.View.{tree_of, items_view, members_view, part_
 ghost use Rattle.sj_records.specs.Kept.{add_member};
 
 use crate::path::PathPart;
-use sj_base::{StaticNode, put_int, put_string};
+use sj_base::{Scalar, StaticNode, put_string, put_text};
 use std::alloc::AllocError;
 
 // An object keeps its members in the order of its text.
@@ -41,8 +40,8 @@ impl Document {
         ensures { OnOk result (out.new.items ≡ out.old.items ++ text (tree_of self.now)) }
     {
         match self {
-            Document::Static(scalar) => put_static(*scalar, out),
-            Document::String(string) => put_string(out, string),
+            Document::Static(scalar) => put_text(out, &Scalar::Static(*scalar)),
+            Document::String(string) => put_text(out, &Scalar::Text(string)),
             Document::Array(items) => put_items(items, out),
             Document::Object(members) => put_members(members, out),
         }
@@ -103,18 +102,6 @@ pub(crate) fn add_member(
         members.push((key, value))?;
     }
     Ok(())
-}
-
-fn put_static(scalar: StaticNode, out: &mut Vec<u8>) -> Result<(), AllocError>
-    ensures { OnOk result (out.new.items ≡ out.old.items ++ text (static_tree scalar)) }
-{
-    match scalar {
-        StaticNode::Null => out.extend_from_slice(b"null"),
-        StaticNode::Bool(true) => out.extend_from_slice(b"true"),
-        StaticNode::Bool(false) => out.extend_from_slice(b"false"),
-        StaticNode::I64(n) => put_int(out, n),
-        StaticNode::U64(n) => put_int(out, n),
-    }
 }
 
 #[cycle(put)]
