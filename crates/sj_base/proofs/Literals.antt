@@ -1,14 +1,13 @@
 -- A text is accepted part by part exactly where it is a decimal literal.
-use Rattle.std.specs.Prelude.{◌≡◌, ◌≢◌, ℕ, ◌≤◌, ◌<◌, ◌⊎◌, Bool, true, false, cond, ◌==◌, ◌||◌, nat_le, List, [], ◌∷◌, ◌++◌, length}
+use Rattle.std.specs.Prelude.{◌≡◌, ◌≢◌, ℕ, ◌≤◌, ◌<◌, ◌⊎◌, Bool, true, false, cond, ◌==◌, ◌||◌, nat_le, List, [], ◌∷◌, ◌++◌}
 use Rattle.std.specs.List.{AllByRecursion}
 use Rattle.std.specs.Char.{is_ascii_digit, IsAsciiDigit}
-use Rattle.std.proofs.Common.{refl, sym, ap, ◌∙◌, subst, inl, inr, arith, append_assoc}
+use Rattle.std.proofs.Common.{refl, sym, ap, ◌∙◌, subst, inl, inr, arith}
 use Rattle.std.proofs.Math.Bool.{Bool-set}
 use Rattle.std.proofs.Math.Logic.{∥∥₁_elim}
 use Rattle.std.proofs.lemmas.Bool.{and_parts, and_from, or_cases, or_from, eqb-true, ne_eqb, leb-true, le-leb, cond-true, cond-false}
-use Rattle.std.proofs.lemmas.List.{append-nil}
 use Rattle.sj_base.specs.Number.{minus, IsDigits, IsWhole, IsFraction, IsExponent, IsDecimal}
-use Rattle.sj_base.specs.Parts.{next_part, is_end, accepted}
+use Rattle.sj_base.specs.Parts.{next_part, accepted}
 use Rattle.sj_base.specs.declared.part.Part.{Part}
 use Rattle.sj_base.specs.declared.part.Part.TheVariants.{Start, Minus, Zero, Whole, Point, Fraction, Letter, Sign, Exponent, Wrong}
 

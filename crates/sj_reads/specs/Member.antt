@@ -1,5 +1,5 @@
 -- Members by name.
-use Rattle.std.specs.Prelude.{ℕ, List, Option, Some, None, Result, Ok, Err, ok_or, option_map}
+use Rattle.std.specs.Prelude.{Option, Some, None, Result, Ok, Err, ok_or, option_map}
 use Rattle.sj_base.specs.Tree.{Tree}
 use Rattle.sj_base.specs.Scalar.{scalar_tree}
 use Rattle.sj_base.specs.declared.fault.TryTypeError.{TryTypeError}

@@ -1,6 +1,6 @@
 -- What a typed read answers on a value. The value is seen as the tree of its scalar, where it holds one.
 use Rattle.std.specs.Prelude.{ℕ, ℤ, pos, negsuc, ◌^◌, Bool, cond, nat_lt, List, Option, Some, None, option_and_then}
-use Rattle.sj_base.specs.Tree.{Tree, null, boolean, integer, decimal, string, list, object}
+use Rattle.sj_base.specs.Tree.{Tree, null, boolean, integer, decimal, string}
 use Rattle.sj_base.specs.declared.fault.TryTypeError.{TryTypeError}
 use Rattle.sj_base.specs.declared.static_node.ValueType.{ValueType}
 

@@ -1,5 +1,5 @@
 -- Texts and literals that reads answer, as lists of bytes.
-use Rattle.std.specs.Prelude.{ℕ, List, Option, Some, None, Result, Ok, Err, option_map}
+use Rattle.std.specs.Prelude.{ℕ, List, Option, Result, Ok, Err, option_map}
 use Rattle.std.specs.Borrow.{Bor}
 use Rattle.sj_base.specs.Literal.{decimal_text}
 use Rattle.sj_base.specs.declared.decimal.Decimal.{Decimal}
