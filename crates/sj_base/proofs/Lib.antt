@@ -14,3 +14,4 @@ mod Pretty
 mod Trees
 mod Utf8
 mod OneLine
+pub mod Spelled
