@@ -4,8 +4,8 @@
 mod decimal;
 mod error;
 mod fault;
-mod part;
 pub mod laws;
+mod part;
 mod put;
 mod scalar;
 mod static_node;
