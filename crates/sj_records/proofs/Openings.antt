@@ -14,17 +14,17 @@ pub after_byte-is : (c : ℕ) (bs rest : List ℕ) → after_byte c bs ≡ Some 
 after_byte-is c [] rest e = absurd cc
 after_byte-is c (b ∷ bs) rest e = found (eqb b c) refl e
   where
-  found : (t : Bool) → eqb b c ≡ t → cond t (Some bs) None ≡ Some rest → b ∷ bs ≡ c ∷ rest
-  found true same e = let first : b ≡ c = eqb-true b c same in let others : bs ≡ rest = cc in rw (first, others) refl
-  found false same e = absurd cc
+    found : (t : Bool) → eqb b c ≡ t → cond t (Some bs) None ≡ Some rest → b ∷ bs ≡ c ∷ rest
+    found true same e = let first : b ≡ c = eqb-true b c same in let others : bs ≡ rest = cc in rw (first, others) refl
+    found false same e = absurd cc
 
 -- another byte stands in front
 other_byte : (c b : ℕ) (bs : List ℕ) → after_byte c (b ∷ bs) ≡ None → eqb b c ≡ false
 other_byte c b bs e = other (eqb b c) e
   where
-  other : (t : Bool) → cond t (Some bs) None ≡ None → t ≡ false
-  other true e = absurd cc
-  other false e = refl
+    other : (t : Bool) → cond t (Some bs) None ≡ None → t ≡ false
+    other true e = absurd cc
+    other false e = refl
 
 pub value_at-list : (limit : ℕ) (bs inner : List ℕ) → after_byte 0x5b bs ≡ Some inner
     → value_at (suc limit) bs ≡ mapped (λ ts. list (items_of ts)) (sequence_at 0x5d (padded_at (value_at limit)) (after_spaces inner))

@@ -74,9 +74,9 @@ module _ {A : Type 0} (close : ℕ) (read : Reader A) where
   sequence-closed [] rest e = absurd cc
   sequence-closed (b ∷ bs) rest e = closed (eqb b close) bs rest (elements_at close read (suc (length (b ∷ bs))) (b ∷ bs)) e
     where
-    closed : {B : Type 0} (t : Bool) (bs rest : List ℕ) (o : Option (List B × List ℕ)) → cond t (Some bs) None ≡ Some rest → cond t (Some ([], bs)) o ≡ Some ([], rest)
-    closed true bs rest o e = let same : bs ≡ rest = cc in rw same refl
-    closed false bs rest o e = absurd cc
+      closed : {B : Type 0} (t : Bool) (bs rest : List ℕ) (o : Option (List B × List ℕ)) → cond t (Some bs) None ≡ Some rest → cond t (Some ([], bs)) o ≡ Some ([], rest)
+      closed true bs rest o e = let same : bs ≡ rest = cc in rw same refl
+      closed false bs rest o e = absurd cc
 
   -- another byte in front, or none
   pub sequence-open : (bs : List ℕ) → read [] ≡ None → after_byte close bs ≡ None → sequence_at close read bs ≡ elements_at close read (length bs + 1) bs
@@ -85,9 +85,9 @@ module _ {A : Type 0} (close : ℕ) (read : Reader A) where
       let count : suc (length (b ∷ bs)) ≡ length (b ∷ bs) + 1 = omega arith in
       opened (eqb b close) bs (elements_at close read (suc (length (b ∷ bs))) (b ∷ bs)) e ∙ ap (λ n. elements_at close read n (b ∷ bs)) count
     where
-    opened : {B : Type 0} (t : Bool) (bs : List ℕ) (o : Option (List B × List ℕ)) → cond t (Some bs) None ≡ None → cond t (Some ([], bs)) o ≡ o
-    opened true bs o e = absurd cc
-    opened false bs o e = refl
+      opened : {B : Type 0} (t : Bool) (bs : List ℕ) (o : Option (List B × List ℕ)) → cond t (Some bs) None ≡ None → cond t (Some ([], bs)) o ≡ o
+      opened true bs o e = absurd cc
+      opened false bs o e = refl
 
 -- ---- what is left
 

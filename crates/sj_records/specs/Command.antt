@@ -12,9 +12,9 @@ pub data Step : Type 0 where
 
 -- why a script is refused
 pub data Refusal : Type 0 where
-  json : Error → Refusal                   -- the bytes are no document
-  not_an_array : Refusal                   -- the document is no array
-  command : ℕ → CommandFault → Refusal     -- the command at that place, from 0
+  json : Error → Refusal  -- the bytes are no document
+  not_an_array : Refusal  -- the document is no array
+  command : ℕ → CommandFault → Refusal  -- the command at that place, from 0
 
 -- one after the other, and the first fault
 infixl 10 ◌>>=◌

@@ -1,5 +1,5 @@
 -- Worked values: lines, the commands of scripts, and records.
-use Rattle.std.specs.Prelude.{◌≡◌, refl, pos, negsuc, true, [], ◌∷◌, ◌++◌, Ok, Err, Some, None, codes}
+use Rattle.std.specs.Prelude.{◌≡◌, refl, pos, negsuc, true, [], ◌∷◌, ◌++◌, Ok, Err, Some, codes}
 use Rattle.std.specs.Fmt.{digits}
 use Rattle.sj_base.specs.Tree.{Tree, integer, string, list, object, Items, no_items, item, no_members, member}
 use Rattle.sj_base.specs.Path.{key, place}
@@ -9,7 +9,7 @@ use Rattle.sj_base.specs.declared.error.ErrorType.TheVariants.{Eof, NoStructure,
 use Rattle.sj_records.specs.declared.form.Form.TheVariants.{Owned}
 use Rattle.sj_records.specs.declared.script.CommandFault.TheVariants.{NotAnArray, NoName, UnknownName, WrongCount, BadPath}
 use Rattle.sj_records.specs.Lines.{lines}
-use Rattle.sj_records.specs.Command.{Step, get, command, not_an_array, commands_of}
+use Rattle.sj_records.specs.Command.{get, command, not_an_array, commands_of}
 use Rattle.sj_records.specs.Record.{outcome, fault_at_no_byte, fault_record}
 
 -- lines

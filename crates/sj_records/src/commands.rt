@@ -95,11 +95,7 @@ fn read_items(alloc: Global, items: &[Document]) -> Result<Command, CommandStop>
     }
 }
 
-fn read_named(
-    alloc: Global,
-    name: &str,
-    arguments: &[Document],
-) -> Result<Command, CommandStop>
+fn read_named(alloc: Global, name: &str, arguments: &[Document]) -> Result<Command, CommandStop>
     ensures { GivesCommand command_view result (named name.now (items_view arguments.now)) }
 {
     if name != "get" {
@@ -112,10 +108,7 @@ fn read_named(
 }
 
 /// The commands of a script's document.
-pub(crate) fn read_commands(
-    alloc: Global,
-    document: &Document,
-) -> Result<Vec<Command>, ScriptFault>
+pub(crate) fn read_commands(alloc: Global, document: &Document) -> Result<Vec<Command>, ScriptFault>
     ensures { GivesScript (λ commands. commands_view commands.items) result
         (commands_of (tree_of document.now)) }
 {

@@ -83,7 +83,7 @@ fn answer_line<W: Sink>(
         → Wrote task.entry (W.contents writer.old) (W.contents writer.new) [] }
     ensures write { IsErrOf result RunError.Write
         → WrotePrefix task.entry (W.contents writer.old) (W.contents writer.new)
-            ((pending.old.line.items ++ end.now) ∷ []) }
+        ((pending.old.line.items ++ end.now) ∷ []) }
     ensures only { IfErr result (λ e. (e ≡ RunError.Memory) ⊎ (e ≡ RunError.Write)) }
     ensures writes { WritesFor result (W.calls writer.old) (W.calls writer.new) }
 {
@@ -111,10 +111,10 @@ fn feed<W: Sink>(
         (pending.new.line.items ≡ unended (pending.old.line.items ++ piece.now)) }
     ensures memory { IsErrOf result RunError.Memory
         → WroteSome task.entry (W.contents writer.old) (W.contents writer.new)
-            (ended (pending.old.line.items ++ piece.now)) }
+        (ended (pending.old.line.items ++ piece.now)) }
     ensures write { IsErrOf result RunError.Write
         → WrotePrefix task.entry (W.contents writer.old) (W.contents writer.new)
-            (ended (pending.old.line.items ++ piece.now)) }
+        (ended (pending.old.line.items ++ piece.now)) }
     ensures only { IfErr result (λ e. (e ≡ RunError.Memory) ⊎ (e ≡ RunError.Write)) }
     ensures writes { WritesFor result (W.calls writer.old) (W.calls writer.new) }
 {
@@ -140,7 +140,7 @@ fn finish<W: Sink>(
         → Wrote task.entry (W.contents writer.old) (W.contents writer.new) [] }
     ensures write { IsErrOf result RunError.Write
         → WrotePrefix task.entry (W.contents writer.old) (W.contents writer.new)
-            (if_any pending.old.line.items) }
+        (if_any pending.old.line.items) }
     ensures only { IfErr result (λ e. (e ≡ RunError.Memory) ⊎ (e ≡ RunError.Write)) }
     ensures writes { WritesFor result (W.calls writer.old) (W.calls writer.new) }
 {

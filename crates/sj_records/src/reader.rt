@@ -293,11 +293,7 @@ fn read_items(alloc: Global, bytes: &[u8], depth: usize) -> Result<(Vec<Document
 
 /// A key, a colon and a value, each with whitespace around it.
 #[cycle(read)]
-fn read_pair(
-    alloc: Global,
-    bytes: &[u8],
-    depth: usize,
-) -> Result<((String, Document), &[u8]), Stop>
+fn read_pair(alloc: Global, bytes: &[u8], depth: usize) -> Result<((String, Document), &[u8]), Stop>
     ensures { Gives (λ x. ((string_bytes x.0.0, tree_of x.0.1), x.1.now)) result
         (kept_pair (pair_at (value_at depth) bytes.now)) }
 {
@@ -343,11 +339,7 @@ fn read_members(
 }
 
 /// The document of a line: one value with whitespace around it, or nothing else. No longer line than `u32::MAX` bytes is read.
-pub(crate) fn read_document(
-    alloc: Global,
-    line: &[u8],
-    depth: usize,
-) -> Result<Document, Stop>
+pub(crate) fn read_document(alloc: Global, line: &[u8], depth: usize) -> Result<Document, Stop>
     ensures found { IfOk result (λ d. (t : Tree) × PlainDocument line.now depth t × (tree_of d ≡ keep t)) }
     ensures refused { IfErr result (λ e. IfRefused e (IsNoDocument line.now depth)) }
 {

@@ -203,9 +203,17 @@ fn limits(rt: HostRuntime) {
         ("[[]]", 1, refused),
         ("7", 0, "{\"replies\":[],\"document\":7}\n"),
         ("[]", 0, refused),
-        ("18446744073709551615", 0, "{\"replies\":[],\"document\":18446744073709551615}\n"),
+        (
+            "18446744073709551615",
+            0,
+            "{\"replies\":[],\"document\":18446744073709551615}\n",
+        ),
         ("18446744073709551616", 0, refused),
-        ("-9223372036854775808", 0, "{\"replies\":[],\"document\":-9223372036854775808}\n"),
+        (
+            "-9223372036854775808",
+            0,
+            "{\"replies\":[],\"document\":-9223372036854775808}\n",
+        ),
         ("-9223372036854775809", 0, refused),
         ("[01]", 9, refused),
         ("[1,]", 9, refused),
@@ -214,7 +222,11 @@ fn limits(rt: HostRuntime) {
         ("\"a\\n\"", 9, refused),
     ] {
         let found = written(&rt, rt.alloc(), "[]", stream, depth, 65536);
-        assert_eq!(rt; found.as_slice(), output.as_bytes(), "{stream} under {depth}");
+        assert_eq!(rt;
+            found.as_slice(),
+            output.as_bytes(),
+            "{stream} under {depth}"
+        );
     }
 }
 
@@ -225,33 +237,51 @@ fn refused_scripts(rt: HostRuntime) -> Result<(), Fail> {
     for (script, fault, text) in [
         (
             "[[\"get\"]]",
-            ScriptFault::Command { place: 0, fault: CommandFault::WrongCount },
+            ScriptFault::Command {
+                place: 0,
+                fault: CommandFault::WrongCount,
+            },
             "command 0: WrongCount",
         ),
         (
             "[[\"get\",[]],[\"frob\",[]]]",
-            ScriptFault::Command { place: 1, fault: CommandFault::UnknownName },
+            ScriptFault::Command {
+                place: 1,
+                fault: CommandFault::UnknownName,
+            },
             "command 1: UnknownName",
         ),
         ("{}", ScriptFault::NotAnArray, "NotAnArray"),
         (
             "[[\"get\",[-1]]]",
-            ScriptFault::Command { place: 0, fault: CommandFault::BadPath },
+            ScriptFault::Command {
+                place: 0,
+                fault: CommandFault::BadPath,
+            },
             "command 0: BadPath",
         ),
         (
             "[[]]",
-            ScriptFault::Command { place: 0, fault: CommandFault::NoName },
+            ScriptFault::Command {
+                place: 0,
+                fault: CommandFault::NoName,
+            },
             "command 0: NoName",
         ),
         (
             "[7]",
-            ScriptFault::Command { place: 0, fault: CommandFault::NotAnArray },
+            ScriptFault::Command {
+                place: 0,
+                fault: CommandFault::NotAnArray,
+            },
             "command 0: NotAnArray",
         ),
         (
             "[[\"get\",[-1],1]]",
-            ScriptFault::Command { place: 0, fault: CommandFault::WrongCount },
+            ScriptFault::Command {
+                place: 0,
+                fault: CommandFault::WrongCount,
+            },
             "command 0: WrongCount",
         ),
         ("time", ScriptFault::Json(none), "NoStructure at 0"),
@@ -292,7 +322,10 @@ fn failing_reader(rt: HostRuntime) {
         let mut output = Vec::new(rt.alloc());
         let result = run_on(rt.alloc(), input, &mut output, &script, LIMIT);
         assert_eq!(rt; result, Err(RunError::Read));
-        assert_eq!(rt; output.as_slice(), b"{\"replies\":[],\"document\":1}\n".as_slice());
+        assert_eq!(rt;
+            output.as_slice(),
+            b"{\"replies\":[],\"document\":1}\n".as_slice()
+        );
     }
 }
 
@@ -325,7 +358,11 @@ fn narrow_writer(rt: HostRuntime) {
             let is_whole = room == whole.len();
             assert_eq!(rt; result.is_ok(), is_whole, "{refusal:?} at {room}");
             assert!(rt; is_whole || result == Err(RunError::Write));
-            assert_eq!(rt; output.taken.as_slice(), &whole[..room], "{refusal:?} at {room}");
+            assert_eq!(rt;
+                output.taken.as_slice(),
+                &whole[..room],
+                "{refusal:?} at {room}"
+            );
         }
     }
 }

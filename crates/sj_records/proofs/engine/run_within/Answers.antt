@@ -29,8 +29,8 @@ returns-in_err-feed-in-Ok-clause-stands g c =
     let whole : c.deref.result.now ≡ c.read.new.buf = c.deref.ensures.value ∙ take_at c.read.new.buf (drop (length c.read.new.buf) c.loop.piece.items) c.loop.piece.len (omega arith) in
     let given : Consumes (g.R.Source.remaining c.loop.reader) (g.R.Source.remaining c.read.new.self) piece = rw whole c.in-Ok.ensures.bytes.0 in
     rw (p.1, p.2)
-      (Running-fed c.args.task _ _ _ _ _ _ c.loop.pending.line.items piece c.in_err-feed-in-Ok.field-0.0 c.loop.invariant.running given
-        (λ e. c.feed.ensures.memory (c.in_err-feed-in-Ok.was ∙ ap Err e)) (λ e. c.feed.ensures.write (c.in_err-feed-in-Ok.was ∙ ap Err e)) c.in_err-feed-in-Ok.ensures.only)
+    (Running-fed c.args.task _ _ _ _ _ _ c.loop.pending.line.items piece c.in_err-feed-in-Ok.field-0.0 c.loop.invariant.running given
+    (λ e. c.feed.ensures.memory (c.in_err-feed-in-Ok.was ∙ ap Err e)) (λ e. c.feed.ensures.write (c.in_err-feed-in-Ok.was ∙ ap Err e)) c.in_err-feed-in-Ok.ensures.only)
 
 pub loop-preserved : goal.loop-preserved
 loop-preserved g c =
@@ -38,25 +38,25 @@ loop-preserved g c =
     let reads = g.R.Source.calls in
     elim c.match-read.branch [
       | in-Ok+in_ok-feed-in-Ok w ↦
-        let fed = w.in_ok-feed-in-Ok.ensures in
-        let piece = take w.in-Ok.taken w.deref.result.now in
-        let whole : w.deref.result.now ≡ c.read.new.buf = w.deref.ensures.value ∙ take_at c.read.new.buf (drop (length c.read.new.buf) c.loop.piece.items) c.loop.piece.len (omega arith) in
-        let given : Consumes (g.R.Source.remaining c.loop.reader) (g.R.Source.remaining c.read.new.self) piece = rw whole w.in-Ok.ensures.bytes.0 in
-        record {
-          running = rw (w.writer-is, w.pending-is) (Running-more c.args.task _ _ _ _ _ _ c.loop.pending.line.items piece _ so_far.running given fed.ok fed.kept);
-          goes_on = GoesOn-then (reads c.args.reader.now) (reads c.loop.reader) (reads c.read.new.self) so_far.goes_on (GoesOn-some (reads c.loop.reader) (reads c.read.new.self) c.read.new.buf w.in-Ok.taken (omega arith) w.in-Ok.ensures.ok_counts);
-          made = w.in-Ok.ensures.made ∙ omega arith;
-          written = rw w.writer-is (fed.writes ∙ so_far.written);
-          room = so_far.room
-        }
+          let fed = w.in_ok-feed-in-Ok.ensures in
+          let piece = take w.in-Ok.taken w.deref.result.now in
+          let whole : w.deref.result.now ≡ c.read.new.buf = w.deref.ensures.value ∙ take_at c.read.new.buf (drop (length c.read.new.buf) c.loop.piece.items) c.loop.piece.len (omega arith) in
+          let given : Consumes (g.R.Source.remaining c.loop.reader) (g.R.Source.remaining c.read.new.self) piece = rw whole w.in-Ok.ensures.bytes.0 in
+          record {
+            running = rw (w.writer-is, w.pending-is) (Running-more c.args.task _ _ _ _ _ _ c.loop.pending.line.items piece _ so_far.running given fed.ok fed.kept);
+            goes_on = GoesOn-then (reads c.args.reader.now) (reads c.loop.reader) (reads c.read.new.self) so_far.goes_on (GoesOn-some (reads c.loop.reader) (reads c.read.new.self) c.read.new.buf w.in-Ok.taken (omega arith) w.in-Ok.ensures.ok_counts);
+            made = w.in-Ok.ensures.made ∙ omega arith;
+            written = rw w.writer-is (fed.writes ∙ so_far.written);
+            room = so_far.room;
+          }
       | in-Err w ↦
-        let kind : w.kind.result ≡ Interrupted = same_true the_type (search rules) _ _ (sym w.eq.ensures ∙ w.if-eq.true) in
-        let interrupted : error_kind w.in-Err.e ≡ Interrupted = sym w.kind.ensures ∙ kind in
-        record {
-          running = rw (w.writer-is, w.pending-is) (Running-idle c.args.task _ _ _ _ _ c.loop.pending.line.items so_far.running w.in-Err.ensures.bytes);
-          goes_on = GoesOn-then (reads c.args.reader.now) (reads c.loop.reader) (reads c.read.new.self) so_far.goes_on (GoesOn-interrupted (reads c.loop.reader) (reads c.read.new.self) (w.in-Err.ensures.err_counts.0 interrupted));
-          made = w.in-Err.ensures.made ∙ omega arith;
-          written = rw w.writer-is so_far.written;
-          room = so_far.room
-        }
+          let kind : w.kind.result ≡ Interrupted = same_true the_type (search rules) _ _ (sym w.eq.ensures ∙ w.if-eq.true) in
+          let interrupted : error_kind w.in-Err.e ≡ Interrupted = sym w.kind.ensures ∙ kind in
+          record {
+            running = rw (w.writer-is, w.pending-is) (Running-idle c.args.task _ _ _ _ _ c.loop.pending.line.items so_far.running w.in-Err.ensures.bytes);
+            goes_on = GoesOn-then (reads c.args.reader.now) (reads c.loop.reader) (reads c.read.new.self) so_far.goes_on (GoesOn-interrupted (reads c.loop.reader) (reads c.read.new.self) (w.in-Err.ensures.err_counts.0 interrupted));
+            made = w.in-Err.ensures.made ∙ omega arith;
+            written = rw w.writer-is so_far.written;
+            room = so_far.room;
+          }
     ]

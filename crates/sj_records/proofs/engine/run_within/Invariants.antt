@@ -9,5 +9,5 @@ invariant-loop g l = record {
   goes_on : GoesOn (g.R.Source.calls l.initial.reader) (g.R.Source.calls l.reader);
   made : (g.R.Source.calls l.reader).made ≡ (g.R.Source.calls l.initial.reader).made + l.counter;
   written : missed (g.W.Sink.calls l.writer) ≡ missed (g.W.Sink.calls l.initial.writer);
-  room : 0 < vec_len l.piece
+  room : 0 < vec_len l.piece;
 }

@@ -42,7 +42,7 @@ read_items-returns-in_err-item t c =
     let i = c.loop-items.invariant in
     let read = padded_at (value_at c.args.depth) in
     rw (p.1, p.2) (Stops-carried c.in_err-item.field-0.0 (kept_value (read c.loop-items.rest.now)) _ c.in_err-item.ensures (λ e.
-      i.2 ∙ ap (items_after (map tree_of c.loop-items.items.items)) (elements-none 0x5d read i.0 c.loop-items.rest.now (mapped-none keep (read c.loop-items.rest.now) e))))
+    i.2 ∙ ap (items_after (map tree_of c.loop-items.items.items)) (elements-none 0x5d read i.0 c.loop-items.rest.now (mapped-none keep (read c.loop-items.rest.now) e))))
 
 -- the item that was read
 pub read_items-returns-then-separator-eq93 : goal.read_items-returns-then-separator-eq93
@@ -56,7 +56,7 @@ read_items-returns-then-separator-eq93 t c =
     let here : read rest ≡ Some (found.0, 0x5d ∷ more) = found.1 ∙ ap (λ r. Some (found.0, r)) follows in
     let pushed : c.push.new.self.items ≡ c.loop-items.items.items ++ c.in_ok-item.item ∷ [] = search rules in
     let seen : map tree_of c.push.new.self.items ≡ map tree_of c.loop-items.items.items ++ keep found.0 ∷ [] =
-        ap (map tree_of) pushed ∙ map_push tree_of c.loop-items.items.items c.in_ok-item.item ∙ ap (λ u. map tree_of c.loop-items.items.items ++ u ∷ []) (sym found.2) in
+    ap (map tree_of) pushed ∙ map_push tree_of c.loop-items.items.items c.in_ok-item.item ∙ ap (λ u. map tree_of c.loop-items.items.items ++ u ∷ []) (sym found.2) in
     i.2 ∙ ap (items_after (map tree_of c.loop-items.items.items)) (elements-end 0x5d read i.0 rest more found.0 (λ e. omega arith) (omega (arith, i.1)) here) ∙ ap (λ ts. Some (ts, more)) (sym seen)
 
 pub read_items-returns-then-separator-ne44 : goal.read_items-returns-then-separator-ne44
@@ -91,7 +91,7 @@ read_items-loop-items-preserved t c =
     let here : read rest ≡ Some (found.0, 0x2c ∷ more) = found.1 ∙ ap (λ r. Some (found.0, r)) follows in
     let pushed : c.push.new.self.items ≡ c.loop-items.items.items ++ c.in_ok-item.item ∷ [] = search rules in
     let seen : map tree_of c.push.new.self.items ≡ map tree_of c.loop-items.items.items ++ keep found.0 ∷ [] =
-        ap (map tree_of) pushed ∙ map_push tree_of c.loop-items.items.items c.in_ok-item.item ∙ ap (λ u. map tree_of c.loop-items.items.items ++ u ∷ []) (sym found.2) in
+    ap (map tree_of) pushed ∙ map_push tree_of c.loop-items.items.items c.in_ok-item.item ∙ ap (λ u. map tree_of c.loop-items.items.items ++ u ∷ []) (sym found.2) in
     let less = padded_at-shorter c.args.depth rest c.in_ok-item.after.now found.0 found.1 in
     let count : length c.in_ok-item.after.now ≡ suc (length more) = ap length follows in (
       i.0 - 1,
@@ -125,7 +125,7 @@ read_members-returns-in_err-key t c =
     let i = c.loop-members.invariant in
     let read = pair_at (value_at c.args.depth) in
     rw (p.1, p.2) (Stops-carried c.in_err-key.field-0.0 (kept_pair (read c.loop-members.rest.now)) _ c.in_err-key.ensures (λ e.
-      i.2 ∙ ap (members_after (members_view c.loop-members.members.items)) (elements-none 0x7d read i.0 c.loop-members.rest.now (mapped-none kept_member (read c.loop-members.rest.now) e))))
+    i.2 ∙ ap (members_after (members_view c.loop-members.members.items)) (elements-none 0x7d read i.0 c.loop-members.rest.now (mapped-none kept_member (read c.loop-members.rest.now) e))))
 
 pub read_members-returns-then-separator-eq125 : goal.read_members-returns-then-separator-eq125
 read_members-returns-then-separator-eq125 t c =
