@@ -1,0 +1,5 @@
+pub mod Listings
+pub mod Passings
+pub mod NodeLists
+pub mod Tapes
+pub mod Cutting

@@ -1,0 +1,54 @@
+-- Entries that are a whole tree, or none at all.
+use Rattle.std.proofs.Common.{◌≡◌, ◌≢◌, ℕ, ◌≤◌, List, [], ◌∷◌, ◌++◌, drop, length, Option, Some, None, IfSome, option_map, refl, sym, ◌∙◌, ap, subst, arith, append-nil, length-drop}
+use Rattle.std.proofs.lemmas.List.{drop_all}
+use Rattle.sj_base.specs.Tree.{Tree}
+use Rattle.sj_tape.specs.Listing.{Entry, listing}
+use Rattle.sj_tape.specs.Listed.{tree_of, listed_tree, option_listing, IsListing, IsTape}
+use Rattle.sj_tape.specs.Nodes.{entries}
+use Rattle.sj_tape.specs.Passing.{PassesTree}
+use Rattle.sj_tape.specs.declared.node.Node.{Node}
+use Rattle.sj_tape.proofs.Listings.{one_listing, tree_from}
+use Rattle.sj_tape.proofs.Passings.{no_tree}
+
+pub no_listing : (t : Tree) → [] ≢ listing t
+no_listing t = λ e. no_tree [] refl t [] (e ∙ sym (append-nil (listing t)))
+
+pub listed_tree-nil : listed_tree [] ≡ None
+unfolding listed_tree
+listed_tree-nil = refl
+
+pub listed_tree-some : (es : List Entry) → es ≢ [] → listed_tree es ≡ Some (tree_of es)
+unfolding listed_tree
+listed_tree-some [] h = absurd (h refl)
+listed_tree-some (x ∷ xs) h = refl
+
+pub listed_tree-listing : (es : List Entry) (t : Tree) → es ≡ listing t → listed_tree es ≡ Some t
+listed_tree-listing es t e =
+    listed_tree-some es (λ nil. no_listing t (sym nil ∙ e)) ∙ ap (λ (u : Tree). Some u) (tree_from es t e)
+
+pub is_tape_nil : (es : List Entry) → es ≡ [] → IsTape es
+is_tape_nil es e = subst (λ (ys : List Entry). IsTape ys) (sym e) (ap option_listing listed_tree-nil)
+
+pub is_tape : (es : List Entry) (t : Tree) → es ≡ listing t → IsTape es
+is_tape es t e = ap option_listing (listed_tree-listing es t e) ∙ sym e
+
+pub tape_is_listing : (es : List Entry) → IsTape es → es ≢ [] → IsListing es
+tape_is_listing es h some = sym (ap option_listing (listed_tree-some es some)) ∙ h
+
+pub entries_nil : (ns : List Node) → entries ns ≡ [] → ns ≡ []
+entries_nil [] e = refl
+entries_nil (n ∷ ns) e = cc
+
+-- A tree that ends at the end is the whole.
+pub whole : (es : List Entry) (n : ℕ) (r : Option ℕ) → PassesTree (drop 0 es) (option_map (λ (end : ℕ). drop end es) r) → r ≡ Some n → n ≡ length es → (t : Tree) × (es ≡ listing t)
+whole es n r h e m =
+    let p : PassesTree (drop 0 es) (Some (drop n es)) = subst (λ (o : Option ℕ). PassesTree (drop 0 es) (option_map (λ (end : ℕ). drop end es) o)) e h in
+    (p.0, p.1 ∙ (ap (λ (ys : List Entry). listing p.0 ++ ys) (drop_all n es (omega (arith, m))) ∙ append-nil (listing p.0)))
+
+pub not_whole : (es : List Entry) (n : ℕ) (r : Option ℕ) → PassesTree (drop 0 es) (option_map (λ (end : ℕ). drop end es) r) → IfSome r (λ end. end ≤ n) → r ≢ Some n → n ≡ length es → (t : Tree) → es ≢ listing t
+not_whole es n None h low ne m t = λ e. h t [] (e ∙ sym (append-nil (listing t)))
+not_whole es n (Some x) h low ne m t = λ e.
+    let same = one_listing h.0 t (drop x es) [] (sym h.1 ∙ (e ∙ sym (append-nil (listing t)))) in
+    let none : length (drop x es) ≡ 0 = ap (λ (ys : List Entry). length ys) same.1 in
+    let end : x ≡ n = omega (arith, none, length-drop x es, low, m) in
+    ne (ap (λ (k : ℕ). Some k) end)

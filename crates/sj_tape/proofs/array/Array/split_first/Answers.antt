@@ -1,0 +1,26 @@
+use Rattle.std.proofs.Common.{◌-◌, sym, ◌∙◌, arith}
+use Rattle.sj_tape.specs.Listing.{items_listing}
+use Rattle.sj_tape.specs.Nodes.{entries}
+use Rattle.sj_tape.proofs.Listings.{items_from, lists_items}
+use Rattle.sj_tape.proofs.Cutting.{items_front, no_items_left, item_same}
+use Rattle.sj_tape.proofs.array.Array.split_first.Goals as goal
+
+pub returns-then-self-eq0-clause-items : goal.returns-then-self-eq0-clause-items
+returns-then-self-eq0-clause-items c = no_items_left c.args.self.now.len (entries c.args.self.now.nodes.now) c.args.self.now.items (omega arith)
+
+pub split_from-requires : goal.split_from-requires
+split_from-requires c =
+    let f = items_front c.args.self.now.len (entries c.args.self.now.nodes.now) c.args.self.now.items (omega arith) in
+    (f.0, items_listing f.1, f.3)
+
+pub invariant_of-rest : goal.invariant_of-rest
+invariant_of-rest c =
+    let f = items_front c.args.self.now.len (entries c.args.self.now.nodes.now) c.args.self.now.items (omega arith) in
+    let both = c.split_from.ensures.tree f.0 (items_listing f.1) f.3 in
+    record { items = lists_items (entries c.split_from.result.1.now) f.1 (c.args.self.now.len - 1) both.1 f.4 }
+
+pub returns-clause-items : goal.returns-clause-items
+returns-clause-items c =
+    let f = items_front c.args.self.now.len (entries c.args.self.now.nodes.now) c.args.self.now.items (omega arith) in
+    let both = c.split_from.ensures.tree f.0 (items_listing f.1) f.3 in
+    f.2 ∙ sym (item_same _ _ _ _ both.0 (items_from (entries c.split_from.result.1.now) f.1 (c.args.self.now.len - 1) both.1 f.4))

@@ -1,0 +1,29 @@
+use Rattle.std.proofs.Common.{◌≡◌, ◌≢◌, ◌≤◌, List, Some, IfSome, length, subst, ℕ, rules, arith, drop, option_map}
+use Rattle.std.proofs.lemmas.Option.{IfSome_then}
+use Rattle.sj_tape.specs.Listing.{Entry}
+use Rattle.sj_tape.specs.Nodes.{entries}
+use Rattle.sj_tape.specs.Passing.{PassesTree}
+use Rattle.sj_tape.specs.declared.node.Node.{Node}
+use Rattle.sj_tape.proofs.NodeLists.{length-entries}
+use Rattle.sj_tape.proofs.Tapes.{whole, not_whole, is_tape}
+use Rattle.sj_tape.proofs.tape.Tape.new.Goals as goal
+
+pub invariant_of-result : goal.invariant_of-result
+invariant_of-result c =
+    let es : List Entry = entries c.args.nodes.items in
+    let end : c.tree_end.result ≡ Some c.len.result = search rules in
+    let all : c.len.result ≡ length es = omega (arith, length-entries c.args.nodes.items, c.len.ensures) in
+    let same : c.deref.result.now ≡ c.args.nodes.items = c.deref.ensures.value in
+    let passes : PassesTree (drop 0 es) (option_map (λ (x : ℕ). drop x es) c.tree_end.result) = subst (λ (ns : List Node). PassesTree (drop 0 (entries ns)) (option_map (λ (x : ℕ). drop x (entries ns)) c.tree_end.result)) same c.tree_end.ensures.passes in
+    let tree = whole es c.len.result c.tree_end.result passes end all in
+    record { listed = is_tape es tree.0 tree.1 }
+
+pub returns-clause-accepts : goal.returns-clause-accepts
+returns-clause-accepts c =
+    let es : List Entry = entries c.args.nodes.items in
+    let other : c.tree_end.result ≢ Some c.len.result = search rules in
+    let all : c.len.result ≡ length es = omega (arith, length-entries c.args.nodes.items, c.len.ensures) in
+    let same : c.deref.result.now ≡ c.args.nodes.items = c.deref.ensures.value in
+    let passes : PassesTree (drop 0 es) (option_map (λ (x : ℕ). drop x es) c.tree_end.result) = subst (λ (ns : List Node). PassesTree (drop 0 (entries ns)) (option_map (λ (x : ℕ). drop x (entries ns)) c.tree_end.result)) same c.tree_end.ensures.passes in
+    let low : IfSome c.tree_end.result (λ end. end ≤ c.len.result) = IfSome_then c.tree_end.result c.tree_end.ensures.bounds (λ x p. omega (arith, p.1, c.deref.ensures.len, c.len.ensures)) in
+    ((λ e. cc), (λ w. absurd (not_whole es c.len.result c.tree_end.result passes low other all w.0 w.1)))

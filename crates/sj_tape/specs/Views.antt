@@ -1,0 +1,87 @@
+-- What tapes and views stand for.
+use Rattle.std.specs.Prelude.{List, [], ◌∷◌, Option, Some, None, Result, Ok, Err, option_map}
+use Rattle.sj_base.specs.Tree.{Tree, null, boolean, integer, decimal, string, list, object, Items, Members}
+use Rattle.sj_base.specs.declared.static_node.ValueType.{ValueType}
+use Rattle.sj_base.specs.declared.static_node.ValueType.TheVariants.{Null as null_type}
+use Rattle.sj_base.specs.declared.fault.TryTypeError.{TryTypeError}
+use Rattle.sj_tape.specs.Listed.{tree_of, listed_items, listed_members, listed_tree}
+use Rattle.sj_tape.specs.Nodes.{entries, node_type}
+use Rattle.sj_tape.specs.declared.array.Array.{Array}
+use Rattle.sj_tape.specs.declared.node.Node.{Node}
+use Rattle.sj_tape.specs.declared.object.Object.{Object}
+use Rattle.sj_tape.specs.declared.tape.Tape.{Tape}
+use Rattle.sj_tape.specs.declared.value.Value.{Value}
+
+abbrev pub tape_nodes : Tape → List Node
+tape_nodes t = t.nodes.items
+
+-- none where the tape is empty
+abbrev pub tape_tree : Tape → Option Tree
+tape_tree t = listed_tree (entries (tape_nodes t))
+
+abbrev pub value_nodes : Value → List Node
+value_nodes v = v.nodes.now
+
+abbrev pub value_tree : Value → Tree
+value_tree v = tree_of (entries (value_nodes v))
+
+-- the type of the value that is listed first
+abbrev pub first_type : List Node → ValueType
+first_type [] = null_type
+first_type (n ∷ ns) = node_type n
+
+abbrev pub value_kind : Value → ValueType
+value_kind v = first_type (value_nodes v)
+
+abbrev pub items_in : Tree → Option Items
+items_in null = None
+items_in (boolean b) = None
+items_in (integer n) = None
+items_in (decimal literal) = None
+items_in (string s) = None
+items_in (list ts) = Some ts
+items_in (object ms) = None
+
+abbrev pub members_in : Tree → Option Members
+members_in null = None
+members_in (boolean b) = None
+members_in (integer n) = None
+members_in (decimal literal) = None
+members_in (string s) = None
+members_in (list ts) = None
+members_in (object ms) = Some ms
+
+abbrev pub array_nodes : Array → List Node
+array_nodes a = a.nodes.now
+
+abbrev pub array_items : Array → Items
+array_items a = listed_items a.len (entries (array_nodes a))
+
+abbrev pub object_nodes : Object → List Node
+object_nodes o = o.nodes.now
+
+abbrev pub object_members : Object → Members
+object_members o = listed_members o.len (entries (object_nodes o))
+
+-- the tree itself, where it holds no other
+abbrev pub scalar_in : Tree → Option Tree
+scalar_in null = Some null
+scalar_in (boolean b) = Some (boolean b)
+scalar_in (integer n) = Some (integer n)
+scalar_in (decimal literal) = Some (decimal literal)
+scalar_in (string s) = Some (string s)
+scalar_in (list ts) = None
+scalar_in (object ms) = None
+
+-- answers, with trees in the place of views
+abbrev pub ok_items : Result Array TryTypeError → Result Items TryTypeError
+ok_items (Ok a) = Ok (array_items a)
+ok_items (Err e) = Err e
+
+abbrev pub ok_members : Result Object TryTypeError → Result Members TryTypeError
+ok_members (Ok o) = Ok (object_members o)
+ok_members (Err e) = Err e
+
+abbrev pub ok_found : Result (Option Value) TryTypeError → Result (Option Tree) TryTypeError
+ok_found (Ok v) = Ok (option_map value_tree v)
+ok_found (Err e) = Err e

@@ -1,0 +1,70 @@
+//! Views of the arrays of a tape.
+ghost use Rattle.std.specs.Prelude.{◌≡◌, ◌↔◌, ◌++◌, ℕ, IsTrue, IfSome, MatchOption, option_map};
+ghost use Rattle.sj_base.specs.Tree.{no_items, item};
+ghost use Rattle.sj_base.specs.Path.{item_at};
+ghost use Rattle.sj_tape.specs.Listing.{items_len};
+ghost use Rattle.sj_tape.specs.Listed.{ListsItems};
+ghost use Rattle.sj_tape.specs.Nodes.{entries};
+
+use crate::node::Node;
+use crate::value::Value;
+
+/// An array of a tape, which stays where it is.
+#[derive(Clone, Copy, Debug)]
+pub struct Array<'t, 'i> {
+    pub(crate) len: usize,
+    pub(crate) nodes: &'t [Node<'i>],
+    ghost items: { ListsItems len (entries nodes.now) },
+}
+
+impl<'t, 'i> Array<'t, 'i> {
+    ghost use Rattle.sj_tape.specs.Views.{value_nodes, value_tree, array_nodes, array_items};
+
+    // The first item, and an array of those behind it.
+    fn split_first(&self) -> Option<(Value<'t, 'i>, Array<'t, 'i>)>
+        ensures items { MatchOption result (array_items self.now ≡ no_items)
+            (λ p. array_items self.now ≡ item (value_tree p.0) (array_items p.1)) }
+        ensures nodes { IfSome result
+            (λ p. array_nodes self.now ≡ value_nodes p.0 ++ array_nodes p.1) }
+    {
+        if self.len == 0 {
+            return None;
+        }
+        let (first, nodes) = Value::split_from(self.nodes);
+        let rest = Array {
+            len: self.len - 1,
+            nodes,
+        };
+        Some((first, rest))
+    }
+
+    /// How many items there are.
+    pub fn len(&self) -> usize
+        ensures { result ≡ items_len (array_items self.now) }
+    {
+        self.len
+    }
+
+    /// Whether there are none.
+    pub fn is_empty(&self) -> bool
+        ensures { IsTrue result ↔ (items_len (array_items self.now) ≡ 0) }
+    {
+        self.len == 0
+    }
+
+    /// The item at that index.
+    pub fn get(&self, index: usize) -> Option<Value<'t, 'i>>
+        ensures { option_map value_tree result ≡ item_at (array_items self.now) index }
+    {
+        let mut rest = *self;
+        let mut left = index;
+        loop {
+            let (first, behind) = rest.split_first()?;
+            if left == 0 {
+                return Some(first);
+            }
+            rest = behind;
+            left -= 1;
+        }
+    }
+}

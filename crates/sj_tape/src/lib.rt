@@ -1,0 +1,18 @@
+//! The flat form of a document: its nodes in preorder, and views of it.
+#![tactic(auto)]
+
+mod array;
+mod check;
+pub mod laws;
+mod node;
+mod object;
+mod tape;
+#[cfg(test)]
+mod tests;
+mod value;
+
+pub use array::Array;
+pub use node::Node;
+pub use object::Object;
+pub use tape::Tape;
+pub use value::Value;

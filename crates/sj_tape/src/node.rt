@@ -1,0 +1,51 @@
+//! The nodes of a tape.
+ghost use Rattle.std.specs.Prelude.{◌≡◌, ◌<◌, ◌∷◌, length};
+
+use sj_base::{Decimal, StaticNode, ValueType};
+
+/// One value, or one key, in the preorder of a document (`simd_json::Node`). `len` is the number of items or members,
+/// `count` the number of nodes beneath.
+#[derive(Clone, Copy, Debug)]
+pub enum Node<'i> {
+    String(&'i str),
+    Object { len: usize, count: usize },
+    Array { len: usize, count: usize },
+    Static(StaticNode),
+    Decimal(Decimal<'i>),
+}
+
+impl Node<'_> {
+    ghost use Rattle.sj_tape.specs.Nodes.{node_type, node_count};
+
+    /// The type, which tells the carrier of an integer.
+    pub fn value_type(&self) -> ValueType
+        ensures { result ≡ node_type self.now }
+    {
+        match self {
+            Node::String(_) => ValueType::String,
+            Node::Object { .. } => ValueType::Object,
+            Node::Array { .. } => ValueType::Array,
+            Node::Static(node) => node.value_type(),
+            Node::Decimal(_) => ValueType::Decimal,
+        }
+    }
+
+    // How many nodes stand beneath.
+    pub(crate) fn count(&self) -> usize
+        ensures { result ≡ node_count self.now }
+    {
+        match self {
+            Node::Object { count, .. } | Node::Array { count, .. } => *count,
+            Node::String(_) | Node::Static(_) | Node::Decimal(_) => 0,
+        }
+    }
+}
+
+// The first node, and those behind it.
+pub(crate) fn take_node<'t, 'i>(nodes: &'t [Node<'i>]) -> (Node<'i>, &'t [Node<'i>])
+    requires { 0 < length nodes.now }
+    ensures { nodes.now ≡ result.0 ∷ result.1.now }
+{
+    let (front, rest) = nodes.split_at(1);
+    (front[0], rest)
+}

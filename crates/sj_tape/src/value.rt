@@ -1,0 +1,188 @@
+//! Views of the values of a tape.
+ghost use Rattle.std.specs.Prelude.{◌≡◌, ◌++◌, List, is_some, ok_or, option_map};
+ghost use Rattle.sj_base.specs.Tree.{Tree};
+ghost use Rattle.sj_base.specs.Path.{key, place, member_at, item_at, child};
+ghost use Rattle.sj_reads.specs.Reads.{mismatch};
+ghost use Rattle.sj_tape.specs.Listing.{Entry, listing};
+ghost use Rattle.sj_tape.specs.Listed.{IsListing};
+ghost use Rattle.sj_tape.specs.Nodes.{entries};
+
+use crate::array::Array;
+use crate::node::{Node, take_node};
+use crate::object::Object;
+use sj_base::{Scalar, TryTypeError, ValueType};
+use sj_reads::{TypedValue, ValueAsScalar};
+
+/// A value of a tape, which stays where it is.
+#[derive(Clone, Copy, Debug)]
+pub struct Value<'t, 'i> {
+    pub(crate) nodes: &'t [Node<'i>],
+    ghost one_tree: { IsListing (entries nodes.now) },
+}
+
+impl<'t, 'i> Value<'t, 'i> {
+    ghost use Rattle.sj_tape.specs.Views.{value_nodes, value_tree, value_kind, items_in, members_in, array_items, object_members, ok_items, ok_members, ok_found};
+
+    // The value that the nodes begin with, and the nodes behind it.
+    pub(crate) fn split_from(nodes: &'t [Node<'i>]) -> (Value<'t, 'i>, &'t [Node<'i>])
+        requires { (t : Tree) × (rest : List Entry) × (entries nodes.now ≡ listing t ++ rest) }
+        ensures parts { nodes.now ≡ value_nodes result.0 ++ result.1.now }
+        ensures tree { (t : Tree) (rest : List Entry) → entries nodes.now ≡ listing t ++ rest
+            → (value_tree result.0 ≡ t) × (entries result.1.now ≡ rest) }
+    {
+        let (first, rest) = nodes.split_at(nodes[0].count() + 1);
+        (Value { nodes: first }, rest)
+    }
+
+    /// The type, which tells the carrier of an integer.
+    pub fn value_type(&self) -> ValueType
+        ensures { result ≡ value_kind self.now }
+    {
+        let (first, _) = take_node(self.nodes);
+        first.value_type()
+    }
+
+    /// The items, where the value is an array.
+    pub fn as_array(&self) -> Option<Array<'t, 'i>>
+        ensures { option_map array_items result ≡ items_in (value_tree self.now) }
+    {
+        let (first, nodes) = take_node(self.nodes);
+        match first {
+            Node::Array { len, .. } => Some(Array { len, nodes }),
+            _ => None,
+        }
+    }
+
+    /// The members, where the value is an object.
+    pub fn as_object(&self) -> Option<Object<'t, 'i>>
+        ensures { option_map object_members result ≡ members_in (value_tree self.now) }
+    {
+        let (first, nodes) = take_node(self.nodes);
+        match first {
+            Node::Object { len, .. } => Some(Object { len, nodes }),
+            _ => None,
+        }
+    }
+
+    /// Whether the value is an array.
+    pub fn is_array(&self) -> bool
+        ensures { result ≡ is_some (items_in (value_tree self.now)) }
+    {
+        self.as_array().is_some()
+    }
+
+    /// Whether the value is an object.
+    pub fn is_object(&self) -> bool
+        ensures { result ≡ is_some (members_in (value_tree self.now)) }
+    {
+        self.as_object().is_some()
+    }
+
+    /// The items, or the type met.
+    pub fn try_as_array(&self) -> Result<Array<'t, 'i>, TryTypeError>
+        ensures { ok_items result ≡ ok_or (items_in (value_tree self.now))
+            (mismatch ValueType.Array (value_kind self.now)) }
+    {
+        match self.as_array() {
+            Some(array) => Ok(array),
+            None => Err(self.mismatch(ValueType::Array)),
+        }
+    }
+
+    /// The members, or the type met.
+    pub fn try_as_object(&self) -> Result<Object<'t, 'i>, TryTypeError>
+        ensures { ok_members result ≡ ok_or (members_in (value_tree self.now))
+            (mismatch ValueType.Object (value_kind self.now)) }
+    {
+        match self.as_object() {
+            Some(object) => Ok(object),
+            None => Err(self.mismatch(ValueType::Object)),
+        }
+    }
+
+    /// The first member with that key, where the value is an object.
+    pub fn get(&self, name: &str) -> Option<Value<'t, 'i>>
+        ensures { option_map value_tree result ≡ child (value_tree self.now) (key name.now) }
+    {
+        match self.as_object() {
+            Some(object) => object.get(name),
+            None => None,
+        }
+    }
+
+    /// Whether the value is an object with such a member.
+    pub fn contains_key(&self, name: &str) -> bool
+        ensures { result ≡ is_some (child (value_tree self.now) (key name.now)) }
+    {
+        self.get(name).is_some()
+    }
+
+    /// The item at that index, where the value is an array.
+    pub fn get_idx(&self, index: usize) -> Option<Value<'t, 'i>>
+        ensures { option_map value_tree result ≡ child (value_tree self.now) (place index) }
+    {
+        match self.as_array() {
+            Some(array) => array.get(index),
+            None => None,
+        }
+    }
+
+    /// The first member with that key, or the type met where the value is no object.
+    pub fn try_get(&self, name: &str) -> Result<Option<Value<'t, 'i>>, TryTypeError>
+        ensures { ok_found result
+            ≡ ok_or (option_map (λ ms. member_at ms name.now) (members_in (value_tree self.now)))
+            (mismatch ValueType.Object (value_kind self.now)) }
+    {
+        match self.as_object() {
+            Some(object) => Ok(object.get(name)),
+            None => Err(self.mismatch(ValueType::Object)),
+        }
+    }
+
+    /// The item at that index, or the type met where the value is no array.
+    pub fn try_get_idx(&self, index: usize) -> Result<Option<Value<'t, 'i>>, TryTypeError>
+        ensures { ok_found result
+            ≡ ok_or (option_map (λ ts. item_at ts index) (items_in (value_tree self.now)))
+            (mismatch ValueType.Array (value_kind self.now)) }
+    {
+        match self.as_array() {
+            Some(array) => Ok(array.get(index)),
+            None => Err(self.mismatch(ValueType::Array)),
+        }
+    }
+
+    fn mismatch(&self, expected: ValueType) -> TryTypeError
+        ensures { result ≡ mismatch expected (value_kind self.now) }
+    {
+        TryTypeError {
+            expected,
+            got: self.value_type(),
+        }
+    }
+}
+
+impl TypedValue for Value<'_, '_> {
+    ghost use Rattle.sj_tape.specs.Views.{value_kind};
+
+    ghost kind = { value_kind };
+
+    fn value_type(&self) -> ValueType {
+        Value::value_type(self)
+    }
+}
+
+impl ValueAsScalar for Value<'_, '_> {
+    ghost use Rattle.sj_tape.specs.Views.{value_tree, scalar_in};
+
+    ghost scalar = { λ v. scalar_in (value_tree v) };
+
+    fn as_scalar(&self) -> Option<Scalar<'_>> {
+        let (first, _) = take_node(self.nodes);
+        match first {
+            Node::Static(node) => Some(Scalar::Static(node)),
+            Node::String(text) => Some(Scalar::Text(text)),
+            Node::Decimal(literal) => Some(Scalar::Literal(literal)),
+            Node::Array { .. } | Node::Object { .. } => None,
+        }
+    }
+}
