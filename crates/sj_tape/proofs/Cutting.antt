@@ -155,9 +155,6 @@ one_front ns (m ∷ k ∷ ms) rest n h l is = absurd (omega (arith, l))
 pub cons_parts : (a b : Entry) (xs ys : List Entry) → a ∷ xs ≡ b ∷ ys → (a ≡ b) × (xs ≡ ys)
 cons_parts a b xs ys e = (cc, cc)
 
-pub value_long : (ns : List Node) → IsListing (entries ns) → 0 < length ns
-value_long ns h = omega (arith, listing_long (tree_of (entries ns)), ap (λ (ys : List Entry). length ys) h, length-entries ns)
-
 pub array_inside : (ns rest : List Node) (n : Node) (len count : ℕ) → IsListing (entries ns) → ns ≡ n ∷ rest → n ≡ Array len count → (ts : Items) × (tree_of (entries ns) ≡ list ts) × (items_len ts ≡ len) × (entries rest ≡ items_listing ts)
 array_inside ns rest n len count h e is =
     list_of (tree_of (entries ns)) len count (entries rest) (h ∙ (ap entries e ∙ ap (λ (k : Node). node_entry k ∷ entries rest) is))

@@ -92,9 +92,6 @@ one_members ls ms a b n e =
 pub tree_from : (es : List Entry) (t : Tree) → es ≡ listing t → tree_of es ≡ t
 tree_from es t e = ap tree_of (e ∙ sym (append-nil (listing t))) ∙ tree_of-listing t []
 
-pub is_listing : (es : List Entry) (t : Tree) → es ≡ listing t → IsListing es
-is_listing es t e = ap listing (tree_from es t e) ∙ sym e
-
 pub items_from : (es : List Entry) (ts : Items) (len : ℕ) → es ≡ items_listing ts → items_len ts ≡ len → listed_items len es ≡ ts
 items_from es ts len e n = ap (λ (k : ℕ). listed_items k es) (sym n) ∙ (ap (listed_items (items_len ts)) (e ∙ sym (append-nil (items_listing ts))) ∙ listed_items-listing ts [])
 

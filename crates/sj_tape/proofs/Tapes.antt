@@ -1,7 +1,7 @@
 -- Entries that are a whole tree, or none at all.
 use Rattle.std.proofs.Common.{◌≡◌, ◌≢◌, ℕ, ◌≤◌, List, [], ◌∷◌, ◌++◌, drop, length, Option, Some, None, IfSome, option_map, refl, sym, ◌∙◌, ap, subst, arith, append-nil, length-drop}
 use Rattle.std.proofs.lemmas.List.{drop_all}
-use Rattle.sj_base.specs.Tree.{Tree}
+use Rattle.sj_base.specs.Tree.{Tree, null}
 use Rattle.sj_tape.specs.Listing.{Entry, listing}
 use Rattle.sj_tape.specs.Listed.{tree_of, listed_tree, option_listing, IsListing, IsTape}
 use Rattle.sj_tape.specs.Nodes.{entries}
@@ -38,6 +38,17 @@ tape_is_listing es h some = sym (ap option_listing (listed_tree-some es some)) �
 pub entries_nil : (ns : List Node) → entries ns ≡ [] → ns ≡ []
 entries_nil [] e = refl
 entries_nil (n ∷ ns) e = cc
+
+-- nodes with a first one are a tree's
+pub listed_front : (ns rest : List Node) (n : Node) → IsTape (entries ns) → ns ≡ n ∷ rest → IsListing (entries ns)
+listed_front ns rest n h e = tape_is_listing (entries ns) h (λ nil. nonempty (sym e ∙ entries_nil ns nil))
+  where
+    nonempty : n ∷ rest ≡ [] → ⊥
+    nonempty same = cc
+
+pub null_of-nil : (ns : List Node) → ns ≡ [] → tree_of (entries ns) ≡ null
+unfolding tree_of
+null_of-nil ns e = ap (λ (ms : List Node). tree_of (entries ms)) e
 
 -- A tree that ends at the end is the whole.
 pub whole : (es : List Entry) (n : ℕ) (r : Option ℕ) → PassesTree (drop 0 es) (option_map (λ (end : ℕ). drop end es) r) → r ≡ Some n → n ≡ length es → (t : Tree) × (es ≡ listing t)

@@ -1,5 +1,5 @@
 //! The nodes of a tape.
-ghost use Rattle.std.specs.Prelude.{◌≡◌, ◌<◌, ◌∷◌, length};
+ghost use Rattle.std.specs.Prelude.{◌≡◌, [], ◌∷◌, MatchOption};
 
 use sj_base::{Decimal, StaticNode, ValueType};
 
@@ -42,10 +42,9 @@ impl Node<'_> {
 }
 
 // The first node, and those behind it.
-pub(crate) fn take_node<'t, 'i>(nodes: &'t [Node<'i>]) -> (Node<'i>, &'t [Node<'i>])
-    requires { 0 < length nodes.now }
-    ensures { nodes.now ≡ result.0 ∷ result.1.now }
+pub(crate) fn take_node<'t, 'i>(nodes: &'t [Node<'i>]) -> Option<(Node<'i>, &'t [Node<'i>])>
+    ensures { MatchOption result (nodes.now ≡ []) (λ p. nodes.now ≡ p.0 ∷ p.1.now) }
 {
-    let (front, rest) = nodes.split_at(1);
-    (front[0], rest)
+    let (first, rest) = nodes.split_first()?;
+    Some((*first, rest))
 }

@@ -28,7 +28,7 @@ impl<'t, 'i> Object<'t, 'i> {
         if self.len == 0 {
             return None;
         }
-        let (first, behind) = take_node(self.nodes);
+        let (first, behind) = take_node(self.nodes)?;
         let Node::String(key) = first else {
             return None;
         };

@@ -1,27 +1,37 @@
 //! Views of the values of a tape.
 ghost use Rattle.std.specs.Prelude.{◌≡◌, ◌++◌, List, is_some, ok_or, option_map};
-ghost use Rattle.sj_base.specs.Tree.{Tree};
+ghost use Rattle.sj_base.specs.Tree.{Tree, null};
 ghost use Rattle.sj_base.specs.Path.{key, place, member_at, item_at, child};
 ghost use Rattle.sj_reads.specs.Reads.{mismatch};
 ghost use Rattle.sj_tape.specs.Listing.{Entry, listing};
-ghost use Rattle.sj_tape.specs.Listed.{IsListing};
+ghost use Rattle.sj_tape.specs.Listed.{IsTape};
 ghost use Rattle.sj_tape.specs.Nodes.{entries};
 
 use crate::array::Array;
 use crate::node::{Node, take_node};
 use crate::object::Object;
-use sj_base::{Scalar, TryTypeError, ValueType};
+use sj_base::{Scalar, StaticNode, TryTypeError, ValueType};
 use sj_reads::{TypedValue, ValueAsScalar};
 
-/// A value of a tape, which stays where it is.
+/// A value of a tape, which stays where it is, or a null that stands in no tape.
 #[derive(Clone, Copy, Debug)]
 pub struct Value<'t, 'i> {
+    // Those of the value; none for the null that stands in no tape.
     pub(crate) nodes: &'t [Node<'i>],
-    ghost one_tree: { IsListing (entries nodes.now) },
+    ghost listed: { IsTape (entries nodes.now) },
 }
 
 impl<'t, 'i> Value<'t, 'i> {
     ghost use Rattle.sj_tape.specs.Views.{value_nodes, value_tree, value_kind, items_in, members_in, array_items, object_members, ok_items, ok_members, ok_found};
+
+    /// A null that stands in no tape.
+    #[tactic(auto, unfolding(crate::specs::Listed::tree_of, crate::specs::Listed::listed_tree))]
+    pub fn null() -> Value<'t, 'i>
+        ensures tree { value_tree result ≡ null }
+        ensures kind { value_kind result ≡ ValueType.Null }
+    {
+        Value { nodes: &[] }
+    }
 
     // The value that the nodes begin with, and the nodes behind it.
     pub(crate) fn split_from(nodes: &'t [Node<'i>]) -> (Value<'t, 'i>, &'t [Node<'i>])
@@ -38,15 +48,18 @@ impl<'t, 'i> Value<'t, 'i> {
     pub fn value_type(&self) -> ValueType
         ensures { result ≡ value_kind self.now }
     {
-        let (first, _) = take_node(self.nodes);
-        first.value_type()
+        match take_node(self.nodes) {
+            Some((first, _)) => first.value_type(),
+            None => ValueType::Null,
+        }
     }
 
     /// The items, where the value is an array.
+    #[tactic(auto, unfolding(crate::specs::Listed::tree_of))]
     pub fn as_array(&self) -> Option<Array<'t, 'i>>
         ensures { option_map array_items result ≡ items_in (value_tree self.now) }
     {
-        let (first, nodes) = take_node(self.nodes);
+        let (first, nodes) = take_node(self.nodes)?;
         match first {
             Node::Array { len, .. } => Some(Array { len, nodes }),
             _ => None,
@@ -54,10 +67,11 @@ impl<'t, 'i> Value<'t, 'i> {
     }
 
     /// The members, where the value is an object.
+    #[tactic(auto, unfolding(crate::specs::Listed::tree_of))]
     pub fn as_object(&self) -> Option<Object<'t, 'i>>
         ensures { option_map object_members result ≡ members_in (value_tree self.now) }
     {
-        let (first, nodes) = take_node(self.nodes);
+        let (first, nodes) = take_node(self.nodes)?;
         match first {
             Node::Object { len, .. } => Some(Object { len, nodes }),
             _ => None,
@@ -176,8 +190,11 @@ impl ValueAsScalar for Value<'_, '_> {
 
     ghost scalar = { λ v. scalar_in (value_tree v) };
 
+    #[tactic(auto, unfolding(crate::specs::Listed::tree_of))]
     fn as_scalar(&self) -> Option<Scalar<'_>> {
-        let (first, _) = take_node(self.nodes);
+        let Some((first, _)) = take_node(self.nodes) else {
+            return Some(Scalar::Static(StaticNode::Null));
+        };
         match first {
             Node::Static(node) => Some(Scalar::Static(node)),
             Node::String(text) => Some(Scalar::Text(text)),

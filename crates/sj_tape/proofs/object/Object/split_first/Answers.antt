@@ -1,7 +1,6 @@
-use Rattle.std.proofs.Common.{◌≡◌, ◌-◌, List, ◌++◌, length, ap, sym, ◌∙◌, arith}
+use Rattle.std.proofs.Common.{◌≡◌, ℕ, ◌-◌, List, [], ◌∷◌, ◌++◌, rules, ap, sym, ◌∙◌, arith}
 use Rattle.sj_tape.specs.Listing.{Entry, string_entry, listing, members_listing}
 use Rattle.sj_tape.specs.Nodes.{node_entry, entries}
-use Rattle.sj_tape.proofs.NodeLists.{length-entries}
 use Rattle.sj_tape.proofs.Listings.{members_from, lists_members}
 use Rattle.sj_tape.proofs.Cutting.{members_front, no_members_left, member_same, cons_parts, string_node}
 use Rattle.sj_tape.proofs.object.Object.split_first.Goals as goal
@@ -9,36 +8,39 @@ use Rattle.sj_tape.proofs.object.Object.split_first.Goals as goal
 pub returns-then-self-eq0 : goal.returns-then-self-eq0
 returns-then-self-eq0 c = record { members = no_members_left c.args.self.now.len (entries c.args.self.now.nodes.now) c.args.self.now.members (omega arith) }
 
-pub take_node-requires : goal.take_node-requires
-take_node-requires c =
+pub returns-in_err-first : goal.returns-in_err-first
+returns-in_err-first c =
     let f = members_front c.args.self.now.len (entries c.args.self.now.nodes.now) c.args.self.now.members (omega arith) in
-    let n = ap (λ (ys : List Entry). length ys) f.4 in
-    omega (arith, n, length-entries c.args.self.now.nodes.now)
+    let nil : c.args.self.now.nodes.now ≡ [] = search rules in
+    absurd (starts f.0 (listing f.1 ++ members_listing f.2) (sym (ap entries nil) ∙ f.4))
+  where
+    starts : (k : List ℕ) (es : List Entry) → [] ≡ string_entry k ∷ es → ⊥
+    starts k es e = cc
 
 pub returns-in_default : goal.returns-in_default
 returns-in_default c =
     let f = members_front c.args.self.now.len (entries c.args.self.now.nodes.now) c.args.self.now.members (omega arith) in
-    let parts = cons_parts (node_entry c.take_node.result.0) (string_entry f.0) (entries c.take_node.result.1.now) (listing f.1 ++ members_listing f.2) (sym (ap entries c.take_node.ensures) ∙ f.4) in
-    let key = string_node c.take_node.result.0 f.0 parts.0 in
+    let parts = cons_parts (node_entry c.in_ok-first.first) (string_entry f.0) (entries c.in_ok-first.behind.now) (listing f.1 ++ members_listing f.2) (sym (ap entries c.in_ok-first.ensures) ∙ f.4) in
+    let key = string_node c.in_ok-first.first f.0 parts.0 in
     absurd (c.in_default.not-String key.0 key.1)
 
 pub split_from-requires : goal.split_from-requires
 split_from-requires c =
     let f = members_front c.args.self.now.len (entries c.args.self.now.nodes.now) c.args.self.now.members (omega arith) in
-    let parts = cons_parts (node_entry c.take_node.result.0) (string_entry f.0) (entries c.take_node.result.1.now) (listing f.1 ++ members_listing f.2) (sym (ap entries c.take_node.ensures) ∙ f.4) in
+    let parts = cons_parts (node_entry c.in_ok-first.first) (string_entry f.0) (entries c.in_ok-first.behind.now) (listing f.1 ++ members_listing f.2) (sym (ap entries c.in_ok-first.ensures) ∙ f.4) in
     (f.1, members_listing f.2, parts.1)
 
 pub invariant_of-rest : goal.invariant_of-rest
 invariant_of-rest c =
     let f = members_front c.args.self.now.len (entries c.args.self.now.nodes.now) c.args.self.now.members (omega arith) in
-    let parts = cons_parts (node_entry c.take_node.result.0) (string_entry f.0) (entries c.take_node.result.1.now) (listing f.1 ++ members_listing f.2) (sym (ap entries c.take_node.ensures) ∙ f.4) in
+    let parts = cons_parts (node_entry c.in_ok-first.first) (string_entry f.0) (entries c.in_ok-first.behind.now) (listing f.1 ++ members_listing f.2) (sym (ap entries c.in_ok-first.ensures) ∙ f.4) in
     let both = c.split_from.ensures.tree f.1 (members_listing f.2) parts.1 in
     record { members = lists_members (entries c.split_from.result.1.now) f.2 (c.args.self.now.len - 1) both.1 f.5 }
 
 pub returns : goal.returns
 returns c =
     let f = members_front c.args.self.now.len (entries c.args.self.now.nodes.now) c.args.self.now.members (omega arith) in
-    let parts = cons_parts (node_entry c.take_node.result.0) (string_entry f.0) (entries c.take_node.result.1.now) (listing f.1 ++ members_listing f.2) (sym (ap entries c.take_node.ensures) ∙ f.4) in
+    let parts = cons_parts (node_entry c.in_ok-first.first) (string_entry f.0) (entries c.in_ok-first.behind.now) (listing f.1 ++ members_listing f.2) (sym (ap entries c.in_ok-first.ensures) ∙ f.4) in
     let both = c.split_from.ensures.tree f.1 (members_listing f.2) parts.1 in
     let key : string_entry f.0 ≡ string_entry c.in-String.key.now = sym parts.0 ∙ ap node_entry c.in-String.is in
     let same_key : c.in-String.key.now ≡ f.0 = cc in

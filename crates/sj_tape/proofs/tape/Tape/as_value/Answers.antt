@@ -1,15 +1,12 @@
 use Rattle.std.proofs.Common.{◌≢◌, List, [], Some, ap, subst, sym, ◌∙◌}
-use Rattle.sj_tape.specs.Listed.{IsListing, tree_of}
+use Rattle.sj_tape.specs.Listed.{IsTape, tree_of}
 use Rattle.sj_tape.specs.Nodes.{entries}
 use Rattle.sj_tape.specs.declared.node.Node.{Node}
-use Rattle.sj_tape.proofs.Tapes.{tape_is_listing, listed_tree-some, entries_nil}
+use Rattle.sj_tape.proofs.Tapes.{listed_tree-some, entries_nil}
 use Rattle.sj_tape.proofs.tape.Tape.as_value.Goals as goal
 
 pub invariant_of-result : goal.invariant_of-result
-invariant_of-result c =
-    let ns : List Node = c.args.self.now.nodes.items in
-    let some : entries ns ≢ [] = λ e. c.requires (entries_nil ns e) in
-    record { one_tree = subst (λ (ms : List Node). IsListing (entries ms)) (sym c.deref.ensures.value) (tape_is_listing (entries ns) c.args.self.now.listed some) }
+invariant_of-result c = record { listed = subst (λ (ms : List Node). IsTape (entries ms)) (sym c.deref.ensures.value) c.args.self.now.listed }
 
 pub returns-clause-tree : goal.returns-clause-tree
 returns-clause-tree c =

@@ -1,7 +1,8 @@
 use Rattle.std.proofs.Common.{◌≡◌, ℕ, ◌+◌, length, ap, ◌∙◌, arith}
 use Rattle.sj_tape.specs.Listing.{listing}
 use Rattle.sj_tape.specs.Nodes.{entries}
-use Rattle.sj_tape.proofs.Listings.{is_listing, tree_from}
+use Rattle.sj_tape.proofs.Listings.{tree_from}
+use Rattle.sj_tape.proofs.Tapes.{is_tape}
 use Rattle.sj_tape.proofs.Cutting.{first_count, listing_long, front_fits, cut_front, cut_back}
 use Rattle.sj_tape.proofs.value.Value.split_from.Goals as goal
 
@@ -22,7 +23,7 @@ pub invariant_of-result : goal.invariant_of-result
 invariant_of-result c =
     let m : c.count.result + 1 ≡ length (listing c.requires.0) = ap (λ (n : ℕ). n + 1) c.count.ensures ∙ first_count c.args.nodes.now c.requires.0 c.requires.1 c.index-nodes-0.result c.requires.2 c.index-nodes-0.is in
     let front : entries c.split_at.result.0.now ≡ listing c.requires.0 = ap entries c.split_at.ensures.front ∙ cut_front c.args.nodes.now c.requires.0 c.requires.1 (c.count.result + 1) c.requires.2 m in
-    record { one_tree = is_listing (entries c.split_at.result.0.now) c.requires.0 front }
+    record { listed = is_tape (entries c.split_at.result.0.now) c.requires.0 front }
 
 pub returns-clause-tree : goal.returns-clause-tree
 returns-clause-tree c = λ t rest h.
