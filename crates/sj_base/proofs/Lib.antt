@@ -15,3 +15,5 @@ mod Trees
 mod Utf8
 mod OneLine
 pub mod Spelled
+pub mod Misses
+pub mod Prints

@@ -1,14 +1,8 @@
 -- Steps over a text whose runs without escapes are copied whole.
 use Rattle.std.proofs.Common.{◌≡◌, ℕ, ◌+◌, ◌-◌, ◌≤◌, ◌<◌, List, [], ◌∷◌, ◌++◌, length, get_or, take, drop, flat_map, ap, sym, ◌∙◌, arith, append_assoc, get_or-drop, length-drop}
 use Rattle.std.specs.Prelude.{slice_range}
-use Rattle.std.specs.Io.{StartsWith}
-use Rattle.std.proofs.lemmas.List.{length-take, take-append-le, take_more, flat_map_more, append-nil}
+use Rattle.std.proofs.lemmas.List.{take_more, flat_map_more, append-nil}
 use Rattle.sj_base.specs.Text.{escaped}
-
-pub starts_more : (xs ys p : List ℕ) → StartsWith xs p → StartsWith (xs ++ ys) p
-starts_more xs ys p h =
-    let long : length p ≤ length xs = omega (arith, length-take (length p) xs, ap length h) in
-    rw (take-append-le (length p) xs ys long) h
 
 run_more : (text : List ℕ) (from i d : ℕ) → from ≤ i → i < length text → slice_range text from (i + 1) ≡ slice_range text from i ++ get_or text i d ∷ []
 run_more text from i d ordered within =
@@ -19,7 +13,7 @@ run_more text from i d ordered within =
     ∙ take_more (drop from text) (i - from) d short
     ∙ ap (λ x. take (i - from) (drop from text) ++ x ∷ []) (get_or-drop from text (i - from) d ∙ ap (λ n. get_or text n d) place)
 
-shown_more : (text before : List ℕ) (i d : ℕ) → i < length text → (before ++ flat_map escaped (take i text)) ++ escaped (get_or text i d) ≡ before ++ flat_map escaped (take (i + 1) text)
+pub shown_more : (text before : List ℕ) (i d : ℕ) → i < length text → (before ++ flat_map escaped (take i text)) ++ escaped (get_or text i d) ≡ before ++ flat_map escaped (take (i + 1) text)
 shown_more text before i d within =
     flat_map_more escaped before (take i text) (get_or text i d) ∙ ap (λ xs. before ++ flat_map escaped xs) (sym (take_more text i d within))
 

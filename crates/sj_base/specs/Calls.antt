@@ -28,3 +28,7 @@ one_failed old = record old { made = old.made + 1; failed = old.failed + 1 }
 -- one more call, with that error
 abbrev pub CountsErr : Calls → Calls → Error → Type 0
 CountsErr old new e = (error_kind e ≡ Interrupted → new ≡ one_interrupted old) × (error_kind e ≢ Interrupted → new ≡ one_failed old)
+
+-- those that failed, were interrupted or moved no byte
+abbrev pub missed : Calls → ℕ
+missed c = c.failed + c.interrupted + c.nothing

@@ -12,5 +12,7 @@ pub mod Literal
 pub mod Names
 pub mod Classes
 pub mod Calls
+pub mod Output
+pub mod Outputs
 pub mod Rows
 pub mod Laws

@@ -20,3 +20,8 @@ pub enum AccessError {
     #[error("Memory")]
     Memory,
 }
+
+/// A sink failed, was interrupted or took no byte. What was written before stays written.
+#[derive(Clone, Copy, Debug, PartialEq, Eq, Error)]
+#[error("WriteFault")]
+pub struct WriteFault;

@@ -1,10 +1,10 @@
-//! Strings and integers as JSON text, appended to a vector of bytes.
-ghost use Rattle.std.specs.Prelude.{◌≡◌, ◌<◌, [], ◌∷◌, ◌++◌, IsTrue, OnOk, OnErr, flat_map};
+//! Strings, integers and scalars as JSON text: appended to a vector, or printed to any output.
+ghost use Rattle.std.specs.Prelude.{◌≡◌, ◌<◌, [], ◌∷◌, ◌++◌, IsTrue, OnOk, OnErr, take, flat_map};
 ghost use Rattle.std.specs.Char.{digit_char};
-ghost use Rattle.std.specs.Io.{StartsWith};
 ghost use Rattle.sj_base.specs.Scalar.{static_tree, scalar_tree};
 ghost use Rattle.sj_base.specs.Text.{escaped, quoted, text, line_break};
 
+use crate::output::Output;
 use crate::scalar::Scalar;
 use crate::static_node::StaticNode;
 use itoa::{Buffer, Integer};
@@ -17,11 +17,8 @@ pub fn put_string(out: &mut Vec<u8>, text: &str) -> Result<(), AllocError>
     ensures err { OnErr result (out.new.items ≡ out.old.items) }
 {
     let start = out.len();
-    if let Err(e) = put_quoted(out, text.as_bytes()) {
-        out.truncate(start);
-        return Err(e);
-    }
-    Ok(())
+    let printed = print_string(out, text);
+    whole_or_none(out, start, printed)
 }
 
 /// Appends the integer in decimal digits, after a minus where it is below 0. Without memory it appends nothing.
@@ -29,8 +26,9 @@ pub fn put_int<I: Integer>(out: &mut Vec<u8>, n: I) -> Result<(), AllocError>
     ensures ok { OnOk result (out.new.items ≡ out.old.items ++ I.text n) }
     ensures err { OnErr result (out.new.items ≡ out.old.items) }
 {
-    let mut buffer = Buffer::new();
-    out.extend_from_slice(buffer.format(n).as_bytes())
+    let start = out.len();
+    let printed = print_int(out, n);
+    whole_or_none(out, start, printed)
 }
 
 /// Appends the scalar's compact text. Without memory it appends nothing.
@@ -38,11 +36,9 @@ pub fn put_text(out: &mut Vec<u8>, scalar: &Scalar<'_>) -> Result<(), AllocError
     ensures ok { OnOk result (out.new.items ≡ out.old.items ++ text (scalar_tree scalar.now)) }
     ensures err { OnErr result (out.new.items ≡ out.old.items) }
 {
-    match scalar {
-        Scalar::Static(node) => put_static(out, *node),
-        Scalar::Text(text) => put_string(out, text),
-        Scalar::Literal(literal) => out.extend_from_slice(literal.as_str().as_bytes()),
-    }
+    let start = out.len();
+    let printed = print_text(out, scalar);
+    whole_or_none(out, start, printed)
 }
 
 /// Appends a line feed and 2 spaces a level. Without memory it appends nothing.
@@ -50,64 +46,97 @@ pub fn put_break(out: &mut Vec<u8>, level: usize) -> Result<(), AllocError>
     ensures ok { OnOk result (out.new.items ≡ out.old.items ++ line_break level) }
     ensures err { OnErr result (out.new.items ≡ out.old.items) }
 {
-    let length = out.len();
-    if let Err(e) = put_indent(out, level) {
-        out.truncate(length);
-        return Err(e);
+    let start = out.len();
+    let printed = print_break(out, level);
+    whole_or_none(out, start, printed)
+}
+
+// Takes back what stands behind the start, where not all was printed.
+fn whole_or_none(
+    out: &mut Vec<u8>,
+    start: usize,
+    printed: Result<(), AllocError>,
+) -> Result<(), AllocError>
+    ensures same { result ≡ printed }
+    ensures ok { OnOk result (out.new.items ≡ out.old.items) }
+    ensures err { OnErr result (out.new.items ≡ take start out.old.items) }
+{
+    if printed.is_err() {
+        out.truncate(start);
+    }
+    printed
+}
+
+/// Prints the scalar's compact text. After a fault a prefix of it stands.
+pub fn print_text<O: Output>(out: &mut O, scalar: &Scalar<'_>) -> Result<(), O::Fault>
+    ensures ok { OnOk result (O.appends out.old out.new (text (scalar_tree scalar.now))) }
+    ensures err { OnErr result (O.begins out.old out.new (text (scalar_tree scalar.now))) }
+{
+    match scalar {
+        Scalar::Static(node) => print_static(out, *node),
+        Scalar::Text(text) => print_string(out, text),
+        Scalar::Literal(literal) => out.put(literal.as_str().as_bytes()),
+    }
+}
+
+/// Prints the text between quotes, with an escape for each quote, backslash and control character.
+/// After a fault a prefix of it stands.
+pub fn print_string<O: Output>(out: &mut O, text: &str) -> Result<(), O::Fault>
+    ensures ok { OnOk result (O.appends out.old out.new (quoted text.now)) }
+    ensures err { OnErr result (O.begins out.old out.new (quoted text.now)) }
+{
+    out.put(b"\"")?;
+    print_body(out, text.as_bytes())?;
+    out.put(b"\"")
+}
+
+/// Prints a line feed and 2 spaces a level. After a fault a prefix of them stands.
+pub fn print_break<O: Output>(out: &mut O, level: usize) -> Result<(), O::Fault>
+    ensures ok { OnOk result (O.appends out.old out.new (line_break level)) }
+    ensures err { OnErr result (O.begins out.old out.new (line_break level)) }
+{
+    out.put(b"\n")?;
+    for _i in 0..level {
+        out.put(b"  ")?;
     }
     Ok(())
 }
 
-fn put_static(out: &mut Vec<u8>, node: StaticNode) -> Result<(), AllocError>
-    ensures ok { OnOk result (out.new.items ≡ out.old.items ++ text (static_tree node)) }
-    ensures err { OnErr result (out.new.items ≡ out.old.items) }
+fn print_static<O: Output>(out: &mut O, node: StaticNode) -> Result<(), O::Fault>
+    ensures ok { OnOk result (O.appends out.old out.new (text (static_tree node))) }
+    ensures err { OnErr result (O.begins out.old out.new (text (static_tree node))) }
 {
     match node {
-        StaticNode::Null => out.extend_from_slice(b"null"),
-        StaticNode::Bool(true) => out.extend_from_slice(b"true"),
-        StaticNode::Bool(false) => out.extend_from_slice(b"false"),
-        StaticNode::I64(n) => put_int(out, n),
-        StaticNode::U64(n) => put_int(out, n),
+        StaticNode::Null => out.put(b"null"),
+        StaticNode::Bool(true) => out.put(b"true"),
+        StaticNode::Bool(false) => out.put(b"false"),
+        StaticNode::I64(n) => print_int(out, n),
+        StaticNode::U64(n) => print_int(out, n),
     }
 }
 
-// Without memory, a part of the spaces may stand.
-fn put_indent(out: &mut Vec<u8>, level: usize) -> Result<(), AllocError>
-    ensures ok { OnOk result (out.new.items ≡ out.old.items ++ line_break level) }
-    ensures err { OnErr result (StartsWith out.new.items out.old.items) }
+fn print_int<O: Output, I: Integer>(out: &mut O, n: I) -> Result<(), O::Fault>
+    ensures ok { OnOk result (O.appends out.old out.new (I.text n)) }
+    ensures err { OnErr result (O.begins out.old out.new (I.text n)) }
 {
-    out.push(b'\n')?;
-    for _i in 0..level {
-        out.extend_from_slice(b"  ")?;
-    }
-    Ok(())
-}
-
-// Without memory, a part of the text may stand.
-fn put_quoted(out: &mut Vec<u8>, text: &[u8]) -> Result<(), AllocError>
-    ensures ok { OnOk result (out.new.items ≡ out.old.items ++ quoted text.now) }
-    ensures err { OnErr result (StartsWith out.new.items out.old.items) }
-{
-    out.push(b'"')?;
-    put_body(out, text)?;
-    out.push(b'"')?;
-    Ok(())
+    let mut buffer = Buffer::new();
+    out.put(buffer.format(n).as_bytes())
 }
 
 // Copies the runs that need no escape as they are.
-fn put_body(out: &mut Vec<u8>, text: &[u8]) -> Result<(), AllocError>
-    ensures ok { OnOk result (out.new.items ≡ out.old.items ++ flat_map escaped text.now) }
-    ensures err { OnErr result (StartsWith out.new.items out.old.items) }
+fn print_body<O: Output>(out: &mut O, text: &[u8]) -> Result<(), O::Fault>
+    ensures ok { OnOk result (O.appends out.old out.new (flat_map escaped text.now)) }
+    ensures err { OnErr result (O.begins out.old out.new (flat_map escaped text.now)) }
 {
     let mut copied = 0;
     for (i, byte) in text.iter().enumerate() {
         if !is_plain(*byte) {
-            out.extend_from_slice(&text[copied..i])?;
-            put_escape(out, *byte)?;
+            out.put(&text[copied..i])?;
+            print_escape(out, *byte)?;
             copied = i + 1;
         }
     }
-    out.extend_from_slice(&text[copied..])
+    out.put(&text[copied..])
 }
 
 fn is_plain(byte: u8) -> bool
@@ -116,23 +145,21 @@ fn is_plain(byte: u8) -> bool
     byte >= b' ' && byte != b'"' && byte != b'\\'
 }
 
-fn put_escape(out: &mut Vec<u8>, byte: u8) -> Result<(), AllocError>
-    ensures ok { OnOk result (out.new.items ≡ out.old.items ++ escaped byte) }
-    ensures err { OnErr result (out.new.items ≡ out.old.items) }
+fn print_escape<O: Output>(out: &mut O, byte: u8) -> Result<(), O::Fault>
+    ensures ok { OnOk result (O.appends out.old out.new (escaped byte)) }
+    ensures err { OnErr result (O.begins out.old out.new (escaped byte)) }
 {
     match byte {
-        b'"' => out.extend_from_slice(b"\\\""),
-        b'\\' => out.extend_from_slice(b"\\\\"),
-        0x08 => out.extend_from_slice(b"\\b"),
-        b'\t' => out.extend_from_slice(b"\\t"),
-        b'\n' => out.extend_from_slice(b"\\n"),
-        0x0c => out.extend_from_slice(b"\\f"),
-        b'\r' => out.extend_from_slice(b"\\r"),
-        0x00..=0x0f => out.extend_from_slice(&[b'\\', b'u', b'0', b'0', b'0', hex_digit(byte)]),
-        0x10..=0x1f => {
-            out.extend_from_slice(&[b'\\', b'u', b'0', b'0', b'1', hex_digit(byte - 0x10)])
-        }
-        _ => out.extend_from_slice(&[byte]),
+        b'"' => out.put(b"\\\""),
+        b'\\' => out.put(b"\\\\"),
+        0x08 => out.put(b"\\b"),
+        b'\t' => out.put(b"\\t"),
+        b'\n' => out.put(b"\\n"),
+        0x0c => out.put(b"\\f"),
+        b'\r' => out.put(b"\\r"),
+        0x00..=0x0f => out.put(&[b'\\', b'u', b'0', b'0', b'0', hex_digit(byte)]),
+        0x10..=0x1f => { out.put(&[b'\\', b'u', b'0', b'0', b'1', hex_digit(byte - 0x10)]) }
+        _ => out.put(&[byte]),
     }
 }
 

@@ -1,0 +1,27 @@
+-- What is printed, piece by piece.
+use Rattle.std.proofs.Common.{◌≡◌, ℕ, ◌+◌, ◌-◌, ◌*◌, ◌<◌, List, [], ◌∷◌, ◌++◌, take, drop, flat_map, replicate, Result, Ok, Err, OnErr, ap, sym, ◌∙◌, arith}
+use Rattle.std.proofs.lemmas.List.{replicate-append-replicate, take-append-drop}
+use Rattle.std.proofs.lemmas.List.Concat.{flat_map-append}
+use Rattle.sj_base.specs.Text.{escaped}
+
+pub on_err : {T E : Type 0} (r : Result T E) {P : Type 0} → P → OnErr r P
+on_err (Ok x) p = tt
+on_err (Err e) p = p
+
+-- two spaces more
+pub level_more : (i : ℕ) → replicate (2 * i) 0x20 ++ 0x20 ∷ 0x20 ∷ [] ≡ replicate {A = ℕ} (2 * (i + 1)) 0x20
+level_more i =
+    let count : 2 * i + 2 ≡ 2 * (i + 1) = omega arith in
+    replicate-append-replicate (2 * i) 2 0x20 ∙ ap (λ (n : ℕ). replicate n 0x20) count
+
+-- those so far, two more, and those of the levels behind
+pub levels_left : (level i : ℕ) → i < level → replicate (2 * i) 0x20 ++ (0x20 ∷ 0x20 ∷ replicate (2 * (level - i - 1)) 0x20) ≡ replicate {A = ℕ} (2 * level) 0x20
+levels_left level i within =
+    let count : 2 * i + (2 + 2 * (level - i - 1)) ≡ 2 * level = omega arith in
+    ap (λ (xs : List ℕ). replicate (2 * i) 0x20 ++ xs) (replicate-append-replicate 2 (2 * (level - i - 1)) 0x20)
+    ∙ replicate-append-replicate (2 * i) (2 + 2 * (level - i - 1)) 0x20
+    ∙ ap (λ (n : ℕ). replicate n 0x20) count
+
+-- the bytes so far, and those behind them
+pub body_split : (text : List ℕ) (i : ℕ) → flat_map escaped (take i text) ++ flat_map escaped (drop i text) ≡ flat_map escaped text
+body_split text i = sym (flat_map-append escaped (take i text) (drop i text)) ∙ ap (λ (xs : List ℕ). flat_map escaped xs) (take-append-drop i text)

@@ -1,0 +1,62 @@
+//! Where a text is written to: a vector, or a sink.
+ghost use Rattle.std.specs.Prelude.{◌≡◌, List, ℕ, ◌++◌, OnOk, OnErr};
+ghost use Rattle.sj_base.specs.Output.{Continues, WritesAll, WritesPrefix};
+ghost use Rattle.sj_base.specs.Outputs.{vectors_continue, sinks_continue};
+
+use crate::fault::WriteFault;
+use crate::stream::Sink;
+use std::alloc::AllocError;
+
+/// What bytes are appended to.
+pub trait Output {
+    /// Why bytes could not be appended.
+    type Fault;
+
+    // All of the bytes are appended.
+    ghost appends: { Self → Self → List ℕ → Type 0 };
+
+    // A prefix of them is, before a fault.
+    ghost begins: { Self → Self → List ℕ → Type 0 };
+
+    /// Appends the bytes. After a fault a prefix of them stands.
+    fn put(&mut self, bytes: &[u8]) -> Result<(), Self::Fault>
+        ensures ok { OnOk result (appends self.old self.new bytes.now) }
+        ensures err { OnErr result (begins self.old self.new bytes.now) };
+
+    ghost laws: { Continues appends begins };
+}
+
+impl Output for Vec<u8> {
+    type Fault = AllocError;
+
+    ghost appends = { λ old new bytes. new.items ≡ old.items ++ bytes };
+
+    ghost begins = { λ old new bytes. (taken rest : List ℕ) × (bytes ≡ taken ++ rest) × (new.items ≡ old.items ++ taken) };
+
+    ghost laws = { vectors_continue };
+
+    fn put(&mut self, bytes: &[u8]) -> Result<(), AllocError> {
+        self.extend_from_slice(bytes)
+    }
+}
+
+impl<W: Sink> Output for W {
+    type Fault = WriteFault;
+
+    ghost appends = { λ old new bytes. WritesAll (W.contents old) (W.contents new) (W.calls old) (W.calls new) bytes };
+
+    ghost begins = { λ old new bytes. WritesPrefix (W.contents old) (W.contents new) (W.calls old) (W.calls new) bytes };
+
+    ghost laws = { sinks_continue W.contents W.calls };
+
+    fn put(&mut self, bytes: &[u8]) -> Result<(), WriteFault> {
+        let mut rest = bytes;
+        while !rest.is_empty() {
+            match self.write(rest) {
+                Ok(0) | Err(_) => return Err(WriteFault),
+                Ok(taken) => rest = &rest[taken..],
+            }
+        }
+        Ok(())
+    }
+}
