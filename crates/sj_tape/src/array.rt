@@ -1,5 +1,5 @@
 //! Views of the arrays of a tape.
-ghost use Rattle.std.specs.Prelude.{◌≡◌, ◌↔◌, ◌++◌, IsTrue, IfSome, MatchOption, option_map};
+ghost use Rattle.std.specs.Prelude.{◌≡◌, ◌↔◌, ◌++◌, IsTrue, IfSome, MatchOption, length, option_map};
 ghost use Rattle.std.specs.Iterator.{YieldsFirstBy, item_count};
 ghost use Rattle.sj_base.specs.Tree.{no_items, item};
 ghost use Rattle.sj_base.specs.Path.{item_at};
@@ -72,7 +72,8 @@ impl<'t, 'i> Array<'t, 'i> {
 
     /// The items in order.
     pub fn iter(&self) -> Iter<'t, 'i>
-        ensures { items_left result ≡ item_trees (array_items self.now) }
+        ensures items { items_left result ≡ item_trees (array_items self.now) }
+        ensures count { length (items_left result) ≡ items_len (array_items self.now) }
     {
         Iter { rest: *self }
     }
@@ -85,7 +86,8 @@ impl<'t, 'i> IntoIterator for &Array<'t, 'i> {
 
     ghost use Rattle.sj_tape.specs.Views.{array_items, items_left};
 
-    ghost into_iter_gives = { λ array it. items_left it ≡ item_trees (array_items array.now) };
+    ghost into_iter_gives = { λ array it. (items_left it ≡ item_trees (array_items array.now))
+        × (length (items_left it) ≡ items_len (array_items array.now)) };
 
     fn into_iter(self) -> Iter<'t, 'i> {
         self.iter()

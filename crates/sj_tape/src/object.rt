@@ -1,5 +1,5 @@
 //! Views of the objects of a tape.
-ghost use Rattle.std.specs.Prelude.{◌≡◌, ◌↔◌, IsTrue, MatchOption, map, option_map};
+ghost use Rattle.std.specs.Prelude.{◌≡◌, ◌↔◌, IsTrue, MatchOption, length, map, option_map};
 ghost use Rattle.std.specs.Iterator.{YieldsFirstBy, item_count};
 ghost use Rattle.sj_base.specs.Tree.{no_members, member};
 ghost use Rattle.sj_base.specs.Path.{member_at};
@@ -72,14 +72,16 @@ impl<'t, 'i> Object<'t, 'i> {
 
     /// The members in order.
     pub fn iter(&self) -> Iter<'t, 'i>
-        ensures { pairs_left result ≡ member_pairs (object_members self.now) }
+        ensures members { pairs_left result ≡ member_pairs (object_members self.now) }
+        ensures count { length (pairs_left result) ≡ members_len (object_members self.now) }
     {
         Iter { rest: *self }
     }
 
     /// The keys in order.
     pub fn keys(&self) -> Keys<'t, 'i>
-        ensures { keys_left result ≡ map (λ p. p.0) (member_pairs (object_members self.now)) }
+        ensures keys { keys_left result ≡ map (λ p. p.0) (member_pairs (object_members self.now)) }
+        ensures count { length (keys_left result) ≡ members_len (object_members self.now) }
     {
         Keys {
             members: self.iter(),
@@ -88,7 +90,8 @@ impl<'t, 'i> Object<'t, 'i> {
 
     /// The values in order.
     pub fn values(&self) -> Values<'t, 'i>
-        ensures { values_left result ≡ map (λ p. p.1) (member_pairs (object_members self.now)) }
+        ensures values { values_left result ≡ map (λ p. p.1) (member_pairs (object_members self.now)) }
+        ensures count { length (values_left result) ≡ members_len (object_members self.now) }
     {
         Values {
             members: self.iter(),
@@ -103,7 +106,8 @@ impl<'t, 'i> IntoIterator for &Object<'t, 'i> {
 
     ghost use Rattle.sj_tape.specs.Views.{object_members, pairs_left};
 
-    ghost into_iter_gives = { λ object it. pairs_left it ≡ member_pairs (object_members object.now) };
+    ghost into_iter_gives = { λ object it. (pairs_left it ≡ member_pairs (object_members object.now))
+        × (length (pairs_left it) ≡ members_len (object_members object.now)) };
 
     fn into_iter(self) -> Iter<'t, 'i> {
         self.iter()
