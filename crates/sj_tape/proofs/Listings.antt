@@ -1,26 +1,22 @@
 -- Entries are read back as the tree that they list.
-use Rattle.std.proofs.Common.{◌≡◌, ℕ, suc, ◌+◌, List, [], ◌∷◌, ◌++◌, drop, refl, sym, ◌∙◌, ap, arith, append_assoc, append-nil}
+use Rattle.std.proofs.Common.{◌≡◌, ℕ, suc, ◌+◌, List, [], ◌∷◌, ◌++◌, length, drop, refl, sym, ◌∙◌, ap, arith, append_assoc, append-nil}
 use Rattle.std.proofs.lemmas.List.{append_cancel_left}
 use Rattle.sj_base.specs.Tree.{Tree, null, boolean, integer, decimal, string, list, object, Items, no_items, item, Members, no_members, member}
-use Rattle.sj_tape.specs.Listing.{Entry, items_len, members_len, listing, items_listing, members_listing}
+use Rattle.sj_tape.specs.Listing.{Entry, items_len, members_len, item_trees, member_pairs, listing, items_listing, members_listing}
 use Rattle.sj_tape.specs.Listed.{items_of, members_of, trees, first_tree, tree_of, listed_items, listed_members, IsListing, ListsItems, ListsMembers}
 
--- the trees of items, and those of keys and values in turn
-abbrev items_list : Items → List Tree
-items_list no_items = []
-items_list (item t ts) = t ∷ items_list ts
-
+-- the trees of keys and values in turn
 abbrev members_list : Members → List Tree
 members_list no_members = []
 members_list (member k t ms) = string k ∷ t ∷ members_list ms
 
-items_of-list : (ts : Items) (rest : List Tree) → items_of (items_len ts) (items_list ts ++ rest) ≡ ts
+items_of-list : (ts : Items) (rest : List Tree) → items_of (items_len ts) (item_trees ts ++ rest) ≡ ts
 items_of-list no_items rest = refl
 items_of-list (item t ts) rest = ap (item t) (items_of-list ts rest)
 
-drop-items_list : (ts : Items) (rest : List Tree) → drop (items_len ts) (items_list ts ++ rest) ≡ rest
-drop-items_list no_items rest = refl
-drop-items_list (item t ts) rest = drop-items_list ts rest
+drop-item_trees : (ts : Items) (rest : List Tree) → drop (items_len ts) (item_trees ts ++ rest) ≡ rest
+drop-item_trees no_items rest = refl
+drop-item_trees (item t ts) rest = drop-item_trees ts rest
 
 members_of-list : (ms : Members) (rest : List Tree) → members_of (members_len ms) (members_list ms ++ rest) ≡ ms
 members_of-list no_members rest = refl
@@ -47,11 +43,11 @@ mutual
   trees-listing (decimal literal) es = refl
   trees-listing (string s) es = refl
   trees-listing (list ts) es =
-      ap (λ (us : List Tree). list (items_of (items_len ts) us) ∷ drop (items_len ts) us) (trees-items ts es) ∙ list_front _ _ _ _ (items_of-list ts (trees es)) (drop-items_list ts (trees es))
+      ap (λ (us : List Tree). list (items_of (items_len ts) us) ∷ drop (items_len ts) us) (trees-items ts es) ∙ list_front _ _ _ _ (items_of-list ts (trees es)) (drop-item_trees ts (trees es))
   trees-listing (object ms) es =
       ap (λ (us : List Tree). object (members_of (members_len ms) us) ∷ drop (members_len ms + members_len ms) us) (trees-members ms es) ∙ object_front _ _ _ _ (members_of-list ms (trees es)) (drop-members_list ms (trees es))
 
-  trees-items : (ts : Items) (es : List Entry) → trees (items_listing ts ++ es) ≡ items_list ts ++ trees es
+  trees-items : (ts : Items) (es : List Entry) → trees (items_listing ts ++ es) ≡ item_trees ts ++ trees es
   trees-items no_items es = refl
   trees-items (item t ts) es =
       ap trees (append_assoc (listing t) (items_listing ts) es) ∙ (trees-listing t (items_listing ts ++ es) ∙ ap (λ (us : List Tree). t ∷ us) (trees-items ts es))
@@ -103,3 +99,11 @@ members_from es ms len e n = ap (λ (k : ℕ). listed_members k es) (sym n) ∙ 
 
 pub lists_members : (es : List Entry) (ms : Members) (len : ℕ) → es ≡ members_listing ms → members_len ms ≡ len → ListsMembers len es
 lists_members es ms len e n = (ap members_listing (members_from es ms len e n) ∙ sym e, ap members_len (members_from es ms len e n) ∙ n)
+
+pub length-item_trees : (ts : Items) → length (item_trees ts) ≡ items_len ts
+length-item_trees no_items = refl
+length-item_trees (item t ts) = ap suc (length-item_trees ts)
+
+pub length-member_pairs : (ms : Members) → length (member_pairs ms) ≡ members_len ms
+length-member_pairs no_members = refl
+length-member_pairs (member k t ms) = ap suc (length-member_pairs ms)

@@ -19,6 +19,15 @@ abbrev pub members_len : Members → ℕ
 members_len no_members = 0
 members_len (member k t ms) = suc (members_len ms)
 
+-- items and members as lists, in document order
+abbrev pub item_trees : Items → List Tree
+item_trees no_items = []
+item_trees (item t ts) = t ∷ item_trees ts
+
+abbrev pub member_pairs : Members → List (List ℕ × Tree)
+member_pairs no_members = []
+member_pairs (member k t ms) = (k, t) ∷ member_pairs ms
+
 abbrev mutual
   pub listing : Tree → List Entry
   listing null = null_entry ∷ []

@@ -1,14 +1,19 @@
 -- What tapes and views stand for.
-use Rattle.std.specs.Prelude.{List, [], ◌∷◌, Option, Some, None, Result, Ok, Err, option_map}
+use Rattle.std.specs.Prelude.{ℕ, List, [], ◌∷◌, Option, Some, None, Result, Ok, Err, option_map, map}
 use Rattle.sj_base.specs.Tree.{Tree, null, boolean, integer, decimal, string, list, object, Items, Members}
 use Rattle.sj_base.specs.declared.static_node.ValueType.{ValueType}
 use Rattle.sj_base.specs.declared.static_node.ValueType.TheVariants.{Null as null_type}
 use Rattle.sj_base.specs.declared.fault.TryTypeError.{TryTypeError}
+use Rattle.sj_tape.specs.Listing.{item_trees, member_pairs}
 use Rattle.sj_tape.specs.Listed.{tree_of, listed_items, listed_members, listed_tree}
 use Rattle.sj_tape.specs.Nodes.{entries, node_type}
 use Rattle.sj_tape.specs.declared.array.Array.{Array}
+use Rattle.sj_tape.specs.declared.array.Iter.{Iter as ArrayIter}
 use Rattle.sj_tape.specs.declared.node.Node.{Node}
 use Rattle.sj_tape.specs.declared.object.Object.{Object}
+use Rattle.sj_tape.specs.declared.object.Iter.{Iter as ObjectIter}
+use Rattle.sj_tape.specs.declared.object.Keys.{Keys}
+use Rattle.sj_tape.specs.declared.object.Values.{Values}
 use Rattle.sj_tape.specs.declared.tape.Tape.{Tape}
 use Rattle.sj_tape.specs.declared.value.Value.{Value}
 
@@ -85,3 +90,16 @@ ok_members (Err e) = Err e
 abbrev pub ok_found : Result (Option Value) TryTypeError → Result (Option Tree) TryTypeError
 ok_found (Ok v) = Ok (option_map value_tree v)
 ok_found (Err e) = Err e
+
+-- what iterators have yet to give
+abbrev pub items_left : ArrayIter → List Tree
+items_left it = item_trees (array_items it.rest)
+
+abbrev pub pairs_left : ObjectIter → List (List ℕ × Tree)
+pairs_left it = member_pairs (object_members it.rest)
+
+abbrev pub keys_left : Keys → List (List ℕ)
+keys_left it = map (λ p. p.0) (pairs_left it.members)
+
+abbrev pub values_left : Values → List Tree
+values_left it = map (λ p. p.1) (pairs_left it.members)

@@ -1,13 +1,15 @@
 //! Views of the arrays of a tape.
-ghost use Rattle.std.specs.Prelude.{◌≡◌, ◌↔◌, ◌++◌, ℕ, IsTrue, IfSome, MatchOption, option_map};
+ghost use Rattle.std.specs.Prelude.{◌≡◌, ◌↔◌, ◌++◌, IsTrue, IfSome, MatchOption, length, option_map};
+ghost use Rattle.std.specs.Iterator.{YieldsFirstBy, item_count};
 ghost use Rattle.sj_base.specs.Tree.{no_items, item};
 ghost use Rattle.sj_base.specs.Path.{item_at};
-ghost use Rattle.sj_tape.specs.Listing.{items_len};
+ghost use Rattle.sj_tape.specs.Listing.{items_len, item_trees};
 ghost use Rattle.sj_tape.specs.Listed.{ListsItems};
 ghost use Rattle.sj_tape.specs.Nodes.{entries};
 
 use crate::node::Node;
 use crate::value::Value;
+use std::iter::{ExactSizeIterator, FusedIterator};
 
 /// An array of a tape, which stays where it is.
 #[derive(Clone, Copy, Debug)]
@@ -18,7 +20,7 @@ pub struct Array<'t, 'i> {
 }
 
 impl<'t, 'i> Array<'t, 'i> {
-    ghost use Rattle.sj_tape.specs.Views.{value_nodes, value_tree, array_nodes, array_items};
+    ghost use Rattle.sj_tape.specs.Views.{value_nodes, value_tree, array_nodes, array_items, items_left};
 
     // The first item, and an array of those behind it.
     fn split_first(&self) -> Option<(Value<'t, 'i>, Array<'t, 'i>)>
@@ -66,5 +68,63 @@ impl<'t, 'i> Array<'t, 'i> {
             rest = behind;
             left -= 1;
         }
+    }
+
+    /// The items in order.
+    pub fn iter(&self) -> Iter<'t, 'i>
+        ensures items { items_left result ≡ item_trees (array_items self.now) }
+        ensures count { length (items_left result) ≡ items_len (array_items self.now) }
+    {
+        Iter { rest: *self }
+    }
+}
+
+impl<'t, 'i> IntoIterator for &Array<'t, 'i> {
+    type Item = Value<'t, 'i>;
+
+    type IntoIter = Iter<'t, 'i>;
+
+    ghost use Rattle.sj_tape.specs.Views.{array_items, items_left};
+
+    ghost into_iter_gives = { λ array it. (items_left it ≡ item_trees (array_items array.now))
+        × (length (items_left it) ≡ items_len (array_items array.now)) };
+
+    fn into_iter(self) -> Iter<'t, 'i> {
+        self.iter()
+    }
+}
+
+/// The items of an array in order, and then none.
+#[derive(Clone, Debug, Drop)]
+pub struct Iter<'t, 'i> {
+    rest: Array<'t, 'i>,
+}
+
+impl<'t, 'i> Iterator for Iter<'t, 'i> {
+    type Item = Value<'t, 'i>;
+
+    ghost use Rattle.sj_tape.specs.Views.{value_tree, items_left};
+
+    ghost next_gives = { YieldsFirstBy value_tree items_left };
+
+    ghost remaining = { item_count items_left };
+
+    fn next(&mut self) -> Option<Value<'t, 'i>> {
+        let (first, rest) = self.rest.split_first()?;
+        self.rest = rest;
+        Some(first)
+    }
+
+    fn size_hint(&self) -> (usize, Option<usize>) {
+        let len = self.len();
+        (len, Some(len))
+    }
+}
+
+impl FusedIterator for Iter<'_, '_> {}
+
+impl ExactSizeIterator for Iter<'_, '_> {
+    fn len(&self) -> usize {
+        self.rest.len()
     }
 }

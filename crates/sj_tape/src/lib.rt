@@ -1,11 +1,11 @@
 //! The flat form of a document: its nodes in preorder, and views of it.
 #![tactic(auto)]
 
-mod array;
+pub mod array;
 mod check;
 pub mod laws;
 mod node;
-mod object;
+pub mod object;
 mod tape;
 #[cfg(test)]
 mod tests;

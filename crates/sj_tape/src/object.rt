@@ -1,13 +1,15 @@
 //! Views of the objects of a tape.
-ghost use Rattle.std.specs.Prelude.{◌≡◌, ◌↔◌, ◌∷◌, ◌++◌, ℕ, IsTrue, IfSome, MatchOption, option_map};
+ghost use Rattle.std.specs.Prelude.{◌≡◌, ◌↔◌, IsTrue, MatchOption, length, map, option_map};
+ghost use Rattle.std.specs.Iterator.{YieldsFirstBy, item_count};
 ghost use Rattle.sj_base.specs.Tree.{no_members, member};
 ghost use Rattle.sj_base.specs.Path.{member_at};
-ghost use Rattle.sj_tape.specs.Listing.{members_len};
+ghost use Rattle.sj_tape.specs.Listing.{members_len, member_pairs};
 ghost use Rattle.sj_tape.specs.Listed.{ListsMembers};
 ghost use Rattle.sj_tape.specs.Nodes.{entries};
 
 use crate::node::{Node, take_node};
 use crate::value::Value;
+use std::iter::{ExactSizeIterator, FusedIterator};
 
 /// An object of a tape, which stays where it is. Of a key that comes again each member shows.
 #[derive(Clone, Copy, Debug)]
@@ -18,7 +20,7 @@ pub struct Object<'t, 'i> {
 }
 
 impl<'t, 'i> Object<'t, 'i> {
-    ghost use Rattle.sj_tape.specs.Views.{value_nodes, value_tree, object_nodes, object_members};
+    ghost use Rattle.sj_tape.specs.Views.{value_tree, object_members, pairs_left, keys_left, values_left};
 
     // The first member, and an object of those behind it.
     fn split_first(&self) -> Option<(&'i str, Value<'t, 'i>, Object<'t, 'i>)>
@@ -66,5 +68,151 @@ impl<'t, 'i> Object<'t, 'i> {
             }
             rest = behind;
         }
+    }
+
+    /// The members in order.
+    pub fn iter(&self) -> Iter<'t, 'i>
+        ensures members { pairs_left result ≡ member_pairs (object_members self.now) }
+        ensures count { length (pairs_left result) ≡ members_len (object_members self.now) }
+    {
+        Iter { rest: *self }
+    }
+
+    /// The keys in order.
+    pub fn keys(&self) -> Keys<'t, 'i>
+        ensures keys { keys_left result ≡ map (λ p. p.0) (member_pairs (object_members self.now)) }
+        ensures count { length (keys_left result) ≡ members_len (object_members self.now) }
+    {
+        Keys {
+            members: self.iter(),
+        }
+    }
+
+    /// The values in order.
+    pub fn values(&self) -> Values<'t, 'i>
+        ensures values { values_left result ≡ map (λ p. p.1) (member_pairs (object_members self.now)) }
+        ensures count { length (values_left result) ≡ members_len (object_members self.now) }
+    {
+        Values {
+            members: self.iter(),
+        }
+    }
+}
+
+impl<'t, 'i> IntoIterator for &Object<'t, 'i> {
+    type Item = (&'i str, Value<'t, 'i>);
+
+    type IntoIter = Iter<'t, 'i>;
+
+    ghost use Rattle.sj_tape.specs.Views.{object_members, pairs_left};
+
+    ghost into_iter_gives = { λ object it. (pairs_left it ≡ member_pairs (object_members object.now))
+        × (length (pairs_left it) ≡ members_len (object_members object.now)) };
+
+    fn into_iter(self) -> Iter<'t, 'i> {
+        self.iter()
+    }
+}
+
+/// The members of an object in order, and then none.
+#[derive(Clone, Debug, Drop)]
+pub struct Iter<'t, 'i> {
+    rest: Object<'t, 'i>,
+}
+
+impl<'t, 'i> Iterator for Iter<'t, 'i> {
+    type Item = (&'i str, Value<'t, 'i>);
+
+    ghost use Rattle.sj_tape.specs.Views.{value_tree, pairs_left};
+
+    ghost next_gives = { YieldsFirstBy (λ p. (p.0.now, value_tree p.1)) pairs_left };
+
+    ghost remaining = { item_count pairs_left };
+
+    fn next(&mut self) -> Option<(&'i str, Value<'t, 'i>)> {
+        let (key, value, rest) = self.rest.split_first()?;
+        self.rest = rest;
+        Some((key, value))
+    }
+
+    fn size_hint(&self) -> (usize, Option<usize>) {
+        let len = self.len();
+        (len, Some(len))
+    }
+}
+
+impl FusedIterator for Iter<'_, '_> {}
+
+impl ExactSizeIterator for Iter<'_, '_> {
+    fn len(&self) -> usize {
+        self.rest.len()
+    }
+}
+
+/// The keys of an object in order, and then none.
+#[derive(Clone, Debug, Drop)]
+pub struct Keys<'t, 'i> {
+    members: Iter<'t, 'i>,
+}
+
+impl<'t, 'i> Iterator for Keys<'t, 'i> {
+    type Item = &'i str;
+
+    ghost use Rattle.sj_tape.specs.Views.{keys_left};
+
+    ghost next_gives = { YieldsFirstBy (λ k. k.now) keys_left };
+
+    ghost remaining = { item_count keys_left };
+
+    fn next(&mut self) -> Option<&'i str> {
+        let (key, _) = self.members.next()?;
+        Some(key)
+    }
+
+    fn size_hint(&self) -> (usize, Option<usize>) {
+        let len = self.len();
+        (len, Some(len))
+    }
+}
+
+impl FusedIterator for Keys<'_, '_> {}
+
+impl ExactSizeIterator for Keys<'_, '_> {
+    fn len(&self) -> usize {
+        self.members.len()
+    }
+}
+
+/// The values of an object in order, and then none.
+#[derive(Clone, Debug, Drop)]
+pub struct Values<'t, 'i> {
+    members: Iter<'t, 'i>,
+}
+
+impl<'t, 'i> Iterator for Values<'t, 'i> {
+    type Item = Value<'t, 'i>;
+
+    ghost use Rattle.sj_tape.specs.Views.{value_tree, values_left};
+
+    ghost next_gives = { YieldsFirstBy value_tree values_left };
+
+    ghost remaining = { item_count values_left };
+
+    fn next(&mut self) -> Option<Value<'t, 'i>> {
+        let (_, value) = self.members.next()?;
+        Some(value)
+    }
+
+    fn size_hint(&self) -> (usize, Option<usize>) {
+        let len = self.len();
+        (len, Some(len))
+    }
+}
+
+impl FusedIterator for Values<'_, '_> {}
+
+impl ExactSizeIterator for Values<'_, '_> {
+    fn len(&self) -> usize {
+        self.members.len()
     }
 }

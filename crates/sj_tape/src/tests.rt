@@ -67,3 +67,109 @@ fn members_by_key(rt: HostRuntime) -> Result<(), Fail> {
     assert!(rt; member.is_null());
     Ok(())
 }
+
+#[test]
+fn items_and_those_inside(rt: HostRuntime) -> Result<(), Fail> {
+    let tape = Tape::new(nested(5).to_vec(rt.alloc())?).ok_or("no tape")?;
+    assert!(rt; !tape.is_empty());
+    let outer = tape.as_value().as_array().ok_or("no array")?;
+    let mut seen = Vec::new(rt.alloc());
+    for item in &outer {
+        match item.as_array() {
+            None => seen.push(item.as_i64())?,
+            Some(inner) => {
+                for inner_item in inner.iter() {
+                    seen.push(inner_item.as_i64())?;
+                }
+                seen.push(None)?;
+            }
+        }
+    }
+    assert_eq!(rt;
+        seen.as_slice(),
+        [Some(1), Some(2), Some(3), None, Some(4)].as_slice()
+    );
+    Ok(())
+}
+
+#[test]
+fn none_after_the_last_item(rt: HostRuntime) -> Result<(), Fail> {
+    let tape = Tape::new(nested(5).to_vec(rt.alloc())?).ok_or("no tape")?;
+    assert!(rt; !tape.is_empty());
+    let mut items = tape.as_value().as_array().ok_or("no array")?.iter();
+    for left in [2, 1, 0] {
+        assert!(rt; items.next().is_some());
+        assert_eq!(rt; items.len(), left);
+    }
+    for _again in 0..2 {
+        assert!(rt; items.next().is_none());
+    }
+    Ok(())
+}
+
+// `{"a":1,"b":2,"a":3}`
+fn repeated() -> [Node<'static>; 7] {
+    [
+        Node::Object { len: 3, count: 6 },
+        Node::String("a"),
+        Node::Static(StaticNode::U64(1)),
+        Node::String("b"),
+        Node::Static(StaticNode::U64(2)),
+        Node::String("a"),
+        Node::Static(StaticNode::U64(3)),
+    ]
+}
+
+#[test]
+fn repeated_keys_show(rt: HostRuntime) -> Result<(), Fail> {
+    let tape = Tape::new(repeated().to_vec(rt.alloc())?).ok_or("no tape")?;
+    assert!(rt; !tape.is_empty());
+    let object = tape.as_value().as_object().ok_or("no object")?;
+    let expected = [("a", Some(1)), ("b", Some(2)), ("a", Some(3))];
+    let mut by_reference = Vec::new(rt.alloc());
+    for (key, value) in &object {
+        by_reference.push((key, value.as_i64()))?;
+    }
+    assert_eq!(rt; by_reference.as_slice(), expected.as_slice());
+    let mut members = Vec::new(rt.alloc());
+    for (key, value) in object.iter() {
+        members.push((key, value.as_i64()))?;
+    }
+    assert_eq!(rt; members.as_slice(), expected.as_slice());
+    let mut keys = Vec::new(rt.alloc());
+    for key in object.keys() {
+        keys.push(key)?;
+    }
+    assert_eq!(rt; keys.as_slice(), ["a", "b", "a"].as_slice());
+    let mut values = Vec::new(rt.alloc());
+    for value in object.values() {
+        values.push(value.as_i64())?;
+    }
+    assert_eq!(rt; values.as_slice(), [Some(1), Some(2), Some(3)].as_slice());
+    Ok(())
+}
+
+#[test]
+fn none_after_the_last_member(rt: HostRuntime) -> Result<(), Fail> {
+    let tape = Tape::new(repeated().to_vec(rt.alloc())?).ok_or("no tape")?;
+    assert!(rt; !tape.is_empty());
+    let object = tape.as_value().as_object().ok_or("no object")?;
+    let mut members = object.iter();
+    let mut keys = object.keys();
+    let mut values = object.values();
+    for left in [2, 1, 0] {
+        assert!(rt; members.next().is_some());
+        assert!(rt; keys.next().is_some());
+        assert!(rt; values.next().is_some());
+        assert_eq!(rt;
+            (members.len(), keys.len(), values.len()),
+            (left, left, left)
+        );
+    }
+    for _again in 0..2 {
+        assert!(rt; members.next().is_none());
+        assert!(rt; keys.next().is_none());
+        assert!(rt; values.next().is_none());
+    }
+    Ok(())
+}
