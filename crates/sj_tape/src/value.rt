@@ -1,8 +1,8 @@
 //! Views of the values of a tape.
-ghost use Rattle.std.specs.Prelude.{◌≡◌, ◌++◌, List, is_some, ok_or, option_map};
+ghost use Rattle.std.specs.Prelude.{◌≡◌, ◌++◌, List, is_some, ok_or, option_and_then, option_map};
 ghost use Rattle.sj_base.specs.Tree.{Tree, null};
 ghost use Rattle.sj_base.specs.Path.{key, place, member_at, item_at, child};
-ghost use Rattle.sj_reads.specs.Reads.{mismatch};
+ghost use Rattle.sj_reads.specs.Reads.{mismatch, str_read};
 ghost use Rattle.sj_tape.specs.Listing.{Entry, listing};
 ghost use Rattle.sj_tape.specs.Listed.{IsTape};
 ghost use Rattle.sj_tape.specs.Nodes.{entries};
@@ -22,7 +22,7 @@ pub struct Value<'t, 'i> {
 }
 
 impl<'t, 'i> Value<'t, 'i> {
-    ghost use Rattle.sj_tape.specs.Views.{value_nodes, value_tree, value_kind, items_in, members_in, array_items, object_members, ok_items, ok_members, ok_found};
+    ghost use Rattle.sj_tape.specs.Views.{value_nodes, value_tree, value_kind, items_in, members_in, array_items, object_members, scalar_in, ok_items, ok_members, ok_found};
 
     /// A null that stands in no tape.
     #[tactic(auto, unfolding(crate::specs::Listed::tree_of, crate::specs::Listed::listed_tree))]
@@ -114,6 +114,32 @@ impl<'t, 'i> Value<'t, 'i> {
         }
     }
 
+    /// The text, where the value is a string.
+    #[tactic(auto, unfolding(crate::specs::Listed::tree_of))]
+    pub fn into_string(self) -> Option<&'i str>
+        ensures { option_map (λ s. s.now) result ≡ str_read (scalar_in (value_tree self.entry)) }
+    {
+        let (first, _) = take_node(self.nodes)?;
+        match first {
+            Node::String(text) => Some(text),
+            _ => None,
+        }
+    }
+
+    /// The items, where the value is an array.
+    pub fn into_array(self) -> Option<Array<'t, 'i>>
+        ensures { option_map array_items result ≡ items_in (value_tree self.entry) }
+    {
+        self.as_array()
+    }
+
+    /// The members, where the value is an object.
+    pub fn into_object(self) -> Option<Object<'t, 'i>>
+        ensures { option_map object_members result ≡ members_in (value_tree self.entry) }
+    {
+        self.as_object()
+    }
+
     /// The first member with that key, where the value is an object.
     pub fn get(&self, name: &str) -> Option<Value<'t, 'i>>
         ensures { option_map value_tree result ≡ child (value_tree self.now) (key name.now) }
@@ -139,6 +165,22 @@ impl<'t, 'i> Value<'t, 'i> {
             Some(array) => array.get(index),
             None => None,
         }
+    }
+
+    /// The items of the first member with that key, where that is an array.
+    pub fn get_array(&self, name: &str) -> Option<Array<'t, 'i>>
+        ensures { option_map array_items result
+            ≡ option_and_then items_in (child (value_tree self.now) (key name.now)) }
+    {
+        self.get(name)?.as_array()
+    }
+
+    /// The members of the first member with that key, where that is an object.
+    pub fn get_object(&self, name: &str) -> Option<Object<'t, 'i>>
+        ensures { option_map object_members result
+            ≡ option_and_then members_in (child (value_tree self.now) (key name.now)) }
+    {
+        self.get(name)?.as_object()
     }
 
     /// The first member with that key, or the type met where the value is no object.
