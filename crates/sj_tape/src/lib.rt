@@ -3,6 +3,7 @@
 
 mod array;
 mod check;
+mod compare;
 pub mod laws;
 mod node;
 mod object;
