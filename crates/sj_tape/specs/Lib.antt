@@ -5,3 +5,4 @@ pub mod Nodes
 pub mod Laws
 pub mod Passing
 pub mod Views
+pub mod Compare

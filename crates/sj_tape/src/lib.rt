@@ -3,6 +3,7 @@
 
 pub mod array;
 mod check;
+mod compare;
 pub mod laws;
 mod node;
 pub mod object;
