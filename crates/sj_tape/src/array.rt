@@ -51,7 +51,7 @@ impl<'t, 'i> Array<'t, 'i> {
     pub fn is_empty(&self) -> bool
         ensures { IsTrue result ↔ (items_len (array_items self.now) ≡ 0) }
     {
-        self.len == 0
+        self.len() == 0
     }
 
     /// The item at that index.
@@ -121,10 +121,10 @@ impl<'t, 'i> Iterator for Iter<'t, 'i> {
     }
 }
 
-impl FusedIterator for Iter<'_, '_> {}
-
 impl ExactSizeIterator for Iter<'_, '_> {
     fn len(&self) -> usize {
         self.rest.len()
     }
 }
+
+impl FusedIterator for Iter<'_, '_> {}

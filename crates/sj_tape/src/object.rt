@@ -53,7 +53,7 @@ impl<'t, 'i> Object<'t, 'i> {
     pub fn is_empty(&self) -> bool
         ensures { IsTrue result ↔ (members_len (object_members self.now) ≡ 0) }
     {
-        self.len == 0
+        self.len() == 0
     }
 
     /// The first member with that key. The members before it are passed by their counts.
@@ -141,13 +141,13 @@ impl<'t, 'i> Iterator for Iter<'t, 'i> {
     }
 }
 
-impl FusedIterator for Iter<'_, '_> {}
-
 impl ExactSizeIterator for Iter<'_, '_> {
     fn len(&self) -> usize {
         self.rest.len()
     }
 }
+
+impl FusedIterator for Iter<'_, '_> {}
 
 /// The keys of an object in order, and then none.
 #[derive(Clone, Debug, Drop)]
@@ -175,13 +175,13 @@ impl<'t, 'i> Iterator for Keys<'t, 'i> {
     }
 }
 
-impl FusedIterator for Keys<'_, '_> {}
-
 impl ExactSizeIterator for Keys<'_, '_> {
     fn len(&self) -> usize {
         self.members.len()
     }
 }
+
+impl FusedIterator for Keys<'_, '_> {}
 
 /// The values of an object in order, and then none.
 #[derive(Clone, Debug, Drop)]
@@ -209,10 +209,10 @@ impl<'t, 'i> Iterator for Values<'t, 'i> {
     }
 }
 
-impl FusedIterator for Values<'_, '_> {}
-
 impl ExactSizeIterator for Values<'_, '_> {
     fn len(&self) -> usize {
         self.members.len()
     }
 }
+
+impl FusedIterator for Values<'_, '_> {}
