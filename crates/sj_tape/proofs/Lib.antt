@@ -4,3 +4,6 @@ pub mod NodeLists
 pub mod Tapes
 pub mod Cutting
 pub mod Comparing
+pub mod Towards
+pub mod LaidOut
+pub mod Printing

@@ -1,5 +1,5 @@
 -- Entries that are a whole tree, or none at all.
-use Rattle.std.proofs.Common.{◌≡◌, ◌≢◌, ℕ, ◌≤◌, List, [], ◌∷◌, ◌++◌, drop, length, Option, Some, None, IfSome, option_map, refl, sym, ◌∙◌, ap, subst, arith, append-nil, length-drop}
+use Rattle.std.proofs.Common.{◌≡◌, ◌≢◌, ℕ, ◌<◌, ◌≤◌, List, [], ◌∷◌, ◌++◌, drop, length, Option, Some, None, IfSome, option_map, refl, sym, ◌∙◌, ap, subst, arith, append-nil, length-drop}
 use Rattle.std.proofs.lemmas.List.{drop_all}
 use Rattle.sj_base.specs.Tree.{Tree, null}
 use Rattle.sj_tape.specs.Listing.{Entry, listing}
@@ -7,6 +7,7 @@ use Rattle.sj_tape.specs.Listed.{tree_of, listed_tree, option_listing, IsListing
 use Rattle.sj_tape.specs.Nodes.{entries}
 use Rattle.sj_tape.specs.Passing.{PassesTree}
 use Rattle.sj_tape.specs.declared.node.Node.{Node}
+use Rattle.sj_tape.proofs.NodeLists.{length-entries}
 use Rattle.sj_tape.proofs.Listings.{one_listing, tree_from}
 use Rattle.sj_tape.proofs.Passings.{no_tree}
 
@@ -49,6 +50,11 @@ listed_front ns rest n h e = tape_is_listing (entries ns) h (λ nil. nonempty (s
 pub null_of-nil : (ns : List Node) → ns ≡ [] → tree_of (entries ns) ≡ null
 unfolding tree_of
 null_of-nil ns e = ap (λ (ms : List Node). tree_of (entries ms)) e
+
+-- the tree of some nodes has no more of them, or is the null of none
+pub tree_fits : (ns : List Node) (m : ℕ) → IsTape (entries ns) → length ns < m → 1 < m → length (listing (tree_of (entries ns))) < m
+tree_fits [] m h fits two = omega (arith, two, ap (λ (t : Tree). length (listing t)) (null_of-nil [] refl))
+tree_fits (n ∷ ns) m h fits two = omega (arith, fits, ap (λ (es : List Entry). length es) (listed_front (n ∷ ns) ns n h refl), length-entries (n ∷ ns))
 
 -- A tree that ends at the end is the whole.
 pub whole : (es : List Entry) (n : ℕ) (r : Option ℕ) → PassesTree (drop 0 es) (option_map (λ (end : ℕ). drop end es) r) → r ≡ Some n → n ≡ length es → (t : Tree) × (es ≡ listing t)

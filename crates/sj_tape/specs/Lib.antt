@@ -6,3 +6,4 @@ pub mod Laws
 pub mod Passing
 pub mod Views
 pub mod Compare
+pub mod Layouts

@@ -23,7 +23,7 @@ impl<'t, 'i> Array<'t, 'i> {
     ghost use Rattle.sj_tape.specs.Views.{value_nodes, value_tree, array_nodes, array_items, items_left};
 
     // The first item, and an array of those behind it.
-    fn split_first(&self) -> Option<(Value<'t, 'i>, Array<'t, 'i>)>
+    pub(crate) fn split_first(&self) -> Option<(Value<'t, 'i>, Array<'t, 'i>)>
         ensures items { MatchOption result (array_items self.now ≡ no_items)
             (λ p. array_items self.now ≡ item (value_tree p.0) (array_items p.1)) }
         ensures nodes { IfSome result

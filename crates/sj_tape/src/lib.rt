@@ -4,6 +4,7 @@
 pub mod array;
 mod check;
 mod compare;
+mod encode;
 pub mod laws;
 mod node;
 pub mod object;

@@ -23,7 +23,7 @@ impl<'t, 'i> Object<'t, 'i> {
     ghost use Rattle.sj_tape.specs.Views.{value_tree, object_members, pairs_left, keys_left, values_left};
 
     // The first member, and an object of those behind it.
-    fn split_first(&self) -> Option<(&'i str, Value<'t, 'i>, Object<'t, 'i>)>
+    pub(crate) fn split_first(&self) -> Option<(&'i str, Value<'t, 'i>, Object<'t, 'i>)>
         ensures members { MatchOption result (object_members self.now ≡ no_members)
             (λ p. object_members self.now ≡ member p.0.now (value_tree p.1) (object_members p.2)) }
     {
