@@ -49,8 +49,8 @@ entry_eq-Decides a b = (same, λ e. ap (entry_eq a) (sym e) ∙ entry_eq_equiv.r
         let words : entry_words a ≡ entry_words b = (bytes_decides (entry_words a) (entry_words b)).0 (second_so (int_eq (entry_number a) (entry_number b)) _ both) in
         sym (entry_of-parts a) ∙ ((λ i. entry_of (rank i) (number i) (words i)) ∙ entry_of-parts b)
 
--- A tree has one listing, and a listing one tree.
-pub listing_tells : (s t : Tree) → listing s ≡ listing t → s ≡ t
+-- A listing has one tree.
+listing_tells : (s t : Tree) → listing s ≡ listing t → s ≡ t
 listing_tells s t e = (one_listing s t [] [] (append-nil (listing s) ∙ (e ∙ sym (append-nil (listing t))))).0
 
 pub value_eq-Decides : (v w : Value) → Decides (value_eq v w) (value_tree v ≡ value_tree w)

@@ -1,5 +1,5 @@
 //! Comparisons of the values of a tape. None takes memory.
-ghost use Rattle.std.specs.Prelude.{◌≡◌, ◌↔◌, pos, IsTrue};
+ghost use Rattle.std.specs.Prelude.{◌≡◌, ◌↔◌, IsTrue};
 ghost use Rattle.sj_base.specs.Tree.{null, boolean, integer, string};
 ghost use Rattle.sj_tape.specs.Nodes.{node_entry, entries};
 

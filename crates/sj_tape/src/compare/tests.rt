@@ -53,17 +53,46 @@ fn same(alloc: Global, nodes: &[Node<'_>], other: &[Node<'_>]) -> Result<bool, F
     Ok(answer)
 }
 
-// Whether the nodes are the same as the map.
-fn same_map(
-    alloc: Global,
-    nodes: &[Node<'_>],
-    map: &HashMap<String, Value<'_, '_>>,
-) -> Result<bool, Fail> {
+// Whether the nodes are the same as the maps `{}`, `{"a":1}` and `{"a":1,"b":null}`.
+fn same_maps(alloc: Global, nodes: &[Node<'_>]) -> Result<[bool; 3], Fail> {
+    let values = [Node::Array { len: 2, count: 2 }, ONE, NULL];
+    let values = Tape::new(values.to_vec(alloc)?).ok_or("no tape")?;
     let tape = Tape::new(nodes.to_vec(alloc)?).ok_or("no tape")?;
-    if tape.is_empty() {
+    if values.is_empty() || tape.is_empty() {
         return Err(Fail::from("no value"));
     }
-    Ok(tape.as_value().same_map(map))
+    same_maps_of(alloc, tape.as_value(), values.as_value())
+}
+
+// The same of a value, where the list has the values of the maps.
+fn same_maps_of(
+    alloc: Global,
+    value: Value<'_, '_>,
+    list: Value<'_, '_>,
+) -> Result<[bool; 3], Fail> {
+    let mut map = HashMap::new(alloc);
+    let none = value.same_map(&map);
+    map.insert(
+        String::from_str(alloc, "a")?,
+        list.get_idx(0).ok_or("no item")?,
+    )?;
+    let one = value.same_map(&map);
+    map.insert(
+        String::from_str(alloc, "b")?,
+        list.get_idx(1).ok_or("no item")?,
+    )?;
+    Ok([none, one, value.same_map(&map)])
+}
+
+// Whether the value is null, true, false, 7 and "7".
+fn answers(value: &Value<'_, '_>) -> [bool; 5] {
+    [
+        value.same_null(),
+        value.same_bool(true),
+        value.same_bool(false),
+        value.same_int(7),
+        value.same_str("7"),
+    ]
 }
 
 #[test]
@@ -139,52 +168,41 @@ fn with_scalars(rt: HostRuntime) -> Result<(), Fail> {
     let tape = Tape::new(nodes.to_vec(rt.alloc())?).ok_or("no tape")?;
     assert!(rt; !tape.is_empty());
     let list = tape.as_value();
+    assert_eq!(rt; answers(&list), [false; 5]);
     let truth = list.get_idx(0).ok_or("no item")?;
-    assert_eq!(rt;
-        (truth.same_bool(true), truth.same_bool(false)),
-        (true, false)
-    );
+    assert_eq!(rt; answers(&truth), [false, true, false, false, false]);
     let seven = list.get_idx(1).ok_or("no item")?;
-    assert_eq!(rt; (seven.same_int(7), seven.same_int(-7)), (true, false));
+    assert_eq!(rt; answers(&seven), [false, false, false, true, false]);
+    assert!(rt; !seven.same_int(-7));
     let greatest = list.get_idx(2).ok_or("no item")?;
+    assert_eq!(rt; answers(&greatest), [false; 5]);
     assert!(rt; greatest.same_int(18446744073709551615));
     assert!(rt; !greatest.same_int(-1));
     let text = list.get_idx(3).ok_or("no item")?;
-    assert_eq!(rt; (text.same_str("7"), text.same_str("8")), (true, false));
-    for value in [list, truth, seven, greatest, text] {
-        assert!(rt; !value.same_null());
-    }
-    for value in [list, seven, text, Value::null()] {
-        assert!(rt; !value.same_bool(true));
-        assert!(rt; !value.same_bool(false));
-    }
-    for value in [list, truth, text, Value::null()] {
-        assert!(rt; !value.same_int(7));
-    }
-    for value in [list, truth, seven, Value::null()] {
-        assert!(rt; !value.same_str("7"));
-    }
+    assert_eq!(rt; answers(&text), [false, false, false, false, true]);
+    assert_eq!(rt; answers(&Value::null()), [true, false, false, false, false]);
     Ok(())
 }
 
 #[test]
 fn with_maps(rt: HostRuntime) -> Result<(), Fail> {
     let alloc = rt.alloc();
-    let tape = Tape::new([ONE].to_vec(alloc)?).ok_or("no tape")?;
-    assert!(rt; !tape.is_empty());
-    let mut map = HashMap::new(alloc);
-    let empty = [Node::Object { len: 0, count: 0 }];
-    assert!(rt; same_map(alloc, &empty, &map)?);
-    assert!(rt; !same_map(alloc, &[Node::Array { len: 0, count: 0 }], &map)?);
-    map.insert(String::from_str(alloc, "a")?, tape.as_value())?;
-    assert!(rt; !same_map(alloc, &empty, &map)?);
-    assert!(rt; !same_map(alloc, &object("a", ONE, "a", ONE), &map)?);
-    map.insert(String::from_str(alloc, "b")?, Value::null())?;
-    assert!(rt; same_map(alloc, &object("a", ONE, "b", NULL), &map)?);
-    assert!(rt; same_map(alloc, &object("b", NULL, "a", SIGNED_ONE), &map)?);
-    assert!(rt; !same_map(alloc, &object("a", ONE, "c", NULL), &map)?);
-    assert!(rt; !same_map(alloc, &object("a", ONE, "b", ONE), &map)?);
-    assert!(rt; !same_map(alloc, &object("a", ONE, "a", ONE), &map)?);
-    assert!(rt; !same_map(alloc, &nested(NULL), &map)?);
+    let empty = Node::Object { len: 0, count: 0 };
+    assert_eq!(rt; same_maps(alloc, &[empty])?, [true, false, false]);
+    let empty = Node::Array { len: 0, count: 0 };
+    assert_eq!(rt; same_maps(alloc, &[empty])?, [false; 3]);
+    let once = [Node::Object { len: 1, count: 2 }, Node::String("a"), ONE];
+    assert_eq!(rt; same_maps(alloc, &once)?, [false, true, false]);
+    let twice = object("a", ONE, "a", ONE);
+    assert_eq!(rt; same_maps(alloc, &twice)?, [false; 3]);
+    for (nodes, answer) in [
+        (object("a", ONE, "b", NULL), true),
+        (object("b", NULL, "a", SIGNED_ONE), true),
+        (object("a", ONE, "c", NULL), false),
+        (object("a", ONE, "b", ONE), false),
+    ] {
+        assert_eq!(rt; same_maps(alloc, &nodes)?, [false, false, answer]);
+    }
+    assert_eq!(rt; same_maps(alloc, &nested(NULL))?, [false; 3]);
     Ok(())
 }
