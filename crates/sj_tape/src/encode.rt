@@ -7,6 +7,9 @@ ghost use Rattle.sj_tape.specs.Listing.{listing};
 ghost use Rattle.sj_tape.specs.Views.{value_tree, array_items, object_members};
 ghost use Rattle.sj_tape.specs.Layouts.{level_of, inside, line_start, separator, laid_out, pair};
 
+#[cfg(test)]
+mod tests;
+
 use crate::array::Array;
 use crate::object::Object;
 use crate::value::Value;
