@@ -3,3 +3,4 @@ pub mod Passings
 pub mod NodeLists
 pub mod Tapes
 pub mod Cutting
+pub mod Children

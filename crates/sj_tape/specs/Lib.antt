@@ -2,6 +2,8 @@ pub mod Listing
 pub mod ListingRows
 pub mod Listed
 pub mod Nodes
+pub mod Children
 pub mod Laws
 pub mod Passing
 pub mod Views
+pub mod ByName

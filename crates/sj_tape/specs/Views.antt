@@ -1,11 +1,12 @@
 -- What tapes and views stand for.
-use Rattle.std.specs.Prelude.{List, [], ◌∷◌, Option, Some, None, Result, Ok, Err, option_map}
+use Rattle.std.specs.Prelude.{ℕ, List, [], ◌∷◌, Option, Some, None, Result, Ok, Err, option_map}
 use Rattle.sj_base.specs.Tree.{Tree, null, boolean, integer, decimal, string, list, object, Items, Members}
 use Rattle.sj_base.specs.declared.static_node.ValueType.{ValueType}
 use Rattle.sj_base.specs.declared.static_node.ValueType.TheVariants.{Null as null_type}
 use Rattle.sj_base.specs.declared.fault.TryTypeError.{TryTypeError}
 use Rattle.sj_tape.specs.Listed.{tree_of, listed_items, listed_members, listed_tree}
 use Rattle.sj_tape.specs.Nodes.{entries, node_type}
+use Rattle.sj_tape.specs.Children.{member_nodes, item_nodes}
 use Rattle.sj_tape.specs.declared.array.Array.{Array}
 use Rattle.sj_tape.specs.declared.node.Node.{Node}
 use Rattle.sj_tape.specs.declared.object.Object.{Object}
@@ -57,11 +58,27 @@ array_nodes a = a.nodes.now
 abbrev pub array_items : Array → Items
 array_items a = listed_items a.len (entries (array_nodes a))
 
+-- how many items, and their nodes
+abbrev pub array_run : Array → ℕ × List Node
+array_run a = (a.len, array_nodes a)
+
+-- the nodes of the item at that index
+abbrev pub array_item : Array → ℕ → Option (List Node)
+array_item a i = item_nodes a.len (array_nodes a) i
+
 abbrev pub object_nodes : Object → List Node
 object_nodes o = o.nodes.now
 
 abbrev pub object_members : Object → Members
 object_members o = listed_members o.len (entries (object_nodes o))
+
+-- how many members, and their nodes
+abbrev pub object_run : Object → ℕ × List Node
+object_run o = (o.len, object_nodes o)
+
+-- the nodes of the first member with that key
+abbrev pub object_member : Object → List ℕ → Option (List Node)
+object_member o k = member_nodes o.len (object_nodes o) k
 
 -- the tree itself, where it holds no other
 abbrev pub scalar_in : Tree → Option Tree
