@@ -7,3 +7,4 @@ pub mod Laws
 pub mod Passing
 pub mod Views
 pub mod ByName
+pub mod ChildLaws
