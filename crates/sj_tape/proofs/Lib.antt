@@ -4,3 +4,4 @@ pub mod NodeLists
 pub mod Tapes
 pub mod Cutting
 pub mod Children
+pub mod ChildTrees

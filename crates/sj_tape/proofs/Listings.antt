@@ -3,7 +3,7 @@ use Rattle.std.proofs.Common.{◌≡◌, ℕ, suc, ◌+◌, List, [], ◌∷◌,
 use Rattle.std.proofs.lemmas.List.{append_cancel_left}
 use Rattle.sj_base.specs.Tree.{Tree, null, boolean, integer, decimal, string, list, object, Items, no_items, item, Members, no_members, member}
 use Rattle.sj_tape.specs.Listing.{Entry, items_len, members_len, listing, items_listing, members_listing}
-use Rattle.sj_tape.specs.Listed.{items_of, members_of, trees, first_tree, tree_of, listed_items, listed_members, IsListing, ListsItems, ListsMembers}
+use Rattle.sj_tape.specs.Listed.{items_of, members_of, trees, first_tree, tree_of, listed_items, listed_members, ListsItems, ListsMembers}
 
 -- the trees of items, and those of keys and values in turn
 abbrev items_list : Items → List Tree

@@ -8,9 +8,7 @@ use Rattle.sj_base.specs.declared.fault.TryTypeError.{TryTypeError}
 use Rattle.sj_reads.specs.Reads.{mismatch}
 use Rattle.sj_reads.specs.Member.{Seen, result_some}
 use Rattle.sj_tape.specs.Children.{child_nodes}
-use Rattle.sj_tape.specs.Listed.{tree_of}
-use Rattle.sj_tape.specs.Nodes.{entries}
-use Rattle.sj_tape.specs.Views.{value_nodes, value_kind, first_type, scalar_in, array_items, object_members}
+use Rattle.sj_tape.specs.Views.{value_nodes, value_kind, first_type, nodes_tree, scalar_in, array_items, object_members}
 use Rattle.sj_tape.specs.declared.array.Array.{Array}
 use Rattle.sj_tape.specs.declared.node.Node.{Node}
 use Rattle.sj_tape.specs.declared.object.Object.{Object}
@@ -18,7 +16,7 @@ use Rattle.sj_tape.specs.declared.value.Value.{Value}
 
 -- the value of nodes, as typed reads see it
 abbrev pub seen_nodes : List Node → Seen
-seen_nodes ns = record { kind = first_type ns; scalar = scalar_in (tree_of (entries ns)) }
+seen_nodes ns = record { kind = first_type ns; scalar = scalar_in (nodes_tree ns) }
 
 -- the first member with that key, where the value is an object
 abbrev pub member_seen : Value → List ℕ → Option Seen
@@ -27,7 +25,7 @@ member_seen v k = option_map seen_nodes (child_nodes (value_nodes v) (key k))
 -- none where there is no member, else what a read of it answers, or the type met
 abbrev pub read_member : {A : Type 0} → (Tree → Option A) → ValueType → Option (List Node) → Result (Option A) TryTypeError
 read_member read expected None = Ok None
-read_member read expected (Some ns) = result_some (ok_or (read (tree_of (entries ns))) (mismatch expected (first_type ns)))
+read_member read expected (Some ns) = result_some (ok_or (read (nodes_tree ns)) (mismatch expected (first_type ns)))
 
 -- Only an object has members: what is answered there, or the type met.
 abbrev pub in_object : {A : Type 0} → ValueType → Result A TryTypeError → Result A TryTypeError

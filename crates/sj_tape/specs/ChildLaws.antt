@@ -4,15 +4,15 @@ use Rattle.sj_base.specs.Path.{Part, key, child}
 use Rattle.sj_reads.specs.Member.{Seen}
 use Rattle.sj_tape.specs.ByName.{member_seen}
 use Rattle.sj_tape.specs.Children.{child_nodes}
-use Rattle.sj_tape.specs.Listed.{tree_of, IsTape}
+use Rattle.sj_tape.specs.Listed.{IsTape}
 use Rattle.sj_tape.specs.Nodes.{entries}
-use Rattle.sj_tape.specs.Views.{value_tree, scalar_in}
+use Rattle.sj_tape.specs.Views.{nodes_tree, value_tree, scalar_in}
 use Rattle.sj_tape.specs.declared.node.Node.{Node}
 use Rattle.sj_tape.specs.declared.value.Value.{Value}
 
 -- The nodes that the counts find are those of the child in the tree.
 abbrev pub ChildrenByCounts : Type 0
-ChildrenByCounts = (ns : List Node) (part : Part) → IsTape (entries ns) → option_map (λ ms. tree_of (entries ms)) (child_nodes ns part) ≡ child (tree_of (entries ns)) part
+ChildrenByCounts = (ns : List Node) (part : Part) → IsTape (entries ns) → option_map nodes_tree (child_nodes ns part) ≡ child (nodes_tree ns) part
 
 -- Typed reads see the scalar of the member in the tree.
 abbrev pub SeenMembers : Type 0

@@ -31,6 +31,10 @@ abbrev pub first_type : List Node → ValueType
 first_type [] = null_type
 first_type (n ∷ ns) = node_type n
 
+-- the tree of the value that is listed first
+abbrev pub nodes_tree : List Node → Tree
+nodes_tree ns = tree_of (entries ns)
+
 abbrev pub value_kind : Value → ValueType
 value_kind v = first_type (value_nodes v)
 

@@ -24,7 +24,7 @@ impl<'t, 'i> Object<'t, 'i> {
     fn split_first(&self) -> Option<(&'i str, Value<'t, 'i>, Object<'t, 'i>)>
         ensures members { MatchOption result (object_members self.now ≡ no_members)
             (λ p. object_members self.now ≡ member p.0.now (value_tree p.1) (object_members p.2)) }
-        ensures nodes { (k : List ℕ) → MatchOption result (object_member self.now k ≡ None)
+        ensures found { (k : List ℕ) → MatchOption result (object_member self.now k ≡ None)
             (λ p. object_member self.now k
             ≡ cond (bytes_eq p.0.now k) (Some (value_nodes p.1)) (object_member p.2 k)) }
     {

@@ -1,5 +1,5 @@
 //! Views of the values of a tape.
-ghost use Rattle.std.specs.Prelude.{◌≡◌, ◌++◌, List, IfOk, IfSome, is_some, ok_or, option_and_then, option_map};
+ghost use Rattle.std.specs.Prelude.{◌≡◌, ◌++◌, List, Some, IfOk, IfSome, is_some, ok_or, option_and_then, option_map};
 ghost use Rattle.sj_base.specs.Tree.{Tree, null};
 ghost use Rattle.sj_base.specs.Path.{key, place, member_at, item_at, child};
 ghost use Rattle.sj_base.specs.Scalar.{scalar_tree, scalar_type};
@@ -101,8 +101,9 @@ impl<'t, 'i> Value<'t, 'i> {
 
     /// The items, or the type met.
     pub fn try_as_array(&self) -> Result<Array<'t, 'i>, TryTypeError>
-        ensures { ok_items result ≡ ok_or (items_in (value_tree self.now))
+        ensures tree { ok_items result ≡ ok_or (items_in (value_tree self.now))
             (mismatch ValueType.Array (value_kind self.now)) }
+        ensures nodes { IfOk result (λ a. Some (array_run a) ≡ array_part (value_nodes self.now)) }
     {
         match self.as_array() {
             Some(array) => Ok(array),
@@ -112,8 +113,9 @@ impl<'t, 'i> Value<'t, 'i> {
 
     /// The members, or the type met.
     pub fn try_as_object(&self) -> Result<Object<'t, 'i>, TryTypeError>
-        ensures { ok_members result ≡ ok_or (members_in (value_tree self.now))
+        ensures tree { ok_members result ≡ ok_or (members_in (value_tree self.now))
             (mismatch ValueType.Object (value_kind self.now)) }
+        ensures nodes { IfOk result (λ o. Some (object_run o) ≡ object_part (value_nodes self.now)) }
     {
         match self.as_object() {
             Some(object) => Ok(object),
@@ -182,23 +184,29 @@ impl<'t, 'i> Value<'t, 'i> {
 
     /// The items of the first member with that key, where that is an array.
     pub fn get_array(&self, name: &str) -> Option<Array<'t, 'i>>
-        ensures { option_map array_items result
+        ensures tree { option_map array_items result
             ≡ option_and_then items_in (child (value_tree self.now) (key name.now)) }
+        ensures nodes { option_map array_run result
+            ≡ option_and_then array_part (child_nodes (value_nodes self.now) (key name.now)) }
     {
         self.get(name)?.as_array()
     }
 
     /// The members of the first member with that key, where that is an object.
     pub fn get_object(&self, name: &str) -> Option<Object<'t, 'i>>
-        ensures { option_map object_members result
+        ensures tree { option_map object_members result
             ≡ option_and_then members_in (child (value_tree self.now) (key name.now)) }
+        ensures nodes { option_map object_run result
+            ≡ option_and_then object_part (child_nodes (value_nodes self.now) (key name.now)) }
     {
         self.get(name)?.as_object()
     }
 
     /// The items of the first member with that key, or the type met; none where the key is not there.
     pub fn try_get_array(&self, name: &str) -> Result<Option<Array<'t, 'i>>, TryTypeError>
-        ensures { found_items result ≡ try_member items_in ValueType.Array self.now name.now }
+        ensures tree { found_items result ≡ try_member items_in ValueType.Array self.now name.now }
+        ensures nodes { IfOk result (λ found. option_map array_run found
+            ≡ option_and_then array_part (child_nodes (value_nodes self.now) (key name.now))) }
     {
         match self.try_get(name)? {
             Some(member) => Ok(Some(member.try_as_array()?)),
@@ -208,7 +216,9 @@ impl<'t, 'i> Value<'t, 'i> {
 
     /// The members of the first member with that key, or the type met; none where the key is not there.
     pub fn try_get_object(&self, name: &str) -> Result<Option<Object<'t, 'i>>, TryTypeError>
-        ensures { found_members result ≡ try_member members_in ValueType.Object self.now name.now }
+        ensures tree { found_members result ≡ try_member members_in ValueType.Object self.now name.now }
+        ensures nodes { IfOk result (λ found. option_map object_run found
+            ≡ option_and_then object_part (child_nodes (value_nodes self.now) (key name.now))) }
     {
         match self.try_get(name)? {
             Some(member) => Ok(Some(member.try_as_object()?)),

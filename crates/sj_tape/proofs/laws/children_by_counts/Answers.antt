@@ -1,4 +1,4 @@
-use Rattle.sj_tape.proofs.Children.{children_by_counts}
+use Rattle.sj_tape.proofs.ChildTrees.{children_by_counts}
 use Rattle.sj_tape.proofs.laws.children_by_counts.Goals as goal
 
 pub returns : goal.returns

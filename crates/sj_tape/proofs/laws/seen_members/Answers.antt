@@ -1,4 +1,4 @@
-use Rattle.sj_tape.proofs.Children.{seen_members}
+use Rattle.sj_tape.proofs.ChildTrees.{seen_members}
 use Rattle.sj_tape.proofs.laws.seen_members.Goals as goal
 
 pub returns : goal.returns

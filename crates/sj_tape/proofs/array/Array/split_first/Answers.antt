@@ -2,7 +2,6 @@ use Rattle.std.proofs.Common.{◌-◌, ◌∙◌, arith, sym}
 use Rattle.sj_tape.specs.Listing.{items_listing}
 use Rattle.sj_tape.specs.Nodes.{entries}
 use Rattle.sj_tape.proofs.Listings.{items_from, lists_items}
-use Rattle.sj_tape.specs.Children.{item_nodes}
 use Rattle.sj_tape.proofs.Children.{item_nodes-step, item_nodes-first, item_nodes-none}
 use Rattle.sj_tape.proofs.Cutting.{items_front, no_items_left, item_same}
 use Rattle.sj_tape.proofs.array.Array.split_first.Goals as goal
