@@ -3,6 +3,7 @@ pub mod ListingRows
 pub mod Listed
 pub mod Nodes
 pub mod Children
+pub mod ChildRows
 pub mod Laws
 pub mod Passing
 pub mod Views
