@@ -140,7 +140,7 @@ impl<'t, 'i> Value<'t, 'i> {
         ensures tree { option_map array_items result ≡ items_in (value_tree self.entry) }
         ensures nodes { option_map array_run result ≡ array_part (value_nodes self.entry) }
     {
-        self.as_array()
+        Value::as_array(&self)
     }
 
     /// The members, where the value is an object.
@@ -148,7 +148,7 @@ impl<'t, 'i> Value<'t, 'i> {
         ensures tree { option_map object_members result ≡ members_in (value_tree self.entry) }
         ensures nodes { option_map object_run result ≡ object_part (value_nodes self.entry) }
     {
-        self.as_object()
+        Value::as_object(&self)
     }
 
     /// The first member with that key, where the value is an object.
