@@ -1,5 +1,5 @@
 //! Views of the arrays of a tape.
-ghost use Rattle.std.specs.Prelude.{◌≡◌, ◌↔◌, ◌++◌, ◌-◌, ◌<◌, ℕ, Some, None, IsTrue, IfSome, MatchOption, option_map};
+ghost use Rattle.std.specs.Prelude.{◌≡◌, ◌↔◌, ◌++◌, ◌-◌, ◌<◌, ℕ, None, IsTrue, IfSome, MatchOption, option_map};
 ghost use Rattle.sj_base.specs.Tree.{no_items, item};
 ghost use Rattle.sj_base.specs.Path.{item_at};
 ghost use Rattle.sj_tape.specs.Listing.{items_len};

@@ -202,30 +202,6 @@ impl<'t, 'i> Value<'t, 'i> {
         self.get(name)?.as_object()
     }
 
-    /// The items of the first member with that key, or the type met; none where the key is not there.
-    pub fn try_get_array(&self, name: &str) -> Result<Option<Array<'t, 'i>>, TryTypeError>
-        ensures tree { found_items result ≡ try_member items_in ValueType.Array self.now name.now }
-        ensures nodes { IfOk result (λ found. option_map array_run found
-            ≡ option_and_then array_part (child_nodes (value_nodes self.now) (key name.now))) }
-    {
-        match self.try_get(name)? {
-            Some(member) => Ok(Some(member.try_as_array()?)),
-            None => Ok(None),
-        }
-    }
-
-    /// The members of the first member with that key, or the type met; none where the key is not there.
-    pub fn try_get_object(&self, name: &str) -> Result<Option<Object<'t, 'i>>, TryTypeError>
-        ensures tree { found_members result ≡ try_member members_in ValueType.Object self.now name.now }
-        ensures nodes { IfOk result (λ found. option_map object_run found
-            ≡ option_and_then object_part (child_nodes (value_nodes self.now) (key name.now))) }
-    {
-        match self.try_get(name)? {
-            Some(member) => Ok(Some(member.try_as_object()?)),
-            None => Ok(None),
-        }
-    }
-
     /// The first member with that key, or the type met where the value is no object.
     pub fn try_get(&self, name: &str) -> Result<Option<Value<'t, 'i>>, TryTypeError>
         ensures tree { ok_found result
@@ -250,6 +226,30 @@ impl<'t, 'i> Value<'t, 'i> {
         match self.as_array() {
             Some(array) => Ok(array.get(index)),
             None => Err(self.mismatch(ValueType::Array)),
+        }
+    }
+
+    /// The items of the first member with that key, or the type met; none where the key is not there.
+    pub fn try_get_array(&self, name: &str) -> Result<Option<Array<'t, 'i>>, TryTypeError>
+        ensures tree { found_items result ≡ try_member items_in ValueType.Array self.now name.now }
+        ensures nodes { IfOk result (λ found. option_map array_run found
+            ≡ option_and_then array_part (child_nodes (value_nodes self.now) (key name.now))) }
+    {
+        match self.try_get(name)? {
+            Some(member) => Ok(Some(member.try_as_array()?)),
+            None => Ok(None),
+        }
+    }
+
+    /// The members of the first member with that key, or the type met; none where the key is not there.
+    pub fn try_get_object(&self, name: &str) -> Result<Option<Object<'t, 'i>>, TryTypeError>
+        ensures tree { found_members result ≡ try_member members_in ValueType.Object self.now name.now }
+        ensures nodes { IfOk result (λ found. option_map object_run found
+            ≡ option_and_then object_part (child_nodes (value_nodes self.now) (key name.now))) }
+    {
+        match self.try_get(name)? {
+            Some(member) => Ok(Some(member.try_as_object()?)),
+            None => Ok(None),
         }
     }
 
