@@ -7,3 +7,5 @@ pub mod Comparing
 pub mod Towards
 pub mod LaidOut
 pub mod Printing
+pub mod Children
+pub mod ChildTrees

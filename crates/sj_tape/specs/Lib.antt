@@ -2,8 +2,12 @@ pub mod Listing
 pub mod ListingRows
 pub mod Listed
 pub mod Nodes
+pub mod Children
+pub mod ChildRows
 pub mod Laws
 pub mod Passing
 pub mod Views
 pub mod Compare
 pub mod Layouts
+pub mod ByName
+pub mod ChildLaws

@@ -7,6 +7,7 @@ use Rattle.sj_base.specs.declared.fault.TryTypeError.{TryTypeError}
 use Rattle.sj_tape.specs.Listing.{item_trees, member_pairs}
 use Rattle.sj_tape.specs.Listed.{tree_of, listed_items, listed_members, listed_tree}
 use Rattle.sj_tape.specs.Nodes.{entries, node_type}
+use Rattle.sj_tape.specs.Children.{member_nodes, item_nodes}
 use Rattle.sj_tape.specs.declared.array.Array.{Array}
 use Rattle.sj_tape.specs.declared.array.Iter.{Iter as ArrayIter}
 use Rattle.sj_tape.specs.declared.node.Node.{Node}
@@ -35,6 +36,10 @@ abbrev pub first_type : List Node → ValueType
 first_type [] = null_type
 first_type (n ∷ ns) = node_type n
 
+-- the tree of the value that is listed first
+abbrev pub nodes_tree : List Node → Tree
+nodes_tree ns = tree_of (entries ns)
+
 abbrev pub value_kind : Value → ValueType
 value_kind v = first_type (value_nodes v)
 
@@ -62,11 +67,27 @@ array_nodes a = a.nodes.now
 abbrev pub array_items : Array → Items
 array_items a = listed_items a.len (entries (array_nodes a))
 
+-- how many items, and their nodes
+abbrev pub array_run : Array → ℕ × List Node
+array_run a = (a.len, array_nodes a)
+
+-- the nodes of the item at that index
+abbrev pub array_item : Array → ℕ → Option (List Node)
+array_item a i = item_nodes a.len (array_nodes a) i
+
 abbrev pub object_nodes : Object → List Node
 object_nodes o = o.nodes.now
 
 abbrev pub object_members : Object → Members
 object_members o = listed_members o.len (entries (object_nodes o))
+
+-- how many members, and their nodes
+abbrev pub object_run : Object → ℕ × List Node
+object_run o = (o.len, object_nodes o)
+
+-- the nodes of the first member with that key
+abbrev pub object_member : Object → List ℕ → Option (List Node)
+object_member o k = member_nodes o.len (object_nodes o) k
 
 -- the tree itself, where it holds no other
 abbrev pub scalar_in : Tree → Option Tree

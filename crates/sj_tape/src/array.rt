@@ -1,5 +1,5 @@
 //! Views of the arrays of a tape.
-ghost use Rattle.std.specs.Prelude.{◌≡◌, ◌↔◌, ◌++◌, IsTrue, IfSome, MatchOption, length, option_map};
+ghost use Rattle.std.specs.Prelude.{◌≡◌, ◌↔◌, ◌++◌, IsTrue, IfSome, MatchOption, length, option_map, ◌-◌, ◌<◌, ℕ, None};
 ghost use Rattle.std.specs.Iterator.{YieldsFirstBy, item_count};
 ghost use Rattle.sj_base.specs.Tree.{no_items, item};
 ghost use Rattle.sj_base.specs.Path.{item_at};
@@ -20,7 +20,7 @@ pub struct Array<'t, 'i> {
 }
 
 impl<'t, 'i> Array<'t, 'i> {
-    ghost use Rattle.sj_tape.specs.Views.{value_nodes, value_tree, array_nodes, array_items, items_left};
+    ghost use Rattle.sj_tape.specs.Views.{value_nodes, value_tree, array_nodes, array_items, items_left, array_item};
 
     // The first item, and an array of those behind it.
     pub(crate) fn split_first(&self) -> Option<(Value<'t, 'i>, Array<'t, 'i>)>
@@ -28,6 +28,9 @@ impl<'t, 'i> Array<'t, 'i> {
             (λ p. array_items self.now ≡ item (value_tree p.0) (array_items p.1)) }
         ensures nodes { IfSome result
             (λ p. array_nodes self.now ≡ value_nodes p.0 ++ array_nodes p.1) }
+        ensures first { array_item self.now 0 ≡ option_map (λ p. value_nodes p.0) result }
+        ensures behind { (i : ℕ) → 0 < i → MatchOption result (array_item self.now i ≡ None)
+            (λ p. array_item self.now i ≡ array_item p.1 (i - 1)) }
     {
         if self.len == 0 {
             return None;
@@ -56,7 +59,8 @@ impl<'t, 'i> Array<'t, 'i> {
 
     /// The item at that index.
     pub fn get(&self, index: usize) -> Option<Value<'t, 'i>>
-        ensures { option_map value_tree result ≡ item_at (array_items self.now) index }
+        ensures tree { option_map value_tree result ≡ item_at (array_items self.now) index }
+        ensures nodes { option_map value_nodes result ≡ array_item self.now index }
     {
         let mut rest = *self;
         let mut left = index;

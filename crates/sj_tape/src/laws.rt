@@ -1,7 +1,18 @@
 //! Laws of the definitions that the contracts cite: each function has no code, and its contract is the law.
+ghost use Rattle.sj_tape.specs.ChildLaws.{ChildrenByCounts, SeenMembers};
 ghost use Rattle.sj_tape.specs.Laws.{OneListing};
 
 /// A listing has one tree: its keys and the order of its members show.
 pub fn one_listing()
     ensures { OneListing }
+{}
+
+/// The nodes of a member or an item, which the counts find, are those of the child in the tree.
+pub fn children_by_counts()
+    ensures { ChildrenByCounts }
+{}
+
+/// Typed reads by name see the scalar of the child in the tree.
+pub fn seen_members()
+    ensures { SeenMembers }
 {}

@@ -1,5 +1,5 @@
 //! Views of the objects of a tape.
-ghost use Rattle.std.specs.Prelude.{◌≡◌, ◌↔◌, IsTrue, MatchOption, length, map, option_map};
+ghost use Rattle.std.specs.Prelude.{◌≡◌, ◌↔◌, IsTrue, MatchOption, length, map, option_map, ℕ, List, Some, None, bytes_eq, cond};
 ghost use Rattle.std.specs.Iterator.{YieldsFirstBy, item_count};
 ghost use Rattle.sj_base.specs.Tree.{no_members, member};
 ghost use Rattle.sj_base.specs.Path.{member_at};
@@ -20,12 +20,15 @@ pub struct Object<'t, 'i> {
 }
 
 impl<'t, 'i> Object<'t, 'i> {
-    ghost use Rattle.sj_tape.specs.Views.{value_tree, object_members, pairs_left, keys_left, values_left};
+    ghost use Rattle.sj_tape.specs.Views.{value_tree, object_members, pairs_left, keys_left, values_left, value_nodes, object_member};
 
     // The first member, and an object of those behind it.
     pub(crate) fn split_first(&self) -> Option<(&'i str, Value<'t, 'i>, Object<'t, 'i>)>
         ensures members { MatchOption result (object_members self.now ≡ no_members)
             (λ p. object_members self.now ≡ member p.0.now (value_tree p.1) (object_members p.2)) }
+        ensures found { (k : List ℕ) → MatchOption result (object_member self.now k ≡ None)
+            (λ p. object_member self.now k
+            ≡ cond (bytes_eq p.0.now k) (Some (value_nodes p.1)) (object_member p.2 k)) }
     {
         if self.len == 0 {
             return None;
@@ -58,7 +61,8 @@ impl<'t, 'i> Object<'t, 'i> {
 
     /// The first member with that key. The members before it are passed by their counts.
     pub fn get(&self, name: &str) -> Option<Value<'t, 'i>>
-        ensures { option_map value_tree result ≡ member_at (object_members self.now) name.now }
+        ensures tree { option_map value_tree result ≡ member_at (object_members self.now) name.now }
+        ensures nodes { option_map value_nodes result ≡ object_member self.now name.now }
     {
         let mut rest = *self;
         loop {

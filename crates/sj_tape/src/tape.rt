@@ -78,6 +78,8 @@ impl<'i> Tape<'i> {
         ensures nodes { value_nodes result ≡ tape_nodes self.now }
         ensures tree { tape_tree self.now ≡ Some (value_tree result) }
     {
-        Value { nodes: &self.nodes }
+        Value {
+            nodes: self.nodes(),
+        }
     }
 }

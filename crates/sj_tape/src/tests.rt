@@ -1,6 +1,6 @@
 use super::*;
-use sj_base::{StaticNode, ValueType};
-use sj_reads::ValueAsScalar;
+use sj_base::{StaticNode, TryTypeError, ValueType};
+use sj_reads::{ValueAsScalar, ValueGetScalar};
 use std::test::Fail;
 
 // The nodes of `[1,[2,3],4]`, where the outer count is right.
@@ -171,5 +171,139 @@ fn none_after_the_last_member(rt: HostRuntime) -> Result<(), Fail> {
         assert!(rt; keys.next().is_none());
         assert!(rt; values.next().is_none());
     }
+    Ok(())
+}
+
+#[test]
+fn try_get_on_tape(rt: HostRuntime) -> Result<(), Fail> {
+    let nodes = [
+        Node::Object { len: 1, count: 2 },
+        Node::String("the_answer"),
+        Node::Static(StaticNode::U64(42)),
+    ];
+    let tape = Tape::new(nodes.to_vec(rt.alloc())?).ok_or("no tape")?;
+    assert!(rt; !tape.is_empty());
+    let value = tape.as_value();
+    let found = value.try_get("the_answer").ok().ok_or("no object")?;
+    let answer = found.ok_or("no member")?;
+    assert_eq!(rt; answer.as_i64(), Some(42));
+    let absent = value.try_get("does_not_exist").ok().ok_or("no object")?;
+    assert!(rt; absent.is_none());
+    let no_array = TryTypeError {
+        expected: ValueType::Array,
+        got: ValueType::Object,
+    };
+    assert_eq!(rt; value.try_get_idx(0).err(), Some(no_array));
+    Ok(())
+}
+
+// The nodes of `{"a":[1],"b":{"c":"d"},"b":2,"s":3,"u":4}`, with both carriers.
+fn members() -> [Node<'static>; 14] {
+    [
+        Node::Object { len: 5, count: 13 },
+        Node::String("a"),
+        Node::Array { len: 1, count: 1 },
+        Node::Static(StaticNode::U64(1)),
+        Node::String("b"),
+        Node::Object { len: 1, count: 2 },
+        Node::String("c"),
+        Node::String("d"),
+        Node::String("b"),
+        Node::Static(StaticNode::U64(2)),
+        Node::String("s"),
+        Node::Static(StaticNode::I64(3)),
+        Node::String("u"),
+        Node::Static(StaticNode::U64(4)),
+    ]
+}
+
+// The error of a read that met another type.
+fn mismatch(expected: ValueType, got: ValueType) -> Option<TryTypeError> {
+    Some(TryTypeError { expected, got })
+}
+
+#[test]
+fn containers_by_key(rt: HostRuntime) -> Result<(), Fail> {
+    let tape = Tape::new(members().to_vec(rt.alloc())?).ok_or("no tape")?;
+    assert!(rt; !tape.is_empty());
+    let value = tape.as_value();
+    let array = value.get_array("a").ok_or("no array")?;
+    assert_eq!(rt; array.len(), 1);
+    assert!(rt; value.get_array("b").is_none());
+    assert!(rt; value.get_array("x").is_none());
+    let object = value.get_object("b").ok_or("no object")?;
+    let text = object.get("c").ok_or("no member")?;
+    assert_eq!(rt; text.into_string(), Some("d"));
+    assert!(rt; value.get_object("a").is_none());
+    let no_array = mismatch(ValueType::Array, ValueType::I64);
+    assert_eq!(rt; value.try_get_array("s").err(), no_array);
+    let no_object = mismatch(ValueType::Object, ValueType::U64);
+    assert_eq!(rt; value.try_get_object("u").err(), no_object);
+    let found = value.try_get_array("a").ok().ok_or("no object")?;
+    assert!(rt; found.is_some());
+    let found = value.try_get_object("b").ok().ok_or("no object")?;
+    assert!(rt; found.is_some());
+    let absent = value.try_get_array("x").ok().ok_or("no object")?;
+    assert!(rt; absent.is_none());
+    let absent = value.try_get_object("x").ok().ok_or("no object")?;
+    assert!(rt; absent.is_none());
+    let item = array.get(0).ok_or("no item")?;
+    let no_members = mismatch(ValueType::Object, ValueType::U64);
+    assert_eq!(rt; item.try_get_array("a").err(), no_members);
+    assert_eq!(rt; item.try_get_object("a").err(), no_members);
+    Ok(())
+}
+
+#[test]
+fn scalars_by_key(rt: HostRuntime) -> Result<(), Fail> {
+    let tape = Tape::new(members().to_vec(rt.alloc())?).ok_or("no tape")?;
+    assert!(rt; !tape.is_empty());
+    let value = tape.as_value();
+    assert_eq!(rt; value.get_u8("s"), Some(3));
+    assert_eq!(rt; value.get_i8("u"), Some(4));
+    assert_eq!(rt; value.try_get_i64("u"), Ok(Some(4)));
+    assert_eq!(rt; value.try_get_i64("x"), Ok(None));
+    let signed = mismatch(ValueType::Bool, ValueType::I64);
+    assert_eq!(rt; value.try_get_bool("s").err(), signed);
+    let unsigned = mismatch(ValueType::String, ValueType::U64);
+    assert_eq!(rt; value.try_get_str("u").err(), unsigned);
+    // The first of the two is read.
+    let first = mismatch(ValueType::I64, ValueType::Object);
+    assert_eq!(rt; value.try_get_i64("b").err(), first);
+    let member = value.get("a").ok_or("no member")?;
+    let no_members = mismatch(ValueType::Object, ValueType::Array);
+    assert_eq!(rt; member.try_get_i64("a").err(), no_members);
+    Ok(())
+}
+
+#[test]
+fn parts_of_a_value(rt: HostRuntime) -> Result<(), Fail> {
+    let tape = Tape::new(nested(5).to_vec(rt.alloc())?).ok_or("no tape")?;
+    assert!(rt; !tape.is_empty());
+    let value = tape.as_value();
+    let array = value.into_array().ok_or("no array")?;
+    assert_eq!(rt; array.len(), 3);
+    assert!(rt; value.into_object().is_none());
+    assert!(rt; value.into_string().is_none());
+    let nodes = [Node::Object { len: 0, count: 0 }];
+    let tape = Tape::new(nodes.to_vec(rt.alloc())?).ok_or("no tape")?;
+    assert!(rt; !tape.is_empty());
+    let object = tape.as_value().into_object().ok_or("no object")?;
+    assert!(rt; object.is_empty());
+    assert!(rt; tape.as_value().into_array().is_none());
+    Ok(())
+}
+
+#[test]
+fn null_in_no_tape(rt: HostRuntime) -> Result<(), Fail> {
+    let value = Value::null();
+    assert!(rt; value.is_null());
+    assert!(rt; value.value_type() == ValueType::Null);
+    assert!(rt; value.get("a").is_none());
+    assert!(rt; value.get_idx(0).is_none());
+    assert!(rt; value.into_string().is_none());
+    let no_members = mismatch(ValueType::Object, ValueType::Null);
+    assert_eq!(rt; value.try_get("a").err(), no_members);
+    assert_eq!(rt; value.try_get_bool("a").err(), no_members);
     Ok(())
 }

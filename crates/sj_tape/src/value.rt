@@ -1,7 +1,8 @@
 //! Views of the values of a tape.
-ghost use Rattle.std.specs.Prelude.{◌≡◌, ◌++◌, List, is_some, ok_or, option_and_then, option_map};
+ghost use Rattle.std.specs.Prelude.{◌≡◌, ◌++◌, List, Some, IfOk, IfSome, is_some, ok_or, option_and_then, option_map};
 ghost use Rattle.sj_base.specs.Tree.{Tree, null};
 ghost use Rattle.sj_base.specs.Path.{key, place, member_at, item_at, child};
+ghost use Rattle.sj_base.specs.Scalar.{scalar_tree, scalar_type};
 ghost use Rattle.sj_reads.specs.Reads.{mismatch, str_read};
 ghost use Rattle.sj_tape.specs.Listing.{Entry, listing};
 ghost use Rattle.sj_tape.specs.Listed.{IsTape};
@@ -11,7 +12,7 @@ use crate::array::Array;
 use crate::node::{Node, take_node};
 use crate::object::Object;
 use sj_base::{Scalar, StaticNode, TryTypeError, ValueType};
-use sj_reads::{TypedValue, ValueAsScalar};
+use sj_reads::{Member, TypedValue, ValueAsScalar, ValueGetScalar};
 
 /// A value of a tape, which stays where it is, or a null that stands in no tape.
 #[derive(Clone, Copy, Debug)]
@@ -22,7 +23,9 @@ pub struct Value<'t, 'i> {
 }
 
 impl<'t, 'i> Value<'t, 'i> {
-    ghost use Rattle.sj_tape.specs.Views.{value_nodes, value_tree, value_kind, items_in, members_in, array_items, object_members, scalar_in, ok_items, ok_members, ok_found};
+    ghost use Rattle.sj_tape.specs.ByName.{try_nodes, try_member, found_nodes, found_items, found_members};
+    ghost use Rattle.sj_tape.specs.Children.{array_part, object_part, child_nodes};
+    ghost use Rattle.sj_tape.specs.Views.{value_nodes, value_tree, value_kind, items_in, members_in, array_run, array_items, object_run, object_members, scalar_in, ok_items, ok_members, ok_found};
 
     /// A null that stands in no tape.
     #[tactic(auto, unfolding(crate::specs::Listed::tree_of, crate::specs::Listed::listed_tree))]
@@ -39,6 +42,8 @@ impl<'t, 'i> Value<'t, 'i> {
         ensures parts { nodes.now ≡ value_nodes result.0 ++ result.1.now }
         ensures tree { (t : Tree) (rest : List Entry) → entries nodes.now ≡ listing t ++ rest
             → (value_tree result.0 ≡ t) × (entries result.1.now ≡ rest) }
+        ensures first { (t : Tree) (rest : List Entry) → entries nodes.now ≡ listing t ++ rest
+            → entries (value_nodes result.0) ≡ listing t }
     {
         let (first, rest) = nodes.split_at(nodes[0].count() + 1);
         (Value { nodes: first }, rest)
@@ -57,7 +62,8 @@ impl<'t, 'i> Value<'t, 'i> {
     /// The items, where the value is an array.
     #[tactic(auto, unfolding(crate::specs::Listed::tree_of))]
     pub fn as_array(&self) -> Option<Array<'t, 'i>>
-        ensures { option_map array_items result ≡ items_in (value_tree self.now) }
+        ensures tree { option_map array_items result ≡ items_in (value_tree self.now) }
+        ensures nodes { option_map array_run result ≡ array_part (value_nodes self.now) }
     {
         let (first, nodes) = take_node(self.nodes)?;
         match first {
@@ -69,7 +75,8 @@ impl<'t, 'i> Value<'t, 'i> {
     /// The members, where the value is an object.
     #[tactic(auto, unfolding(crate::specs::Listed::tree_of))]
     pub fn as_object(&self) -> Option<Object<'t, 'i>>
-        ensures { option_map object_members result ≡ members_in (value_tree self.now) }
+        ensures tree { option_map object_members result ≡ members_in (value_tree self.now) }
+        ensures nodes { option_map object_run result ≡ object_part (value_nodes self.now) }
     {
         let (first, nodes) = take_node(self.nodes)?;
         match first {
@@ -94,8 +101,9 @@ impl<'t, 'i> Value<'t, 'i> {
 
     /// The items, or the type met.
     pub fn try_as_array(&self) -> Result<Array<'t, 'i>, TryTypeError>
-        ensures { ok_items result ≡ ok_or (items_in (value_tree self.now))
+        ensures tree { ok_items result ≡ ok_or (items_in (value_tree self.now))
             (mismatch ValueType.Array (value_kind self.now)) }
+        ensures nodes { IfOk result (λ a. Some (array_run a) ≡ array_part (value_nodes self.now)) }
     {
         match self.as_array() {
             Some(array) => Ok(array),
@@ -105,8 +113,9 @@ impl<'t, 'i> Value<'t, 'i> {
 
     /// The members, or the type met.
     pub fn try_as_object(&self) -> Result<Object<'t, 'i>, TryTypeError>
-        ensures { ok_members result ≡ ok_or (members_in (value_tree self.now))
+        ensures tree { ok_members result ≡ ok_or (members_in (value_tree self.now))
             (mismatch ValueType.Object (value_kind self.now)) }
+        ensures nodes { IfOk result (λ o. Some (object_run o) ≡ object_part (value_nodes self.now)) }
     {
         match self.as_object() {
             Some(object) => Ok(object),
@@ -128,21 +137,25 @@ impl<'t, 'i> Value<'t, 'i> {
 
     /// The items, where the value is an array.
     pub fn into_array(self) -> Option<Array<'t, 'i>>
-        ensures { option_map array_items result ≡ items_in (value_tree self.entry) }
+        ensures tree { option_map array_items result ≡ items_in (value_tree self.entry) }
+        ensures nodes { option_map array_run result ≡ array_part (value_nodes self.entry) }
     {
-        self.as_array()
+        Value::as_array(&self)
     }
 
     /// The members, where the value is an object.
     pub fn into_object(self) -> Option<Object<'t, 'i>>
-        ensures { option_map object_members result ≡ members_in (value_tree self.entry) }
+        ensures tree { option_map object_members result ≡ members_in (value_tree self.entry) }
+        ensures nodes { option_map object_run result ≡ object_part (value_nodes self.entry) }
     {
-        self.as_object()
+        Value::as_object(&self)
     }
 
     /// The first member with that key, where the value is an object.
     pub fn get(&self, name: &str) -> Option<Value<'t, 'i>>
-        ensures { option_map value_tree result ≡ child (value_tree self.now) (key name.now) }
+        ensures tree { option_map value_tree result ≡ child (value_tree self.now) (key name.now) }
+        ensures nodes { option_map value_nodes result
+            ≡ child_nodes (value_nodes self.now) (key name.now) }
     {
         match self.as_object() {
             Some(object) => object.get(name),
@@ -159,7 +172,9 @@ impl<'t, 'i> Value<'t, 'i> {
 
     /// The item at that index, where the value is an array.
     pub fn get_idx(&self, index: usize) -> Option<Value<'t, 'i>>
-        ensures { option_map value_tree result ≡ child (value_tree self.now) (place index) }
+        ensures tree { option_map value_tree result ≡ child (value_tree self.now) (place index) }
+        ensures nodes { option_map value_nodes result
+            ≡ child_nodes (value_nodes self.now) (place index) }
     {
         match self.as_array() {
             Some(array) => array.get(index),
@@ -169,25 +184,30 @@ impl<'t, 'i> Value<'t, 'i> {
 
     /// The items of the first member with that key, where that is an array.
     pub fn get_array(&self, name: &str) -> Option<Array<'t, 'i>>
-        ensures { option_map array_items result
+        ensures tree { option_map array_items result
             ≡ option_and_then items_in (child (value_tree self.now) (key name.now)) }
+        ensures nodes { option_map array_run result
+            ≡ option_and_then array_part (child_nodes (value_nodes self.now) (key name.now)) }
     {
         self.get(name)?.as_array()
     }
 
     /// The members of the first member with that key, where that is an object.
     pub fn get_object(&self, name: &str) -> Option<Object<'t, 'i>>
-        ensures { option_map object_members result
+        ensures tree { option_map object_members result
             ≡ option_and_then members_in (child (value_tree self.now) (key name.now)) }
+        ensures nodes { option_map object_run result
+            ≡ option_and_then object_part (child_nodes (value_nodes self.now) (key name.now)) }
     {
         self.get(name)?.as_object()
     }
 
     /// The first member with that key, or the type met where the value is no object.
     pub fn try_get(&self, name: &str) -> Result<Option<Value<'t, 'i>>, TryTypeError>
-        ensures { ok_found result
+        ensures tree { ok_found result
             ≡ ok_or (option_map (λ ms. member_at ms name.now) (members_in (value_tree self.now)))
             (mismatch ValueType.Object (value_kind self.now)) }
+        ensures nodes { found_nodes result ≡ try_nodes self.now name.now }
     {
         match self.as_object() {
             Some(object) => Ok(object.get(name)),
@@ -197,13 +217,56 @@ impl<'t, 'i> Value<'t, 'i> {
 
     /// The item at that index, or the type met where the value is no array.
     pub fn try_get_idx(&self, index: usize) -> Result<Option<Value<'t, 'i>>, TryTypeError>
-        ensures { ok_found result
+        ensures tree { ok_found result
             ≡ ok_or (option_map (λ ts. item_at ts index) (items_in (value_tree self.now)))
             (mismatch ValueType.Array (value_kind self.now)) }
+        ensures nodes { IfOk result (λ found. option_map value_nodes found
+            ≡ child_nodes (value_nodes self.now) (place index)) }
     {
         match self.as_array() {
             Some(array) => Ok(array.get(index)),
             None => Err(self.mismatch(ValueType::Array)),
+        }
+    }
+
+    /// The items of the first member with that key, or the type met; none where the key is not there.
+    pub fn try_get_array(&self, name: &str) -> Result<Option<Array<'t, 'i>>, TryTypeError>
+        ensures tree { found_items result ≡ try_member items_in ValueType.Array self.now name.now }
+        ensures nodes { IfOk result (λ found. option_map array_run found
+            ≡ option_and_then array_part (child_nodes (value_nodes self.now) (key name.now))) }
+    {
+        match self.try_get(name)? {
+            Some(member) => Ok(Some(member.try_as_array()?)),
+            None => Ok(None),
+        }
+    }
+
+    /// The members of the first member with that key, or the type met; none where the key is not there.
+    pub fn try_get_object(&self, name: &str) -> Result<Option<Object<'t, 'i>>, TryTypeError>
+        ensures tree { found_members result ≡ try_member members_in ValueType.Object self.now name.now }
+        ensures nodes { IfOk result (λ found. option_map object_run found
+            ≡ option_and_then object_part (child_nodes (value_nodes self.now) (key name.now))) }
+    {
+        match self.try_get(name)? {
+            Some(member) => Ok(Some(member.try_as_object()?)),
+            None => Ok(None),
+        }
+    }
+
+    // The value, where it holds no other value.
+    #[tactic(auto, unfolding(crate::specs::Listed::tree_of))]
+    fn scalar(&self) -> Option<Scalar<'i>>
+        ensures tree { option_map scalar_tree result ≡ scalar_in (value_tree self.now) }
+        ensures kind { IfSome result (λ s. scalar_type s ≡ value_kind self.now) }
+    {
+        let Some((first, _)) = take_node(self.nodes) else {
+            return Some(Scalar::Static(StaticNode::Null));
+        };
+        match first {
+            Node::Static(node) => Some(Scalar::Static(node)),
+            Node::String(text) => Some(Scalar::Text(text)),
+            Node::Decimal(literal) => Some(Scalar::Literal(literal)),
+            Node::Array { .. } | Node::Object { .. } => None,
         }
     }
 
@@ -232,16 +295,23 @@ impl ValueAsScalar for Value<'_, '_> {
 
     ghost scalar = { λ v. scalar_in (value_tree v) };
 
-    #[tactic(auto, unfolding(crate::specs::Listed::tree_of))]
     fn as_scalar(&self) -> Option<Scalar<'_>> {
-        let Some((first, _)) = take_node(self.nodes) else {
-            return Some(Scalar::Static(StaticNode::Null));
-        };
-        match first {
-            Node::Static(node) => Some(Scalar::Static(node)),
-            Node::String(text) => Some(Scalar::Text(text)),
-            Node::Decimal(literal) => Some(Scalar::Literal(literal)),
-            Node::Array { .. } | Node::Object { .. } => None,
+        self.scalar()
+    }
+}
+
+impl ValueGetScalar for Value<'_, '_> {
+    ghost use Rattle.sj_tape.specs.ByName.{member_seen};
+
+    ghost member = { member_seen };
+
+    fn try_get_member(&self, key: &str) -> Result<Option<Member<'_>>, TryTypeError> {
+        match self.try_get(key)? {
+            Some(member) => Ok(Some(Member {
+                kind: member.value_type(),
+                scalar: member.scalar(),
+            })),
+            None => Ok(None),
         }
     }
 }

@@ -1,7 +1,8 @@
-use Rattle.std.proofs.Common.{◌-◌, sym, ◌∙◌, arith}
+use Rattle.std.proofs.Common.{◌-◌, ◌∙◌, arith, sym}
 use Rattle.sj_tape.specs.Listing.{items_listing}
 use Rattle.sj_tape.specs.Nodes.{entries}
 use Rattle.sj_tape.proofs.Listings.{items_from, lists_items}
+use Rattle.sj_tape.proofs.Children.{item_nodes-step, item_nodes-first, item_nodes-none}
 use Rattle.sj_tape.proofs.Cutting.{items_front, no_items_left, item_same}
 use Rattle.sj_tape.proofs.array.Array.split_first.Goals as goal
 
@@ -24,3 +25,19 @@ returns-clause-items c =
     let f = items_front c.args.self.now.len (entries c.args.self.now.nodes.now) c.args.self.now.items (omega arith) in
     let both = c.split_from.ensures.tree f.0 (items_listing f.1) f.3 in
     f.2 ∙ sym (item_same _ _ _ _ both.0 (items_from (entries c.split_from.result.1.now) f.1 (c.args.self.now.len - 1) both.1 f.4))
+
+pub returns-then-self-eq0-clause-first : goal.returns-then-self-eq0-clause-first
+returns-then-self-eq0-clause-first c = item_nodes-none c.args.self.now.len c.args.self.now.nodes.now 0 (omega arith)
+
+pub returns-then-self-eq0-clause-behind : goal.returns-then-self-eq0-clause-behind
+returns-then-self-eq0-clause-behind c = λ i some. item_nodes-none c.args.self.now.len c.args.self.now.nodes.now i (omega arith)
+
+pub returns-clause-first : goal.returns-clause-first
+returns-clause-first c =
+    let f = items_front c.args.self.now.len (entries c.args.self.now.nodes.now) c.args.self.now.items (omega arith) in
+    item_nodes-first c.args.self.now.len c.args.self.now.nodes.now c.split_from.result.0.nodes.now c.split_from.result.1.now f.0 c.split_from.ensures.parts (c.split_from.ensures.first f.0 (items_listing f.1) f.3) (omega arith)
+
+pub returns-clause-behind : goal.returns-clause-behind
+returns-clause-behind c = λ i some.
+    let f = items_front c.args.self.now.len (entries c.args.self.now.nodes.now) c.args.self.now.items (omega arith) in
+    item_nodes-step c.args.self.now.len c.args.self.now.nodes.now c.split_from.result.0.nodes.now c.split_from.result.1.now f.0 i c.split_from.ensures.parts (c.split_from.ensures.first f.0 (items_listing f.1) f.3) (omega arith) some

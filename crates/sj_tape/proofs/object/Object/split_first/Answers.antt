@@ -1,12 +1,15 @@
-use Rattle.std.proofs.Common.{◌≡◌, ℕ, ◌-◌, List, [], ◌∷◌, ◌++◌, rules, ap, sym, ◌∙◌, arith}
+use Rattle.std.proofs.Common.{◌≡◌, ℕ, ◌-◌, cond, bytes_eq, Some, List, [], ◌∷◌, ◌++◌, rules, ap, sym, ◌∙◌, arith}
 use Rattle.sj_tape.specs.Listing.{Entry, string_entry, listing, members_listing}
 use Rattle.sj_tape.specs.Nodes.{node_entry, entries}
 use Rattle.sj_tape.proofs.Listings.{members_from, lists_members}
+use Rattle.sj_tape.specs.Children.{key_text, member_nodes}
+use Rattle.sj_tape.specs.declared.node.Node.{Node}
+use Rattle.sj_tape.proofs.Children.{member_nodes-step, member_nodes-none}
 use Rattle.sj_tape.proofs.Cutting.{members_front, no_members_left, member_same, cons_parts, string_node}
 use Rattle.sj_tape.proofs.object.Object.split_first.Goals as goal
 
 pub returns-then-self-eq0 : goal.returns-then-self-eq0
-returns-then-self-eq0 c = record { members = no_members_left c.args.self.now.len (entries c.args.self.now.nodes.now) c.args.self.now.members (omega arith) }
+returns-then-self-eq0 c = record { members = no_members_left c.args.self.now.len (entries c.args.self.now.nodes.now) c.args.self.now.members (omega arith); found = λ k. member_nodes-none c.args.self.now.len c.args.self.now.nodes.now k (omega arith) }
 
 pub returns-in_err-first : goal.returns-in_err-first
 returns-in_err-first c =
@@ -44,4 +47,5 @@ returns c =
     let both = c.split_from.ensures.tree f.1 (members_listing f.2) parts.1 in
     let key : string_entry f.0 ≡ string_entry c.in-String.key.now = sym parts.0 ∙ ap node_entry c.in-String.is in
     let same_key : c.in-String.key.now ≡ f.0 = cc in
-    record { members = f.3 ∙ sym (member_same _ _ _ _ _ _ same_key both.0 (members_from (entries c.split_from.result.1.now) f.2 (c.args.self.now.len - 1) both.1 f.5)) }
+    let front : c.args.self.now.nodes.now ≡ c.in_ok-first.first ∷ (c.split_from.result.0.nodes.now ++ c.split_from.result.1.now) = c.in_ok-first.ensures ∙ ap (λ (ns : List Node). c.in_ok-first.first ∷ ns) c.split_from.ensures.parts in
+    record { found = λ k. member_nodes-step c.args.self.now.len c.args.self.now.nodes.now c.split_from.result.0.nodes.now c.split_from.result.1.now c.in_ok-first.first f.1 k front (c.split_from.ensures.first f.1 (members_listing f.2) parts.1) (omega arith) ∙ ap (λ (m : Node). cond (bytes_eq (key_text m) k) (Some c.split_from.result.0.nodes.now) (member_nodes (c.args.self.now.len - 1) c.split_from.result.1.now k)) c.in-String.is; members = f.3 ∙ sym (member_same _ _ _ _ _ _ same_key both.0 (members_from (entries c.split_from.result.1.now) f.2 (c.args.self.now.len - 1) both.1 f.5)) }

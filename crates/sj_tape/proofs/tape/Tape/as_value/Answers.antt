@@ -6,10 +6,10 @@ use Rattle.sj_tape.proofs.Tapes.{listed_tree-some, entries_nil}
 use Rattle.sj_tape.proofs.tape.Tape.as_value.Goals as goal
 
 pub invariant_of-result : goal.invariant_of-result
-invariant_of-result c = record { listed = subst (λ (ms : List Node). IsTape (entries ms)) (sym c.deref.ensures.value) c.args.self.now.listed }
+invariant_of-result c = record { listed = subst (λ (ms : List Node). IsTape (entries ms)) (sym c.nodes.ensures) c.args.self.now.listed }
 
 pub returns-clause-tree : goal.returns-clause-tree
 returns-clause-tree c =
     let ns : List Node = c.args.self.now.nodes.items in
     let some : entries ns ≢ [] = λ e. c.requires (entries_nil ns e) in
-    listed_tree-some (entries ns) some ∙ ap (λ (ms : List Node). Some (tree_of (entries ms))) (sym c.deref.ensures.value)
+    listed_tree-some (entries ns) some ∙ ap (λ (ms : List Node). Some (tree_of (entries ms))) (sym c.nodes.ensures)

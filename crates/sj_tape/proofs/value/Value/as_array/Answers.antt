@@ -15,8 +15,8 @@ invariant_of-result c =
     let w = array_inside v.nodes.now rest c.in_ok-first.first c.in-Array.len c.in-Array.count (listed_front v.nodes.now rest c.in_ok-first.first v.listed front) front c.in-Array.is in
     record { items = lists_items (entries rest) w.0 c.in-Array.len w.3 w.2 }
 
-pub returns-in-Array : goal.returns-in-Array
-returns-in-Array c =
+pub returns-in-Array-clause-tree : goal.returns-in-Array-clause-tree
+returns-in-Array-clause-tree c =
     let v = c.args.self.now in
     let rest = c.in_ok-first.nodes.now in
     let front = c.in_ok-first.ensures in

@@ -15,8 +15,8 @@ invariant_of-result c =
     let w = object_inside v.nodes.now rest c.in_ok-first.first c.in-Object.len c.in-Object.count (listed_front v.nodes.now rest c.in_ok-first.first v.listed front) front c.in-Object.is in
     record { members = lists_members (entries rest) w.0 c.in-Object.len w.3 w.2 }
 
-pub returns-in-Object : goal.returns-in-Object
-returns-in-Object c =
+pub returns-in-Object-clause-tree : goal.returns-in-Object-clause-tree
+returns-in-Object-clause-tree c =
     let v = c.args.self.now in
     let rest = c.in_ok-first.nodes.now in
     let front = c.in_ok-first.ensures in

@@ -31,3 +31,8 @@ returns-clause-tree c = λ t rest h.
     let front : entries c.split_at.result.0.now ≡ listing t = ap entries c.split_at.ensures.front ∙ cut_front c.args.nodes.now t rest (c.count.result + 1) h m in
     let back : entries c.split_at.result.1.now ≡ rest = ap entries c.split_at.ensures.back ∙ cut_back c.args.nodes.now t rest (c.count.result + 1) h m in
     (tree_from (entries c.split_at.result.0.now) t front, back)
+
+pub returns-clause-first : goal.returns-clause-first
+returns-clause-first c = λ t rest h.
+    let m : c.count.result + 1 ≡ length (listing t) = ap (λ (n : ℕ). n + 1) c.count.ensures ∙ first_count c.args.nodes.now t rest c.index-nodes-0.result h c.index-nodes-0.is in
+    ap entries c.split_at.ensures.front ∙ cut_front c.args.nodes.now t rest (c.count.result + 1) h m

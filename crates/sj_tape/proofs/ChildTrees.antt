@@ -1,0 +1,144 @@
+-- The children that the counts find are those of the tree.
+use Rattle.std.proofs.Common.{◌≡◌, ℕ, zero, suc, ◌-◌, Bool, true, false, cond, List, [], ◌∷◌, ◌++◌, Option, Some, None, option_map, option_and_then, bytes_eq, take, drop, length, refl, sym, ◌∙◌, ap, arith}
+use Rattle.std.proofs.lemmas.List.{take-append-drop}
+use Rattle.sj_base.specs.Tree.{Tree, null, boolean, integer, decimal, string, list, object, Items, no_items, item, Members, no_members, member}
+use Rattle.sj_base.specs.Path.{Part, key, place, child, member_at, item_at}
+use Rattle.sj_base.specs.declared.static_node.StaticNode.TheVariants.{Null, Bool as Boolean, I64, U64}
+use Rattle.sj_reads.specs.Member.{Seen}
+use Rattle.sj_tape.specs.ByName.{seen_nodes}
+use Rattle.sj_tape.specs.ChildLaws.{ChildrenByCounts, SeenMembers}
+use Rattle.sj_tape.specs.Children.{key_text, member_nodes, item_nodes, array_part, object_part, child_nodes}
+use Rattle.sj_tape.specs.Listing.{Entry, string_entry, list_entry, object_entry, items_len, members_len, listing, items_listing, members_listing}
+use Rattle.sj_tape.specs.Nodes.{node_entry, entries}
+use Rattle.sj_tape.specs.Views.{value_nodes, nodes_tree, scalar_in}
+use Rattle.sj_tape.specs.declared.node.Node.{Node}
+use Rattle.sj_tape.specs.declared.node.Node.TheVariants.{String, Object, Array, Static, Decimal}
+use Rattle.sj_tape.proofs.Tapes.{listed_front, null_of-nil}
+use Rattle.sj_tape.proofs.Children.{member_nodes-step, item_nodes-step, item_nodes-first}
+use Rattle.sj_tape.proofs.Listings.{tree_from}
+use Rattle.sj_tape.proofs.Cutting.{cons_parts, cut_front, cut_back, string_node}
+
+-- how many members stand beneath the first entry, where it is an object's
+abbrev object_len : List Entry → Option ℕ
+object_len (object_entry len count ∷ es) = Some len
+object_len _ = None
+
+abbrev array_len : List Entry → Option ℕ
+array_len (list_entry len count ∷ es) = Some len
+array_len _ = None
+
+object_part-entries : (ns : List Node) → object_part ns ≡ option_map (λ len. (len, drop 1 ns)) (object_len (entries ns))
+object_part-entries [] = refl
+object_part-entries (String s ∷ ns) = refl
+object_part-entries (Object len count ∷ ns) = refl
+object_part-entries (Array len count ∷ ns) = refl
+object_part-entries (Static Null ∷ ns) = refl
+object_part-entries (Static (Boolean b) ∷ ns) = refl
+object_part-entries (Static (I64 n) ∷ ns) = refl
+object_part-entries (Static (U64 n) ∷ ns) = refl
+object_part-entries (Decimal d ∷ ns) = refl
+
+array_part-entries : (ns : List Node) → array_part ns ≡ option_map (λ len. (len, drop 1 ns)) (array_len (entries ns))
+array_part-entries [] = refl
+array_part-entries (String s ∷ ns) = refl
+array_part-entries (Object len count ∷ ns) = refl
+array_part-entries (Array len count ∷ ns) = refl
+array_part-entries (Static Null ∷ ns) = refl
+array_part-entries (Static (Boolean b) ∷ ns) = refl
+array_part-entries (Static (I64 n) ∷ ns) = refl
+array_part-entries (Static (U64 n) ∷ ns) = refl
+array_part-entries (Decimal d ∷ ns) = refl
+
+-- by the entries of a tree
+object_part-listing : (ns : List Node) (es : List Entry) → entries ns ≡ es → object_part ns ≡ option_map (λ len. (len, drop 1 ns)) (object_len es)
+object_part-listing ns es e = object_part-entries ns ∙ ap (λ (xs : List Entry). option_map (λ len. (len, drop 1 ns)) (object_len xs)) e
+
+array_part-listing : (ns : List Node) (es : List Entry) → entries ns ≡ es → array_part ns ≡ option_map (λ len. (len, drop 1 ns)) (array_len es)
+array_part-listing ns es e = array_part-entries ns ∙ ap (λ (xs : List Entry). option_map (λ len. (len, drop 1 ns)) (array_len xs)) e
+
+found_member : (b : Bool) (front : List Node) (t : Tree) (x : Option (List Node)) (y : Option Tree) → nodes_tree front ≡ t → option_map nodes_tree x ≡ y → option_map nodes_tree (cond b (Some front) x) ≡ cond b (Some t) y
+found_member true front t x y p q = ap (λ (u : Tree). Some u) p
+found_member false front t x y p q = q
+
+key_text-string : (m : Node) (k : List ℕ) → node_entry m ≡ string_entry k → key_text m ≡ k
+key_text-string m k e =
+    let s = string_node m k e in
+    let same : string_entry s.0.now ≡ string_entry k = sym (ap node_entry s.1) ∙ e in
+    let text : s.0.now ≡ k = cc in
+    ap key_text s.1 ∙ text
+
+member_nodes-tree : (ms : Members) (ns : List Node) (k : List ℕ) → entries ns ≡ members_listing ms → option_map nodes_tree (member_nodes (members_len ms) ns k) ≡ member_at ms k
+member_nodes-tree no_members ns k e = refl
+member_nodes-tree (member name t ms) [] k e = absurd (cc)
+member_nodes-tree (member name t ms) (m ∷ ns) k e =
+    let parts = cons_parts (node_entry m) (string_entry name) (entries ns) (listing t ++ members_listing ms) e in
+    let n : ℕ = length (listing t) in
+    let front : entries (take n ns) ≡ listing t = cut_front ns t (members_listing ms) n parts.1 refl in
+    let back : entries (drop n ns) ≡ members_listing ms = cut_back ns t (members_listing ms) n parts.1 refl in
+    let step = member_nodes-step (suc (members_len ms)) (m ∷ ns) (take n ns) (drop n ns) m t k (ap (λ (xs : List Node). m ∷ xs) (sym (take-append-drop n ns))) front (omega arith) in
+    let one : suc (members_len ms) - 1 ≡ members_len ms = omega arith in
+    let left = ap (λ (l : ℕ). option_map nodes_tree (member_nodes l (drop n ns) k)) one ∙ member_nodes-tree ms (drop n ns) k back in
+    ap (option_map nodes_tree) step ∙ (found_member (bytes_eq (key_text m) k) (take n ns) t _ (member_at ms k) (tree_from (entries (take n ns)) t front) left ∙ ap (λ (name' : List ℕ). cond (bytes_eq name' k) (Some t) (member_at ms k)) (key_text-string m name parts.0))
+
+item_nodes-tree : (ts : Items) (ns : List Node) (i : ℕ) → entries ns ≡ items_listing ts → option_map nodes_tree (item_nodes (items_len ts) ns i) ≡ item_at ts i
+item_nodes-tree no_items ns i e = refl
+item_nodes-tree (item t ts) ns zero e =
+    let n : ℕ = length (listing t) in
+    let front : entries (take n ns) ≡ listing t = cut_front ns t (items_listing ts) n e refl in
+    ap (option_map nodes_tree) (item_nodes-first (suc (items_len ts)) ns (take n ns) (drop n ns) t (sym (take-append-drop n ns)) front (omega arith)) ∙ ap (λ (u : Tree). Some u) (tree_from (entries (take n ns)) t front)
+item_nodes-tree (item t ts) ns (suc i) e =
+    let n : ℕ = length (listing t) in
+    let front : entries (take n ns) ≡ listing t = cut_front ns t (items_listing ts) n e refl in
+    let back : entries (drop n ns) ≡ items_listing ts = cut_back ns t (items_listing ts) n e refl in
+    let step = item_nodes-step (suc (items_len ts)) ns (take n ns) (drop n ns) t (suc i) (sym (take-append-drop n ns)) front (omega arith) (omega arith) in
+    let one : suc (items_len ts) - 1 ≡ items_len ts = omega arith in
+    let other : suc i - 1 ≡ i = omega arith in
+    ap (option_map nodes_tree) (step ∙ (ap (λ (l : ℕ). item_nodes l (drop n ns) (suc i - 1)) one ∙ ap (λ (j : ℕ). item_nodes (items_len ts) (drop n ns) j) other)) ∙ item_nodes-tree ts (drop n ns) i back
+
+-- what stands beneath the first node
+beneath : (ns : List Node) (e : Entry) (es : List Entry) → entries ns ≡ e ∷ es → entries (drop 1 ns) ≡ es
+beneath [] e es h = absurd (cc)
+beneath (n ∷ ns) e es h = (cons_parts (node_entry n) e (entries ns) es h).1
+
+by_key : (ns : List Node) (es : List Entry) (k : List ℕ) → entries ns ≡ es → child_nodes ns (key k) ≡ option_and_then (λ len. member_nodes len (drop 1 ns) k) (object_len es)
+by_key ns es k e = ap (option_and_then {T = ℕ × List Node} (λ p. member_nodes p.0 p.1 k)) (object_part-listing ns es e) ∙ then_found (object_len es)
+  where
+    then_found : (o : Option ℕ) → option_and_then {T = ℕ × List Node} (λ p. member_nodes p.0 p.1 k) (option_map (λ len. (len, drop 1 ns)) o) ≡ option_and_then (λ len. member_nodes len (drop 1 ns) k) o
+    then_found None = refl
+    then_found (Some len) = refl
+
+by_place : (ns : List Node) (es : List Entry) (i : ℕ) → entries ns ≡ es → child_nodes ns (place i) ≡ option_and_then (λ len. item_nodes len (drop 1 ns) i) (array_len es)
+by_place ns es i e = ap (option_and_then {T = ℕ × List Node} (λ p. item_nodes p.0 p.1 i)) (array_part-listing ns es e) ∙ then_found (array_len es)
+  where
+    then_found : (o : Option ℕ) → option_and_then {T = ℕ × List Node} (λ p. item_nodes p.0 p.1 i) (option_map (λ len. (len, drop 1 ns)) o) ≡ option_and_then (λ len. item_nodes len (drop 1 ns) i) o
+    then_found None = refl
+    then_found (Some len) = refl
+
+-- The nodes that the counts find are those of the child in the tree.
+child_nodes-tree : (t : Tree) (ns : List Node) (part : Part) → entries ns ≡ listing t → option_map nodes_tree (child_nodes ns part) ≡ child t part
+child_nodes-tree null ns (key k) e = ap (option_map nodes_tree) (by_key ns (listing null) k e)
+child_nodes-tree null ns (place i) e = ap (option_map nodes_tree) (by_place ns (listing null) i e)
+child_nodes-tree (boolean b) ns (key k) e = ap (option_map nodes_tree) (by_key ns (listing (boolean b)) k e)
+child_nodes-tree (boolean b) ns (place i) e = ap (option_map nodes_tree) (by_place ns (listing (boolean b)) i e)
+child_nodes-tree (integer n) ns (key k) e = ap (option_map nodes_tree) (by_key ns (listing (integer n)) k e)
+child_nodes-tree (integer n) ns (place i) e = ap (option_map nodes_tree) (by_place ns (listing (integer n)) i e)
+child_nodes-tree (decimal literal) ns (key k) e = ap (option_map nodes_tree) (by_key ns (listing (decimal literal)) k e)
+child_nodes-tree (decimal literal) ns (place i) e = ap (option_map nodes_tree) (by_place ns (listing (decimal literal)) i e)
+child_nodes-tree (string s) ns (key k) e = ap (option_map nodes_tree) (by_key ns (listing (string s)) k e)
+child_nodes-tree (string s) ns (place i) e = ap (option_map nodes_tree) (by_place ns (listing (string s)) i e)
+child_nodes-tree (list ts) ns (key k) e = ap (option_map nodes_tree) (by_key ns (listing (list ts)) k e)
+child_nodes-tree (list ts) ns (place i) e = ap (option_map nodes_tree) (by_place ns (listing (list ts)) i e) ∙ item_nodes-tree ts (drop 1 ns) i (beneath ns _ _ e)
+child_nodes-tree (object ms) ns (key k) e = ap (option_map nodes_tree) (by_key ns (listing (object ms)) k e) ∙ member_nodes-tree ms (drop 1 ns) k (beneath ns _ _ e)
+child_nodes-tree (object ms) ns (place i) e = ap (option_map nodes_tree) (by_place ns (listing (object ms)) i e)
+
+pub children_by_counts : ChildrenByCounts
+children_by_counts [] (key k) h = sym (ap (λ (t : Tree). child t (key k)) (null_of-nil [] refl))
+children_by_counts [] (place i) h = sym (ap (λ (t : Tree). child t (place i)) (null_of-nil [] refl))
+children_by_counts (n ∷ ns) part h = child_nodes-tree (nodes_tree (n ∷ ns)) (n ∷ ns) part (sym (listed_front (n ∷ ns) ns n h refl))
+
+pub seen_members : SeenMembers
+seen_members v k = seen (child_nodes (value_nodes v) (key k)) ∙ ap (option_map scalar_in) (children_by_counts (value_nodes v) (key k) v.listed)
+  where
+    seen : (o : Option (List Node)) → option_map (λ (m : Seen). m.scalar) (option_map seen_nodes o) ≡ option_map scalar_in (option_map nodes_tree o)
+    seen None = refl
+    seen (Some ns) = refl

@@ -1,0 +1,55 @@
+-- What the counts find in front, and behind it.
+use Rattle.std.proofs.Common.{◌≡◌, ℕ, zero, suc, ◌+◌, ◌-◌, ◌<◌, cond, List, [], ◌∷◌, ◌++◌, Some, None, bytes_eq, length, refl, sym, ◌∙◌, ap, arith, append-nil}
+use Rattle.std.proofs.lemmas.List.{take_at, drop_at}
+use Rattle.sj_base.specs.Tree.{Tree}
+use Rattle.sj_tape.specs.Children.{key_text, member_nodes, item_nodes}
+use Rattle.sj_tape.specs.Listing.{Entry, listing}
+use Rattle.sj_tape.specs.Nodes.{node_count, entries}
+use Rattle.sj_tape.specs.declared.node.Node.{Node}
+use Rattle.sj_tape.proofs.Tapes.{no_listing}
+use Rattle.sj_tape.proofs.NodeLists.{length-entries}
+use Rattle.sj_tape.proofs.Cutting.{first_count}
+
+-- so many nodes stand beneath the first of a tree's
+beneath_count : (n : Node) (ns : List Node) (t : Tree) → entries (n ∷ ns) ≡ listing t → length ns ≡ node_count n
+beneath_count n ns t e =
+    let counted : node_count n + 1 ≡ length (listing t) = first_count (n ∷ ns) t [] n (e ∙ sym (append-nil (listing t))) refl in
+    let long : length (entries (n ∷ ns)) ≡ length (listing t) = ap (λ (es : List Entry). length es) e in
+    omega (arith, counted, long, length-entries ns)
+
+pub member_nodes-step : (len : ℕ) (ns front rest : List Node) (m : Node) (t : Tree) (k : List ℕ) → ns ≡ m ∷ (front ++ rest) → entries front ≡ listing t → 0 < len → member_nodes len ns k ≡ cond (bytes_eq (key_text m) k) (Some front) (member_nodes (len - 1) rest k)
+member_nodes-step zero ns front rest m t k h e some = absurd (omega arith)
+member_nodes-step (suc len) ns [] rest m t k h e some = absurd (no_listing t e)
+member_nodes-step (suc len) ns (n ∷ beneath) rest m t k h e some =
+    let count : length beneath ≡ node_count n = beneath_count n beneath t e in
+    let one : suc len - 1 ≡ len = omega arith in
+    ap (λ (xs : List Node). member_nodes (suc len) xs k) h ∙ found _ _ _ _ _ (take_at beneath rest (node_count n) count) (drop_at beneath rest (node_count n) count) (sym one)
+  where
+    found : (a b : List Node) (c d : List Node) (l : ℕ) → a ≡ c → b ≡ d → len ≡ l → cond (bytes_eq (key_text m) k) (Some (n ∷ a)) (member_nodes len b k) ≡ cond (bytes_eq (key_text m) k) (Some (n ∷ c)) (member_nodes l d k)
+    found a b c d l p q r = cc
+
+pub item_nodes-step : (len : ℕ) (ns front rest : List Node) (t : Tree) (i : ℕ) → ns ≡ front ++ rest → entries front ≡ listing t → 0 < len → 0 < i → item_nodes len ns i ≡ item_nodes (len - 1) rest (i - 1)
+item_nodes-step zero ns front rest t i h e some behind = absurd (omega arith)
+item_nodes-step (suc len) ns [] rest t i h e some behind = absurd (no_listing t e)
+item_nodes-step (suc len) ns (n ∷ beneath) rest t zero h e some behind = absurd (omega arith)
+item_nodes-step (suc len) ns (n ∷ beneath) rest t (suc i) h e some behind =
+    let count : length beneath ≡ node_count n = beneath_count n beneath t e in
+    let one : len ≡ suc len - 1 = omega arith in
+    let other : i ≡ suc i - 1 = omega arith in
+    ap (λ (xs : List Node). item_nodes (suc len) xs (suc i)) h ∙ left _ _ _ _ (drop_at beneath rest (node_count n) count) one other
+  where
+    left : (a b : List Node) (l j : ℕ) → a ≡ b → len ≡ l → i ≡ j → item_nodes len a i ≡ item_nodes l b j
+    left a b l j p q r = cc
+
+pub item_nodes-first : (len : ℕ) (ns front rest : List Node) (t : Tree) → ns ≡ front ++ rest → entries front ≡ listing t → 0 < len → item_nodes len ns 0 ≡ Some front
+item_nodes-first zero ns front rest t h e some = absurd (omega arith)
+item_nodes-first (suc len) ns [] rest t h e some = absurd (no_listing t e)
+item_nodes-first (suc len) ns (n ∷ beneath) rest t h e some =
+    let count : length beneath ≡ node_count n = beneath_count n beneath t e in
+    ap (λ (xs : List Node). item_nodes (suc len) xs 0) h ∙ ap (λ (xs : List Node). Some (n ∷ xs)) (take_at beneath rest (node_count n) count)
+
+pub member_nodes-none : (len : ℕ) (ns : List Node) (k : List ℕ) → len ≡ 0 → member_nodes len ns k ≡ None
+member_nodes-none len ns k e = ap (λ (l : ℕ). member_nodes l ns k) e
+
+pub item_nodes-none : (len : ℕ) (ns : List Node) (i : ℕ) → len ≡ 0 → item_nodes len ns i ≡ None
+item_nodes-none len ns i e = ap (λ (l : ℕ). item_nodes l ns i) e

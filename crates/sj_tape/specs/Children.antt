@@ -1,0 +1,50 @@
+-- The nodes of an item or a member. The counts pass those in front of it.
+use Rattle.std.specs.Prelude.{ℕ, zero, suc, cond, List, [], ◌∷◌, Option, Some, None, option_and_then, bytes_eq, take, drop}
+use Rattle.sj_base.specs.Path.{Part, key, place}
+use Rattle.sj_tape.specs.Nodes.{node_count}
+use Rattle.sj_tape.specs.declared.node.Node.{Node}
+use Rattle.sj_tape.specs.declared.node.Node.TheVariants.{String, Object, Array, Static, Decimal}
+
+abbrev pub key_text : Node → List ℕ
+key_text (String s) = s.now
+key_text (Object len count) = []
+key_text (Array len count) = []
+key_text (Static s) = []
+key_text (Decimal d) = []
+
+-- the first member with that key, of so many
+abbrev pub member_nodes : ℕ → List Node → List ℕ → Option (List Node)
+member_nodes zero ns k = None
+member_nodes (suc len) [] k = None
+member_nodes (suc len) (m ∷ []) k = None
+member_nodes (suc len) (m ∷ n ∷ ns) k = cond (bytes_eq (key_text m) k) (Some (n ∷ take (node_count n) ns)) (member_nodes len (drop (node_count n) ns) k)
+
+-- the item at that index, of so many
+abbrev pub item_nodes : ℕ → List Node → ℕ → Option (List Node)
+item_nodes zero ns i = None
+item_nodes (suc len) [] i = None
+item_nodes (suc len) (n ∷ ns) zero = Some (n ∷ take (node_count n) ns)
+item_nodes (suc len) (n ∷ ns) (suc i) = item_nodes len (drop (node_count n) ns) i
+
+-- how many items an array has, and the nodes beneath it
+abbrev pub array_part : List Node → Option (ℕ × List Node)
+array_part [] = None
+array_part (String s ∷ ns) = None
+array_part (Object len count ∷ ns) = None
+array_part (Array len count ∷ ns) = Some (len, ns)
+array_part (Static s ∷ ns) = None
+array_part (Decimal d ∷ ns) = None
+
+-- how many members an object has, and the nodes beneath it
+abbrev pub object_part : List Node → Option (ℕ × List Node)
+object_part [] = None
+object_part (String s ∷ ns) = None
+object_part (Object len count ∷ ns) = Some (len, ns)
+object_part (Array len count ∷ ns) = None
+object_part (Static s ∷ ns) = None
+object_part (Decimal d ∷ ns) = None
+
+-- those of the child that `child` selects in the tree
+abbrev pub child_nodes : List Node → Part → Option (List Node)
+child_nodes ns (key k) = option_and_then (λ p. member_nodes p.0 p.1 k) (object_part ns)
+child_nodes ns (place i) = option_and_then (λ p. item_nodes p.0 p.1 i) (array_part ns)
