@@ -34,10 +34,12 @@ returns-then-self-eq0-clause-behind c = λ i some. item_nodes-none c.args.self.n
 
 pub returns-clause-first : goal.returns-clause-first
 returns-clause-first c =
-    let f = items_front c.args.self.now.len (entries c.args.self.now.nodes.now) c.args.self.now.items (omega arith) in
-    item_nodes-first c.args.self.now.len c.args.self.now.nodes.now c.split_from.result.0.nodes.now c.split_from.result.1.now f.0 c.split_from.ensures.parts (c.split_from.ensures.first f.0 (items_listing f.1) f.3) (omega arith)
+    let a = c.args.self.now in
+    let f = items_front a.len (entries a.nodes.now) a.items (omega arith) in
+    item_nodes-first a.len a.nodes.now c.split_from.result.0.nodes.now c.split_from.result.1.now f.0 c.split_from.ensures.parts (c.split_from.ensures.first f.0 (items_listing f.1) f.3) (omega arith)
 
 pub returns-clause-behind : goal.returns-clause-behind
 returns-clause-behind c = λ i some.
-    let f = items_front c.args.self.now.len (entries c.args.self.now.nodes.now) c.args.self.now.items (omega arith) in
-    item_nodes-step c.args.self.now.len c.args.self.now.nodes.now c.split_from.result.0.nodes.now c.split_from.result.1.now f.0 i c.split_from.ensures.parts (c.split_from.ensures.first f.0 (items_listing f.1) f.3) (omega arith) some
+    let a = c.args.self.now in
+    let f = items_front a.len (entries a.nodes.now) a.items (omega arith) in
+    item_nodes-step a.len a.nodes.now c.split_from.result.0.nodes.now c.split_from.result.1.now f.0 i c.split_from.ensures.parts (c.split_from.ensures.first f.0 (items_listing f.1) f.3) (omega arith) some

@@ -47,5 +47,10 @@ returns c =
     let both = c.split_from.ensures.tree f.1 (members_listing f.2) parts.1 in
     let key : string_entry f.0 ≡ string_entry c.in-String.key.now = sym parts.0 ∙ ap node_entry c.in-String.is in
     let same_key : c.in-String.key.now ≡ f.0 = cc in
-    let front : c.args.self.now.nodes.now ≡ c.in_ok-first.first ∷ (c.split_from.result.0.nodes.now ++ c.split_from.result.1.now) = c.in_ok-first.ensures ∙ ap (λ (ns : List Node). c.in_ok-first.first ∷ ns) c.split_from.ensures.parts in
-    record { found = λ k. member_nodes-step c.args.self.now.len c.args.self.now.nodes.now c.split_from.result.0.nodes.now c.split_from.result.1.now c.in_ok-first.first f.1 k front (c.split_from.ensures.first f.1 (members_listing f.2) parts.1) (omega arith) ∙ ap (λ (m : Node). cond (bytes_eq (key_text m) k) (Some c.split_from.result.0.nodes.now) (member_nodes (c.args.self.now.len - 1) c.split_from.result.1.now k)) c.in-String.is; members = f.3 ∙ sym (member_same _ _ _ _ _ _ same_key both.0 (members_from (entries c.split_from.result.1.now) f.2 (c.args.self.now.len - 1) both.1 f.5)) }
+    let ns = c.args.self.now.nodes.now in
+    let value = c.split_from.result.0.nodes.now in
+    let rest = c.split_from.result.1.now in
+    let left = c.args.self.now.len - 1 in
+    let front : ns ≡ c.in_ok-first.first ∷ (value ++ rest) = c.in_ok-first.ensures ∙ ap (λ (ms : List Node). c.in_ok-first.first ∷ ms) c.split_from.ensures.parts in
+    let listed : entries value ≡ listing f.1 = c.split_from.ensures.first f.1 (members_listing f.2) parts.1 in
+    record { members = f.3 ∙ sym (member_same _ _ _ _ _ _ same_key both.0 (members_from (entries rest) f.2 left both.1 f.5)); found = λ k. member_nodes-step c.args.self.now.len ns value rest c.in_ok-first.first f.1 k front listed (omega arith) ∙ ap (λ (m : Node). cond (bytes_eq (key_text m) k) (Some value) (member_nodes left rest k)) c.in-String.is }
