@@ -142,6 +142,8 @@ fn sinks_that_take_all(rt: HostRuntime) -> Result<(), Fail> {
     assert!(rt; output.taken.as_slice() == b"{\"a\":[1,{}],\"b\":[]}".as_slice());
     output.taken.clear();
     assert!(rt; write(&tape.as_value(), &mut output, true) == Ok(()));
-    assert!(rt; output.taken.as_slice() == b"{\n  \"a\": [\n    1,\n    {}\n  ],\n  \"b\": []\n}".as_slice());
+    assert!(rt;
+        output.taken.as_slice() == b"{\n  \"a\": [\n    1,\n    {}\n  ],\n  \"b\": []\n}".as_slice()
+    );
     Ok(())
 }
