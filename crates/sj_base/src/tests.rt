@@ -62,6 +62,8 @@ fn error_texts(rt: HostRuntime) -> Result<(), Fail> {
         let text = fault.to_string(rt.alloc())?;
         assert_eq!(rt; text.as_str(), name);
     }
+    let text = WriteFault.to_string(rt.alloc())?;
+    assert_eq!(rt; text.as_str(), "WriteFault");
     Ok(())
 }
 
@@ -144,6 +146,18 @@ fn scalars(rt: HostRuntime) -> Result<(), Fail> {
     out.clear();
     put_break(&mut out, 0)?;
     assert_eq!(rt; out.as_slice(), b"\n".as_slice());
+    Ok(())
+}
+
+#[test]
+fn prints_to_a_vector(rt: HostRuntime) -> Result<(), Fail> {
+    let mut out = Vec::new(rt.alloc());
+    print_text(&mut out, &Scalar::Static(StaticNode::U64(7)))?;
+    print_break(&mut out, 1)?;
+    print_string(&mut out, "\t")?;
+    out.put(b" and more")?;
+    let want = "7\n  \"\\t\" and more";
+    assert_eq!(rt; out.as_slice(), want.as_bytes());
     Ok(())
 }
 
