@@ -1,4 +1,5 @@
 pub mod Tree
+pub mod Containers
 pub mod Number
 pub mod Characters
 pub mod Spelling

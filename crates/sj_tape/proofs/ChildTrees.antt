@@ -8,9 +8,10 @@ use Rattle.sj_reads.specs.Member.{Seen}
 use Rattle.sj_tape.specs.ByName.{seen_nodes}
 use Rattle.sj_tape.specs.ChildLaws.{ChildrenByCounts, SeenMembers}
 use Rattle.sj_tape.specs.Children.{key_text, member_nodes, item_nodes, array_part, object_part, child_nodes}
-use Rattle.sj_tape.specs.Listing.{Entry, string_entry, list_entry, object_entry, items_len, members_len, listing, items_listing, members_listing}
+use Rattle.sj_base.specs.Containers.{items_len, members_len, scalar_in}
+use Rattle.sj_tape.specs.Listing.{Entry, string_entry, list_entry, object_entry, listing, items_listing, members_listing}
 use Rattle.sj_tape.specs.Nodes.{node_entry, entries}
-use Rattle.sj_tape.specs.Views.{value_nodes, nodes_tree, scalar_in}
+use Rattle.sj_tape.specs.Views.{value_nodes, nodes_tree}
 use Rattle.sj_tape.specs.declared.node.Node.{Node}
 use Rattle.sj_tape.specs.declared.node.Node.TheVariants.{String, Object, Array, Static, Decimal}
 use Rattle.sj_tape.proofs.Tapes.{listed_front, null_of-nil}

@@ -5,8 +5,10 @@ use Rattle.sj_base.specs.Tree.{Tree, null, boolean, integer, decimal, string, li
 use Rattle.std.specs.Borrow.{Bor}
 use Rattle.sj_base.specs.declared.static_node.StaticNode.{StaticNode}
 use Rattle.sj_base.specs.declared.static_node.StaticNode.TheVariants.{Null, Bool as Boolean, I64, U64}
-use Rattle.sj_tape.specs.Listing.{Entry, null_entry, boolean_entry, integer_entry, decimal_entry, string_entry, list_entry, object_entry, items_len, members_len, listing, items_listing, members_listing}
-use Rattle.sj_tape.specs.Listed.{tree_of, listed_items, listed_members, IsListing, ListsItems, ListsMembers}
+use Rattle.sj_base.specs.Containers.{items_len, members_len}
+use Rattle.sj_tape.specs.Listing.{Entry, null_entry, boolean_entry, integer_entry, decimal_entry, string_entry, list_entry, object_entry, listing, items_listing, members_listing}
+use Rattle.sj_tape.proofs.Listings.{IsListing}
+use Rattle.sj_tape.specs.Listed.{tree_of, listed_items, listed_members, ListsItems, ListsMembers}
 use Rattle.sj_tape.specs.Nodes.{static_entry, node_entry, node_count, entries}
 use Rattle.sj_tape.specs.declared.node.Node.{Node}
 use Rattle.sj_tape.specs.declared.node.Node.TheVariants.{String, Object, Array, Static, Decimal}

@@ -1,10 +1,20 @@
 -- The texts of containers, piece by piece.
 use Rattle.std.proofs.Common.{◌≡◌, ℕ, List, [], ◌∷◌, ◌++◌, refl, sym, ap, ◌∙◌, append_assoc}
 use Rattle.sj_base.specs.Tree.{Tree, list, object, Items, no_items, item, Members, no_members, member}
-use Rattle.sj_base.specs.Text.{text, more_items_text, more_members_text, quoted}
+use Rattle.sj_base.specs.Text.{text, more_items_text, more_members_text, quoted, pretty_more_items, pretty_more_members}
 use Rattle.sj_tape.specs.declared.encode.Layout.{Layout}
 use Rattle.sj_tape.specs.declared.encode.Layout.TheVariants.{Compact, Pretty}
-use Rattle.sj_tape.specs.Layouts.{inside, line_start, laid_out, more_items, pair, more_members}
+use Rattle.sj_tape.specs.Layouts.{inside, line_start, laid_out, pair}
+
+-- the items behind the first
+abbrev pub more_items : Layout → Items → List ℕ
+more_items Compact ts = more_items_text ts
+more_items (Pretty level) ts = pretty_more_items level ts
+
+-- the members behind the first
+abbrev pub more_members : Layout → Members → List ℕ
+more_members Compact ms = more_members_text ms
+more_members (Pretty level) ms = pretty_more_members level ms
 
 pub no_items_laid_out : (y : Layout) → laid_out y (list no_items) ≡ 0x5b ∷ 0x5d ∷ []
 no_items_laid_out Compact = refl

@@ -2,8 +2,13 @@
 use Rattle.std.proofs.Common.{◌≡◌, ℕ, suc, ◌+◌, List, [], ◌∷◌, ◌++◌, length, drop, refl, sym, ◌∙◌, ap, arith, append_assoc, append-nil}
 use Rattle.std.proofs.lemmas.List.{append_cancel_left}
 use Rattle.sj_base.specs.Tree.{Tree, null, boolean, integer, decimal, string, list, object, Items, no_items, item, Members, no_members, member}
-use Rattle.sj_tape.specs.Listing.{Entry, items_len, members_len, item_trees, member_pairs, listing, items_listing, members_listing}
+use Rattle.sj_base.specs.Containers.{items_len, members_len, item_trees, member_pairs}
+use Rattle.sj_tape.specs.Listing.{Entry, listing, items_listing, members_listing}
 use Rattle.sj_tape.specs.Listed.{items_of, members_of, trees, first_tree, tree_of, listed_items, listed_members, ListsItems, ListsMembers}
+
+-- the entries list one tree, and nothing else
+abbrev pub IsListing : List Entry → Type 0
+IsListing es = listing (tree_of es) ≡ es
 
 -- the trees of keys and values in turn
 abbrev members_list : Members → List Tree

@@ -1,7 +1,8 @@
 -- What stands behind a tree, and behind so many items or members.
 use Rattle.std.proofs.Common.{◌≡◌, ◌≢◌, ℕ, suc, ◌+◌, ◌-◌, ◌<◌, ◌≤◌, List, [], ◌∷◌, ◌++◌, drop, length, Option, Some, None, MatchOption, option_map, refl, sym, ◌∙◌, ap, subst, arith, append_assoc, length-append, length-drop}
 use Rattle.sj_base.specs.Tree.{null, boolean, integer, decimal, string, list, object, Items, no_items, item, Members, no_members, member}
-use Rattle.sj_tape.specs.Listing.{Entry, string_entry, list_entry, object_entry, items_len, members_len, listing, items_listing, members_listing}
+use Rattle.sj_base.specs.Containers.{items_len, members_len}
+use Rattle.sj_tape.specs.Listing.{Entry, string_entry, list_entry, object_entry, listing, items_listing, members_listing}
 use Rattle.sj_tape.specs.Passing.{PassesTree, PassesItems, PassesKey, PassesMembers}
 use Rattle.sj_tape.proofs.Listings.{one_listing, one_items, one_members}
 

@@ -3,7 +3,8 @@ use Rattle.std.proofs.Common.{◌≡◌, ℕ, ◌<◌, List, [], ◌∷◌, ◌+
 use Rattle.sj_base.specs.Tree.{Tree, list, object, Items, item, Members, member}
 use Rattle.sj_tape.specs.Listing.{listing, items_listing, members_listing}
 use Rattle.sj_tape.specs.declared.encode.Layout.{Layout}
-use Rattle.sj_tape.specs.Layouts.{inside, line_start, laid_out, more_items, pair, more_members}
+use Rattle.sj_tape.proofs.LaidOut.{more_items, more_members}
+use Rattle.sj_tape.specs.Layouts.{inside, line_start, laid_out, pair}
 use Rattle.sj_tape.proofs.Cutting.{listing_long}
 use Rattle.sj_tape.proofs.LaidOut.{items_laid_out, more_items_laid_out, members_laid_out, more_members_laid_out}
 use Rattle.sj_tape.proofs.Towards.{Toward, all_left, same_left}

@@ -3,7 +3,8 @@ use Rattle.std.proofs.Common.{◌≡◌, ◌≢◌, ℕ, ◌<◌, ◌≤◌, Lis
 use Rattle.std.proofs.lemmas.List.{drop_all}
 use Rattle.sj_base.specs.Tree.{Tree, null}
 use Rattle.sj_tape.specs.Listing.{Entry, listing}
-use Rattle.sj_tape.specs.Listed.{tree_of, listed_tree, option_listing, IsListing, IsTape}
+use Rattle.sj_tape.proofs.Listings.{IsListing}
+use Rattle.sj_tape.specs.Listed.{tree_of, listed_tree, option_listing, IsTape}
 use Rattle.sj_tape.specs.Nodes.{entries}
 use Rattle.sj_tape.specs.Passing.{PassesTree}
 use Rattle.sj_tape.specs.declared.node.Node.{Node}

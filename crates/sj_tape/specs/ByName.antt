@@ -8,7 +8,8 @@ use Rattle.sj_base.specs.declared.fault.TryTypeError.{TryTypeError}
 use Rattle.sj_reads.specs.Reads.{mismatch}
 use Rattle.sj_reads.specs.Member.{Seen, result_some}
 use Rattle.sj_tape.specs.Children.{child_nodes}
-use Rattle.sj_tape.specs.Views.{value_nodes, value_kind, first_type, nodes_tree, scalar_in, array_items, object_members}
+use Rattle.sj_base.specs.Containers.{scalar_in}
+use Rattle.sj_tape.specs.Views.{value_nodes, value_kind, first_type, nodes_tree, array_items, object_members}
 use Rattle.sj_tape.specs.declared.array.Array.{Array}
 use Rattle.sj_tape.specs.declared.node.Node.{Node}
 use Rattle.sj_tape.specs.declared.object.Object.{Object}

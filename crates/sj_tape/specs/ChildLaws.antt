@@ -6,7 +6,8 @@ use Rattle.sj_tape.specs.ByName.{member_seen}
 use Rattle.sj_tape.specs.Children.{child_nodes}
 use Rattle.sj_tape.specs.Listed.{IsTape}
 use Rattle.sj_tape.specs.Nodes.{entries}
-use Rattle.sj_tape.specs.Views.{nodes_tree, value_tree, scalar_in}
+use Rattle.sj_base.specs.Containers.{scalar_in}
+use Rattle.sj_tape.specs.Views.{nodes_tree, value_tree}
 use Rattle.sj_tape.specs.declared.node.Node.{Node}
 use Rattle.sj_tape.specs.declared.value.Value.{Value}
 

@@ -8,8 +8,9 @@ use Rattle.std.specs.Option.{IsSomeAnd}
 use Rattle.std.specs.Ordering.{on, int_eq, eq_of_both}
 use Rattle.sj_base.specs.Tree.{Tree, null, integer, object, Members, no_members, member}
 use Rattle.sj_base.specs.Path.{member_at}
-use Rattle.sj_tape.specs.Listing.{Entry, null_entry, boolean_entry, integer_entry, decimal_entry, string_entry, list_entry, object_entry, members_len, listing}
-use Rattle.sj_tape.specs.Views.{value_tree, members_in}
+use Rattle.sj_base.specs.Containers.{members_len, members_in}
+use Rattle.sj_tape.specs.Listing.{Entry, null_entry, boolean_entry, integer_entry, decimal_entry, string_entry, list_entry, object_entry, listing}
+use Rattle.sj_tape.specs.Views.{value_tree}
 use Rattle.sj_tape.specs.declared.value.Value.{Value}
 
 -- the place of the entry's case among the cases

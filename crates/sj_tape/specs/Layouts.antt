@@ -1,7 +1,7 @@
 -- The texts of a tree, compact and pretty, as printed with one layout or the other. Only clauses of private functions cite this.
 use Rattle.std.specs.Prelude.{ℕ, suc, List, [], ◌∷◌, ◌++◌}
-use Rattle.sj_base.specs.Tree.{Tree, Items, Members}
-use Rattle.sj_base.specs.Text.{text, more_items_text, more_members_text, quoted, line_break, pretty_at, pretty_more_items, pretty_more_members}
+use Rattle.sj_base.specs.Tree.{Tree}
+use Rattle.sj_base.specs.Text.{text, quoted, line_break, pretty_at}
 use Rattle.sj_tape.specs.declared.encode.Layout.{Layout}
 use Rattle.sj_tape.specs.declared.encode.Layout.TheVariants.{Compact, Pretty}
 
@@ -29,16 +29,6 @@ abbrev pub laid_out : Layout → Tree → List ℕ
 laid_out Compact t = text t
 laid_out (Pretty level) t = pretty_at level t
 
--- the items behind the first
-abbrev pub more_items : Layout → Items → List ℕ
-more_items Compact ts = more_items_text ts
-more_items (Pretty level) ts = pretty_more_items level ts
-
 -- a key and its value
 abbrev pub pair : Layout → List ℕ → Tree → List ℕ
 pair layout k t = quoted k ++ (separator layout ++ laid_out layout t)
-
--- the members behind the first
-abbrev pub more_members : Layout → Members → List ℕ
-more_members Compact ms = more_members_text ms
-more_members (Pretty level) ms = pretty_more_members level ms

@@ -1,7 +1,8 @@
 -- The tree that entries list, read back from the last entry to the first.
 use Rattle.std.specs.Prelude.{◌≡◌, ℕ, zero, suc, ◌+◌, List, [], ◌∷◌, Option, Some, None, drop}
 use Rattle.sj_base.specs.Tree.{Tree, null, boolean, integer, decimal, string, list, object, Items, no_items, item, Members, no_members, member}
-use Rattle.sj_tape.specs.Listing.{Entry, null_entry, boolean_entry, integer_entry, decimal_entry, string_entry, list_entry, object_entry, items_len, members_len, listing, items_listing, members_listing}
+use Rattle.sj_base.specs.Containers.{items_len, members_len}
+use Rattle.sj_tape.specs.Listing.{Entry, null_entry, boolean_entry, integer_entry, decimal_entry, string_entry, list_entry, object_entry, listing, items_listing, members_listing}
 
 -- a list of the first so many trees
 abbrev pub items_of : ℕ → List Tree → Items
@@ -50,10 +51,6 @@ listed_items len es = items_of len (trees es)
 
 unfoldable pub listed_members : ℕ → List Entry → Members
 listed_members len es = members_of len (trees es)
-
--- the entries list one tree, and nothing else
-abbrev pub IsListing : List Entry → Type 0
-IsListing es = listing (tree_of es) ≡ es
 
 -- the entries list so many items, and nothing else
 abbrev pub ListsItems : ℕ → List Entry → Type 0

@@ -1,5 +1,6 @@
 -- The preorder of a tree: an entry for each value, and one for each key in front of its member.
-use Rattle.std.specs.Prelude.{ℕ, ℤ, suc, Bool, List, [], ◌∷◌, ◌++◌, length}
+use Rattle.std.specs.Prelude.{ℕ, ℤ, Bool, List, [], ◌∷◌, ◌++◌, length}
+use Rattle.sj_base.specs.Containers.{items_len, members_len}
 use Rattle.sj_base.specs.Tree.{Tree, null, boolean, integer, decimal, string, list, object, Items, no_items, item, Members, no_members, member}
 
 pub data Entry : Type 0 where
@@ -10,23 +11,6 @@ pub data Entry : Type 0 where
   string_entry : List ℕ → Entry  -- a text or a key
   list_entry : ℕ → ℕ → Entry  -- how many items, and how many entries beneath
   object_entry : ℕ → ℕ → Entry  -- how many members, and how many entries beneath
-
-abbrev pub items_len : Items → ℕ
-items_len no_items = 0
-items_len (item t ts) = suc (items_len ts)
-
-abbrev pub members_len : Members → ℕ
-members_len no_members = 0
-members_len (member k t ms) = suc (members_len ms)
-
--- items and members as lists, in document order
-abbrev pub item_trees : Items → List Tree
-item_trees no_items = []
-item_trees (item t ts) = t ∷ item_trees ts
-
-abbrev pub member_pairs : Members → List (List ℕ × Tree)
-member_pairs no_members = []
-member_pairs (member k t ms) = (k, t) ∷ member_pairs ms
 
 abbrev mutual
   pub listing : Tree → List Entry

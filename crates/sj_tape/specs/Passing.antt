@@ -1,7 +1,8 @@
 -- What is left of entries behind a tree, or behind so many items or members, where they begin so.
 use Rattle.std.specs.Prelude.{◌≡◌, ◌≢◌, ℕ, List, ◌∷◌, ◌++◌, Option, Some, None}
 use Rattle.sj_base.specs.Tree.{Tree, Items, Members}
-use Rattle.sj_tape.specs.Listing.{Entry, string_entry, items_len, members_len, listing, items_listing, members_listing}
+use Rattle.sj_base.specs.Containers.{items_len, members_len}
+use Rattle.sj_tape.specs.Listing.{Entry, string_entry, listing, items_listing, members_listing}
 
 abbrev pub PassesTree : List Entry → Option (List Entry) → Type 0
 PassesTree es (Some rest) = (t : Tree) × (es ≡ listing t ++ rest)

@@ -1,10 +1,10 @@
 -- What tapes and views stand for.
-use Rattle.std.specs.Prelude.{ℕ, List, [], ◌∷◌, Option, Some, None, Result, Ok, Err, option_map, map}
-use Rattle.sj_base.specs.Tree.{Tree, null, boolean, integer, decimal, string, list, object, Items, Members}
+use Rattle.std.specs.Prelude.{ℕ, List, [], ◌∷◌, Option, Result, Ok, Err, option_map, map}
+use Rattle.sj_base.specs.Tree.{Tree, Items, Members}
 use Rattle.sj_base.specs.declared.static_node.ValueType.{ValueType}
 use Rattle.sj_base.specs.declared.static_node.ValueType.TheVariants.{Null as null_type}
 use Rattle.sj_base.specs.declared.fault.TryTypeError.{TryTypeError}
-use Rattle.sj_tape.specs.Listing.{item_trees, member_pairs}
+use Rattle.sj_base.specs.Containers.{item_trees, member_pairs}
 use Rattle.sj_tape.specs.Listed.{tree_of, listed_items, listed_members, listed_tree}
 use Rattle.sj_tape.specs.Nodes.{entries, node_type}
 use Rattle.sj_tape.specs.Children.{member_nodes, item_nodes}
@@ -43,24 +43,6 @@ nodes_tree ns = tree_of (entries ns)
 abbrev pub value_kind : Value → ValueType
 value_kind v = first_type (value_nodes v)
 
-abbrev pub items_in : Tree → Option Items
-items_in null = None
-items_in (boolean b) = None
-items_in (integer n) = None
-items_in (decimal literal) = None
-items_in (string s) = None
-items_in (list ts) = Some ts
-items_in (object ms) = None
-
-abbrev pub members_in : Tree → Option Members
-members_in null = None
-members_in (boolean b) = None
-members_in (integer n) = None
-members_in (decimal literal) = None
-members_in (string s) = None
-members_in (list ts) = None
-members_in (object ms) = Some ms
-
 abbrev pub array_nodes : Array → List Node
 array_nodes a = a.nodes.now
 
@@ -68,8 +50,8 @@ abbrev pub array_items : Array → Items
 array_items a = listed_items a.len (entries (array_nodes a))
 
 -- how many items, and their nodes
-abbrev pub array_run : Array → ℕ × List Node
-array_run a = (a.len, array_nodes a)
+abbrev pub array_part_of : Array → ℕ × List Node
+array_part_of a = (a.len, array_nodes a)
 
 -- the nodes of the item at that index
 abbrev pub array_item : Array → ℕ → Option (List Node)
@@ -82,22 +64,12 @@ abbrev pub object_members : Object → Members
 object_members o = listed_members o.len (entries (object_nodes o))
 
 -- how many members, and their nodes
-abbrev pub object_run : Object → ℕ × List Node
-object_run o = (o.len, object_nodes o)
+abbrev pub object_part_of : Object → ℕ × List Node
+object_part_of o = (o.len, object_nodes o)
 
 -- the nodes of the first member with that key
 abbrev pub object_member : Object → List ℕ → Option (List Node)
 object_member o k = member_nodes o.len (object_nodes o) k
-
--- the tree itself, where it holds no other
-abbrev pub scalar_in : Tree → Option Tree
-scalar_in null = Some null
-scalar_in (boolean b) = Some (boolean b)
-scalar_in (integer n) = Some (integer n)
-scalar_in (decimal literal) = Some (decimal literal)
-scalar_in (string s) = Some (string s)
-scalar_in (list ts) = None
-scalar_in (object ms) = None
 
 -- answers, with trees in the place of views
 abbrev pub ok_items : Result Array TryTypeError → Result Items TryTypeError

@@ -3,7 +3,7 @@ ghost use Rattle.std.specs.Prelude.{◌≡◌, ◌↔◌, ◌++◌, IsTrue, IfSo
 ghost use Rattle.std.specs.Iterator.{YieldsFirstBy, item_count};
 ghost use Rattle.sj_base.specs.Tree.{no_items, item};
 ghost use Rattle.sj_base.specs.Path.{item_at};
-ghost use Rattle.sj_tape.specs.Listing.{items_len, item_trees};
+ghost use Rattle.sj_base.specs.Containers.{items_len, item_trees};
 ghost use Rattle.sj_tape.specs.Listed.{ListsItems};
 ghost use Rattle.sj_tape.specs.Nodes.{entries};
 

@@ -1,10 +1,15 @@
 //! Laws of the definitions that the contracts cite: each function has no code, and its contract is the law.
 ghost use Rattle.sj_tape.specs.ChildLaws.{ChildrenByCounts, SeenMembers};
-ghost use Rattle.sj_tape.specs.Laws.{OneListing};
+ghost use Rattle.sj_tape.specs.Laws.{OneListing, ListingBack};
 
 /// A listing has one tree: its keys and the order of its members show.
 pub fn one_listing()
     ensures { OneListing }
+{}
+
+/// From a listing its tree is read back.
+pub fn listing_back()
+    ensures { ListingBack }
 {}
 
 /// The nodes of a member or an item, which the counts find, are those of the child in the tree.

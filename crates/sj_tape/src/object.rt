@@ -3,7 +3,7 @@ ghost use Rattle.std.specs.Prelude.{◌≡◌, ◌↔◌, IsTrue, MatchOption, l
 ghost use Rattle.std.specs.Iterator.{YieldsFirstBy, item_count};
 ghost use Rattle.sj_base.specs.Tree.{no_members, member};
 ghost use Rattle.sj_base.specs.Path.{member_at};
-ghost use Rattle.sj_tape.specs.Listing.{members_len, member_pairs};
+ghost use Rattle.sj_base.specs.Containers.{members_len, member_pairs};
 ghost use Rattle.sj_tape.specs.Listed.{ListsMembers};
 ghost use Rattle.sj_tape.specs.Nodes.{entries};
 

@@ -25,6 +25,8 @@ impl<'i> Tape<'i> {
     pub fn new(nodes: Vec<Node<'i>>) -> Option<Tape<'i>>
         ensures accepts { IsSome result ↔ ((t : Tree) × (entries nodes.entry.items ≡ listing t)) }
         ensures nodes { IfSome result (λ tape. tape_nodes tape ≡ nodes.entry.items) }
+        ensures tree { (t : Tree) → entries nodes.entry.items ≡ listing t
+            → IfSome result (λ tape. tape_tree tape ≡ Some t) }
     {
         if tree_end(&nodes, 0) == Some(nodes.len()) {
             Some(Tape { nodes })

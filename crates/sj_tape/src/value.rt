@@ -1,5 +1,6 @@
 //! Views of the values of a tape.
 ghost use Rattle.std.specs.Prelude.{◌≡◌, ◌++◌, List, Some, IfOk, IfSome, is_some, ok_or, option_and_then, option_map};
+ghost use Rattle.sj_base.specs.Containers.{items_in, members_in, scalar_in};
 ghost use Rattle.sj_base.specs.Tree.{Tree, null};
 ghost use Rattle.sj_base.specs.Path.{key, place, member_at, item_at, child};
 ghost use Rattle.sj_base.specs.Scalar.{scalar_tree, scalar_type};
@@ -25,7 +26,7 @@ pub struct Value<'t, 'i> {
 impl<'t, 'i> Value<'t, 'i> {
     ghost use Rattle.sj_tape.specs.ByName.{try_nodes, try_member, found_nodes, found_items, found_members};
     ghost use Rattle.sj_tape.specs.Children.{array_part, object_part, child_nodes};
-    ghost use Rattle.sj_tape.specs.Views.{value_nodes, value_tree, value_kind, items_in, members_in, array_run, array_items, object_run, object_members, scalar_in, ok_items, ok_members, ok_found};
+    ghost use Rattle.sj_tape.specs.Views.{value_nodes, value_tree, value_kind, array_part_of, array_items, object_part_of, object_members, ok_items, ok_members, ok_found};
 
     /// A null that stands in no tape.
     #[tactic(auto, unfolding(crate::specs::Listed::tree_of, crate::specs::Listed::listed_tree))]
@@ -63,7 +64,7 @@ impl<'t, 'i> Value<'t, 'i> {
     #[tactic(auto, unfolding(crate::specs::Listed::tree_of))]
     pub fn as_array(&self) -> Option<Array<'t, 'i>>
         ensures tree { option_map array_items result ≡ items_in (value_tree self.now) }
-        ensures nodes { option_map array_run result ≡ array_part (value_nodes self.now) }
+        ensures nodes { option_map array_part_of result ≡ array_part (value_nodes self.now) }
     {
         let (first, nodes) = take_node(self.nodes)?;
         match first {
@@ -76,7 +77,7 @@ impl<'t, 'i> Value<'t, 'i> {
     #[tactic(auto, unfolding(crate::specs::Listed::tree_of))]
     pub fn as_object(&self) -> Option<Object<'t, 'i>>
         ensures tree { option_map object_members result ≡ members_in (value_tree self.now) }
-        ensures nodes { option_map object_run result ≡ object_part (value_nodes self.now) }
+        ensures nodes { option_map object_part_of result ≡ object_part (value_nodes self.now) }
     {
         let (first, nodes) = take_node(self.nodes)?;
         match first {
@@ -103,7 +104,7 @@ impl<'t, 'i> Value<'t, 'i> {
     pub fn try_as_array(&self) -> Result<Array<'t, 'i>, TryTypeError>
         ensures tree { ok_items result ≡ ok_or (items_in (value_tree self.now))
             (mismatch ValueType.Array (value_kind self.now)) }
-        ensures nodes { IfOk result (λ a. Some (array_run a) ≡ array_part (value_nodes self.now)) }
+        ensures nodes { IfOk result (λ a. Some (array_part_of a) ≡ array_part (value_nodes self.now)) }
     {
         match self.as_array() {
             Some(array) => Ok(array),
@@ -115,7 +116,7 @@ impl<'t, 'i> Value<'t, 'i> {
     pub fn try_as_object(&self) -> Result<Object<'t, 'i>, TryTypeError>
         ensures tree { ok_members result ≡ ok_or (members_in (value_tree self.now))
             (mismatch ValueType.Object (value_kind self.now)) }
-        ensures nodes { IfOk result (λ o. Some (object_run o) ≡ object_part (value_nodes self.now)) }
+        ensures nodes { IfOk result (λ o. Some (object_part_of o) ≡ object_part (value_nodes self.now)) }
     {
         match self.as_object() {
             Some(object) => Ok(object),
@@ -138,17 +139,17 @@ impl<'t, 'i> Value<'t, 'i> {
     /// The items, where the value is an array.
     pub fn into_array(self) -> Option<Array<'t, 'i>>
         ensures tree { option_map array_items result ≡ items_in (value_tree self.entry) }
-        ensures nodes { option_map array_run result ≡ array_part (value_nodes self.entry) }
+        ensures nodes { option_map array_part_of result ≡ array_part (value_nodes self.entry) }
     {
-        Value::as_array(&self)
+        self.as_array()
     }
 
     /// The members, where the value is an object.
     pub fn into_object(self) -> Option<Object<'t, 'i>>
         ensures tree { option_map object_members result ≡ members_in (value_tree self.entry) }
-        ensures nodes { option_map object_run result ≡ object_part (value_nodes self.entry) }
+        ensures nodes { option_map object_part_of result ≡ object_part (value_nodes self.entry) }
     {
-        Value::as_object(&self)
+        self.as_object()
     }
 
     /// The first member with that key, where the value is an object.
@@ -157,10 +158,7 @@ impl<'t, 'i> Value<'t, 'i> {
         ensures nodes { option_map value_nodes result
             ≡ child_nodes (value_nodes self.now) (key name.now) }
     {
-        match self.as_object() {
-            Some(object) => object.get(name),
-            None => None,
-        }
+        self.as_object()?.get(name)
     }
 
     /// Whether the value is an object with such a member.
@@ -176,17 +174,14 @@ impl<'t, 'i> Value<'t, 'i> {
         ensures nodes { option_map value_nodes result
             ≡ child_nodes (value_nodes self.now) (place index) }
     {
-        match self.as_array() {
-            Some(array) => array.get(index),
-            None => None,
-        }
+        self.as_array()?.get(index)
     }
 
     /// The items of the first member with that key, where that is an array.
     pub fn get_array(&self, name: &str) -> Option<Array<'t, 'i>>
         ensures tree { option_map array_items result
             ≡ option_and_then items_in (child (value_tree self.now) (key name.now)) }
-        ensures nodes { option_map array_run result
+        ensures nodes { option_map array_part_of result
             ≡ option_and_then array_part (child_nodes (value_nodes self.now) (key name.now)) }
     {
         self.get(name)?.as_array()
@@ -196,7 +191,7 @@ impl<'t, 'i> Value<'t, 'i> {
     pub fn get_object(&self, name: &str) -> Option<Object<'t, 'i>>
         ensures tree { option_map object_members result
             ≡ option_and_then members_in (child (value_tree self.now) (key name.now)) }
-        ensures nodes { option_map object_run result
+        ensures nodes { option_map object_part_of result
             ≡ option_and_then object_part (child_nodes (value_nodes self.now) (key name.now)) }
     {
         self.get(name)?.as_object()
@@ -232,7 +227,7 @@ impl<'t, 'i> Value<'t, 'i> {
     /// The items of the first member with that key, or the type met; none where the key is not there.
     pub fn try_get_array(&self, name: &str) -> Result<Option<Array<'t, 'i>>, TryTypeError>
         ensures tree { found_items result ≡ try_member items_in ValueType.Array self.now name.now }
-        ensures nodes { IfOk result (λ found. option_map array_run found
+        ensures nodes { IfOk result (λ found. option_map array_part_of found
             ≡ option_and_then array_part (child_nodes (value_nodes self.now) (key name.now))) }
     {
         match self.try_get(name)? {
@@ -244,7 +239,7 @@ impl<'t, 'i> Value<'t, 'i> {
     /// The members of the first member with that key, or the type met; none where the key is not there.
     pub fn try_get_object(&self, name: &str) -> Result<Option<Object<'t, 'i>>, TryTypeError>
         ensures tree { found_members result ≡ try_member members_in ValueType.Object self.now name.now }
-        ensures nodes { IfOk result (λ found. option_map object_run found
+        ensures nodes { IfOk result (λ found. option_map object_part_of found
             ≡ option_and_then object_part (child_nodes (value_nodes self.now) (key name.now))) }
     {
         match self.try_get(name)? {
@@ -291,7 +286,7 @@ impl TypedValue for Value<'_, '_> {
 }
 
 impl ValueAsScalar for Value<'_, '_> {
-    ghost use Rattle.sj_tape.specs.Views.{value_tree, scalar_in};
+    ghost use Rattle.sj_tape.specs.Views.{value_tree};
 
     ghost scalar = { λ v. scalar_in (value_tree v) };
 

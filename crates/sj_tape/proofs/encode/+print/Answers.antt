@@ -3,7 +3,8 @@ use Rattle.std.proofs.lemmas.Result.{on_ok_weaker, on_err_weaker}
 use Rattle.sj_base.proofs.Prints.{on_err}
 use Rattle.sj_base.specs.Text.{quoted}
 use Rattle.sj_tape.specs.Views.{value_tree, array_items, object_members}
-use Rattle.sj_tape.specs.Layouts.{line_start, separator, laid_out, more_items, pair, more_members}
+use Rattle.sj_tape.proofs.LaidOut.{more_items, more_members}
+use Rattle.sj_tape.specs.Layouts.{line_start, separator, laid_out, pair}
 use Rattle.sj_tape.proofs.Towards.{step, fault}
 use Rattle.sj_tape.proofs.Printing.{items_left, items_begin, items_next, fewer_items, members_left, members_begin, members_next, fewer_members}
 use Rattle.sj_tape.proofs.encode.+print.Goals as goal

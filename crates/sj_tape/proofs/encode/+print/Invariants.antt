@@ -2,7 +2,8 @@ use Rattle.std.proofs.Common.{[], ◌∷◌, ◌++◌, ◌+◌, ◌*◌, ◌≤�
 use Rattle.sj_base.specs.Tree.{list, object}
 use Rattle.sj_tape.specs.Listing.{listing, items_listing, members_listing}
 use Rattle.sj_tape.specs.Views.{value_tree, array_items, object_members}
-use Rattle.sj_tape.specs.Layouts.{line_start, laid_out, more_items, more_members}
+use Rattle.sj_tape.proofs.LaidOut.{more_items, more_members}
+use Rattle.sj_tape.specs.Layouts.{line_start, laid_out}
 use Rattle.sj_tape.proofs.Towards.{Toward}
 use Rattle.sj_tape.proofs.encode.+print.Given as goal
 

@@ -1,6 +1,6 @@
 use Rattle.std.proofs.Common.{◌≡◌}
 use Rattle.sj_base.specs.Path.{member_at}
-use Rattle.sj_tape.specs.Listing.{members_len}
+use Rattle.sj_base.specs.Containers.{members_len}
 use Rattle.sj_tape.specs.Views.{object_members, object_member}
 use Rattle.sj_tape.proofs.object.Object.get.Given as goal
 

@@ -5,7 +5,7 @@ use Rattle.sj_tape.specs.Nodes.{entries}
 use Rattle.sj_tape.specs.Passing.{PassesTree}
 use Rattle.sj_tape.specs.declared.node.Node.{Node}
 use Rattle.sj_tape.proofs.NodeLists.{length-entries}
-use Rattle.sj_tape.proofs.Tapes.{whole, not_whole, is_tape}
+use Rattle.sj_tape.proofs.Tapes.{whole, not_whole, is_tape, listed_tree-listing}
 use Rattle.sj_tape.proofs.tape.Tape.new.Goals as goal
 
 pub invariant_of-result : goal.invariant_of-result
@@ -27,3 +27,6 @@ returns-clause-accepts c =
     let passes : PassesTree (drop 0 es) (option_map (λ (x : ℕ). drop x es) c.tree_end.result) = subst (λ (ns : List Node). PassesTree (drop 0 (entries ns)) (option_map (λ (x : ℕ). drop x (entries ns)) c.tree_end.result)) same c.tree_end.ensures.passes in
     let low : IfSome c.tree_end.result (λ end. end ≤ c.len.result) = IfSome_then c.tree_end.result c.tree_end.ensures.bounds (λ x p. omega (arith, p.1, c.deref.ensures.len, c.len.ensures)) in
     ((λ e. cc), (λ w. absurd (not_whole es c.len.result c.tree_end.result passes low other all w.0 w.1)))
+
+pub returns-then-eq-clause-tree : goal.returns-then-eq-clause-tree
+returns-then-eq-clause-tree c = λ t e. listed_tree-listing (entries c.args.nodes.items) t e

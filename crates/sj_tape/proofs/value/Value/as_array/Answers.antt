@@ -1,7 +1,7 @@
 use Rattle.std.proofs.Common.{Some, ap, sym, ◌∙◌}
 use Rattle.sj_base.specs.Tree.{Tree}
 use Rattle.sj_tape.specs.Nodes.{entries}
-use Rattle.sj_tape.specs.Views.{items_in}
+use Rattle.sj_base.specs.Containers.{items_in}
 use Rattle.sj_tape.proofs.Listings.{items_from, lists_items}
 use Rattle.sj_tape.proofs.Tapes.{listed_front}
 use Rattle.sj_tape.proofs.Cutting.{array_inside}

@@ -1,7 +1,7 @@
 use Rattle.std.proofs.Common.{Some, ap, sym, ◌∙◌}
 use Rattle.sj_base.specs.Tree.{Tree}
 use Rattle.sj_tape.specs.Nodes.{entries}
-use Rattle.sj_tape.specs.Views.{members_in}
+use Rattle.sj_base.specs.Containers.{members_in}
 use Rattle.sj_tape.proofs.Listings.{members_from, lists_members}
 use Rattle.sj_tape.proofs.Tapes.{listed_front}
 use Rattle.sj_tape.proofs.Cutting.{object_inside}
