@@ -1,4 +1,4 @@
-//! What is wrong with a call on a value of the wrong type.
+//! Why a read of a value, a write to it, or a write to a sink is refused.
 use crate::static_node::ValueType;
 use thiserror::Error;
 

@@ -19,7 +19,9 @@ pub use decimal::{Decimal, DecimalBuf, DecimalCow};
 pub use error::{Error, ErrorType};
 pub use fault::{AccessError, TryTypeError, WriteFault};
 pub use output::Output;
-pub use put::{print_break, print_string, print_text, put_break, put_int, put_string, put_text};
+pub use put::{
+    print_break, print_string, print_text, put_break, put_int, put_string, put_text, whole_or_none,
+};
 pub use scalar::Scalar;
 pub use static_node::{StaticNode, ValueType};
 pub use stream::{Counted, Sink, Source};

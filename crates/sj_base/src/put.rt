@@ -51,8 +51,8 @@ pub fn put_break(out: &mut Vec<u8>, level: usize) -> Result<(), AllocError>
     whole_or_none(out, start, printed)
 }
 
-// Takes back what stands behind the start, where not all was printed.
-fn whole_or_none(
+/// Takes back what stands behind the first `start` bytes, where not all was printed.
+pub fn whole_or_none(
     out: &mut Vec<u8>,
     start: usize,
     printed: Result<(), AllocError>,

@@ -28,3 +28,14 @@ nested_back = refl
 pair_back : tree_of (listing pair) ≡ pair
 unfolding tree_of
 pair_back = refl
+
+-- {"a":{"b":1},"a":{}}, where a key comes twice and an object stands in an object
+abbrev inner : Tree
+inner = object (member (codes "a") (object (member (codes "b") (integer (pos 1)) no_members)) (member (codes "a") (object no_members) no_members))
+
+inner_listing : listing inner ≡ object_entry 2 6 ∷ string_entry (codes "a") ∷ object_entry 1 2 ∷ string_entry (codes "b") ∷ integer_entry (pos 1) ∷ string_entry (codes "a") ∷ object_entry 0 0 ∷ []
+inner_listing = refl
+
+inner_back : tree_of (listing inner) ≡ inner
+unfolding tree_of
+inner_back = refl

@@ -13,7 +13,7 @@ mod tests;
 use crate::array::Array;
 use crate::object::Object;
 use crate::value::Value;
-use sj_base::{Output, Sink, WriteFault, print_break, print_string, print_text};
+use sj_base::{Output, Sink, WriteFault, print_break, print_string, print_text, whole_or_none};
 use sj_reads::ValueAsScalar;
 use std::alloc::AllocError;
 
@@ -36,7 +36,8 @@ impl Layout {
         }
     }
 
-    fn print_line<O: Output>(self, out: &mut O) -> Result<(), O::Fault>
+    // What stands in front of an item or a closing bracket.
+    fn print_line_start<O: Output>(self, out: &mut O) -> Result<(), O::Fault>
         ensures ok { OnOk result (O.appends out.old out.new (line_start self)) }
         ensures err { OnErr result (O.begins out.old out.new (line_start self)) }
     {
@@ -46,6 +47,7 @@ impl Layout {
         }
     }
 
+    // What stands between a key and its value.
     fn separator(self) -> &'static [u8]
         ensures { result.now ≡ separator self }
     {
@@ -74,6 +76,7 @@ fn print_value<O: Output>(
     }
     match value.as_scalar() {
         Some(scalar) => print_text(out, &scalar),
+        // Not met: what is no container is a scalar.
         None => Ok(()),
     }
 }
@@ -93,15 +96,15 @@ fn print_items<O: Output>(
     };
     let inside = layout.inside();
     out.put(b"[")?;
-    inside.print_line(out)?;
+    inside.print_line_start(out)?;
     print_value(&first, inside, out)?;
     while let Some((item, behind)) = rest.split_first() {
         out.put(b",")?;
-        inside.print_line(out)?;
+        inside.print_line_start(out)?;
         print_value(&item, inside, out)?;
         rest = behind;
     }
-    layout.print_line(out)?;
+    layout.print_line_start(out)?;
     out.put(b"]")
 }
 
@@ -120,15 +123,15 @@ fn print_members<O: Output>(
     };
     let inside = layout.inside();
     out.put(b"{")?;
-    inside.print_line(out)?;
+    inside.print_line_start(out)?;
     print_member(key, &value, inside, out)?;
     while let Some((key, value, behind)) = rest.split_first() {
         out.put(b",")?;
-        inside.print_line(out)?;
+        inside.print_line_start(out)?;
         print_member(key, &value, inside, out)?;
         rest = behind;
     }
-    layout.print_line(out)?;
+    layout.print_line_start(out)?;
     out.put(b"}")
 }
 
@@ -148,7 +151,7 @@ fn print_member<O: Output>(
     print_value(value, layout, out)
 }
 
-// The outermost value begins at level 0.
+// Each level of nesting is a node, so a level fits a `usize` where the outermost one is 0.
 fn print<O: Output>(value: Value<'_, '_>, layout: Layout, out: &mut O) -> Result<(), O::Fault>
     requires { level_of layout ≡ 0 }
     ensures ok { OnOk result (O.appends out.old out.new (laid_out layout (value_tree value.entry))) }
@@ -165,14 +168,11 @@ fn append(value: Value<'_, '_>, layout: Layout, out: &mut Vec<u8>) -> Result<(),
 {
     let start = out.len();
     let printed = print(value, layout, out);
-    if printed.is_err() {
-        out.truncate(start);
-    }
-    printed
+    whole_or_none(out, start, printed)
 }
 
 impl Value<'_, '_> {
-    /// Appends the compact text. Without memory it appends nothing.
+    /// Appends the compact text. Without memory it appends nothing. It nests as deep as the document does.
     pub fn encode(&self, out: &mut Vec<u8>) -> Result<(), AllocError>
         ensures ok { OnOk result (out.new.items ≡ out.old.items ++ text (value_tree self.now)) }
         ensures err { OnErr result (out.new.items ≡ out.old.items) }
@@ -180,7 +180,8 @@ impl Value<'_, '_> {
         append(*self, Layout::Compact, out)
     }
 
-    /// Appends the text with a line for each item, indented by 2 spaces a level. Without memory it appends nothing.
+    /// Appends the text with a line for each item, indented by 2 spaces a level. Without memory it appends nothing. It
+    /// nests as deep as the document does.
     pub fn encode_pp(&self, out: &mut Vec<u8>) -> Result<(), AllocError>
         ensures ok { OnOk result (out.new.items ≡ out.old.items ++ pretty (value_tree self.now)) }
         ensures err { OnErr result (out.new.items ≡ out.old.items) }
@@ -188,7 +189,7 @@ impl Value<'_, '_> {
         append(*self, Layout::Pretty(0), out)
     }
 
-    /// Writes the compact text. After a fault a prefix of it was written.
+    /// Writes the compact text. After a fault a prefix of it was written. It nests as deep as the document does.
     pub fn write<W: Sink>(&self, writer: &mut W) -> Result<(), WriteFault>
         ensures ok { OnOk result (WritesAll (W.contents writer.old) (W.contents writer.new)
             (W.calls writer.old) (W.calls writer.new) (text (value_tree self.now))) }
@@ -199,7 +200,7 @@ impl Value<'_, '_> {
     }
 
     /// Writes the text with a line for each item, indented by 2 spaces a level. After a fault a prefix of it was
-    /// written.
+    /// written. It nests as deep as the document does.
     pub fn write_pp<W: Sink>(&self, writer: &mut W) -> Result<(), WriteFault>
         ensures ok { OnOk result (WritesAll (W.contents writer.old) (W.contents writer.new)
             (W.calls writer.old) (W.calls writer.new) (pretty (value_tree self.now))) }

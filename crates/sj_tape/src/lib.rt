@@ -1,4 +1,5 @@
-//! The flat form of a document: its nodes in preorder, and views of it.
+//! A document as one flat list of nodes, and views that read it where it stands. A tape is empty or the preorder of one
+//! tree, so views answer as on that tree; encoders append its text or nothing.
 #![tactic(auto)]
 
 pub mod array;

@@ -7,10 +7,15 @@ use sj_base::{Decimal, StaticNode, ValueType};
 /// `count` the number of nodes beneath.
 #[derive(Clone, Copy, Debug)]
 pub enum Node<'i> {
+    /// A text, or the key in front of a member's value.
     String(&'i str),
+    /// Each member is a key's node and the nodes of its value.
     Object { len: usize, count: usize },
+    /// Each item is the nodes of its value.
     Array { len: usize, count: usize },
+    /// Null, a truth value or an integer.
     Static(StaticNode),
+    /// A number with a fraction or an exponent, as its text.
     Decimal(Decimal<'i>),
 }
 

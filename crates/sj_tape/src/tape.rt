@@ -21,7 +21,8 @@ pub struct Tape<'i> {
 impl<'i> Tape<'i> {
     ghost use Rattle.sj_tape.specs.Views.{tape_nodes, tape_tree, value_nodes, value_tree};
 
-    /// Takes no memory. Reading the nodes nests as deep as the document does.
+    /// The tape of these nodes, or none where they are no document's preorder; then they are dropped. Takes no memory,
+    /// but nests as deep as the document does.
     pub fn new(nodes: Vec<Node<'i>>) -> Option<Tape<'i>>
         ensures accepts { IsSome result ↔ ((t : Tree) × (entries nodes.entry.items ≡ listing t)) }
         ensures nodes { IfSome result (λ tape. tape_nodes tape ≡ nodes.entry.items) }

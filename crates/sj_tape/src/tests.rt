@@ -42,12 +42,34 @@ fn items_by_index(rt: HostRuntime) -> Result<(), Fail> {
     let tape = Tape::new(nested(5).to_vec(rt.alloc())?).ok_or("no tape")?;
     assert!(rt; !tape.is_empty());
     let value = tape.as_value();
-    let last = value.get_idx(2).ok_or("no item")?;
-    assert_eq!(rt; last.as_i64(), Some(4));
+    assert!(rt; value.is_array() && !value.is_object());
+    assert!(rt; value.try_as_object().is_err());
+    let array = value.try_as_array().ok().ok_or("no array")?;
+    assert_eq!(rt; array.len(), 3);
+    let first = array.get(0).ok_or("no item")?;
+    assert_eq!(rt; first.as_i64(), Some(1));
     let inner = value.get_idx(1).ok_or("no item")?;
     assert!(rt; inner.value_type() == ValueType::Array);
+    assert_eq!(rt; inner.get_idx(0).ok_or("no item")?.as_i64(), Some(2));
+    assert_eq!(rt; inner.get_idx(1).ok_or("no item")?.as_i64(), Some(3));
+    assert!(rt; inner.get_idx(2).is_none());
+    let last = value.get_idx(2).ok_or("no item")?;
+    assert_eq!(rt; last.as_i64(), Some(4));
     assert!(rt; value.get_idx(3).is_none());
     assert!(rt; value.try_get("a").is_err());
+    Ok(())
+}
+
+#[test]
+fn tapes_without_nodes(rt: HostRuntime) -> Result<(), Fail> {
+    let empty = Tape::empty(rt.alloc());
+    assert!(rt; empty.is_empty());
+    assert!(rt; empty.nodes().is_empty());
+    let null = Tape::null(rt.alloc())?;
+    assert!(rt; !null.is_empty());
+    assert_eq!(rt; null.nodes().len(), 1);
+    assert!(rt; null.as_value().is_null());
+    assert!(rt; null.reset().is_empty());
     Ok(())
 }
 

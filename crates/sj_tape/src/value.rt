@@ -15,7 +15,7 @@ use crate::object::Object;
 use sj_base::{Scalar, StaticNode, TryTypeError, ValueType};
 use sj_reads::{Member, TypedValue, ValueAsScalar, ValueGetScalar};
 
-/// A value of a tape, which stays where it is, or a null that stands in no tape.
+/// A value of a tape, which stays where it is, or a null that stands in no tape (`simd_json::tape::Value`).
 #[derive(Clone, Copy, Debug)]
 pub struct Value<'t, 'i> {
     // Those of the value; none for the null that stands in no tape.
@@ -197,7 +197,7 @@ impl<'t, 'i> Value<'t, 'i> {
         self.get(name)?.as_object()
     }
 
-    /// The first member with that key, or the type met where the value is no object.
+    /// The first member with that key, none where the key is not there, or the type met where the value is no object.
     pub fn try_get(&self, name: &str) -> Result<Option<Value<'t, 'i>>, TryTypeError>
         ensures tree { ok_found result
             ≡ ok_or (option_map (λ ms. member_at ms name.now) (members_in (value_tree self.now)))
@@ -210,7 +210,7 @@ impl<'t, 'i> Value<'t, 'i> {
         }
     }
 
-    /// The item at that index, or the type met where the value is no array.
+    /// The item at that index, none past the end, or the type met where the value is no array.
     pub fn try_get_idx(&self, index: usize) -> Result<Option<Value<'t, 'i>>, TryTypeError>
         ensures tree { ok_found result
             ≡ ok_or (option_map (λ ts. item_at ts index) (items_in (value_tree self.now)))
