@@ -1,5 +1,6 @@
 pub mod Tree
 pub mod Containers
+pub mod Answers
 pub mod Number
 pub mod Characters
 pub mod Spelling

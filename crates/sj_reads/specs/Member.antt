@@ -1,5 +1,6 @@
 -- Members by name.
 use Rattle.std.specs.Prelude.{Option, Some, None, Result, Ok, Err, ok_or, option_map}
+use Rattle.sj_base.specs.Answers.{ok_map}
 use Rattle.sj_base.specs.Tree.{Tree}
 use Rattle.sj_base.specs.Scalar.{scalar_tree}
 use Rattle.sj_base.specs.declared.fault.TryTypeError.{TryTypeError}
@@ -18,8 +19,7 @@ seen m = record { kind = m.kind; scalar = option_map scalar_tree m.scalar }
 
 -- the same of what a look-up answers
 abbrev pub seen_result : Result (Option Member) TryTypeError → Result (Option Seen) TryTypeError
-seen_result (Ok m) = Ok (option_map seen m)
-seen_result (Err e) = Err e
+seen_result r = ok_map (option_map seen) r
 
 -- Only an object has members: the type met, and what is found in an object.
 abbrev pub looked_up : ValueType → Option Seen → Result (Option Seen) TryTypeError
@@ -32,8 +32,7 @@ found_scalar (Ok (Some m)) = m.scalar
 found_scalar _ = None
 
 abbrev pub result_some : {A : Type 0} → Result A TryTypeError → Result (Option A) TryTypeError
-result_some (Ok x) = Ok (Some x)
-result_some (Err e) = Err e
+result_some r = ok_map Some r
 
 -- none where there is no member, else what a read of it answers, or the type met
 abbrev pub try_found : {A : Type 0} → (Option Tree → Option A) → ValueType → Result (Option Seen) TryTypeError → Result (Option A) TryTypeError

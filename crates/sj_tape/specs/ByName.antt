@@ -1,5 +1,6 @@
 -- Reads of members by name. They tell the carrier of an integer, as a tree does not.
 use Rattle.std.specs.Prelude.{ℕ, List, Option, Some, None, Result, Ok, Err, ok_or, option_map}
+use Rattle.sj_base.specs.Answers.{ok_map}
 use Rattle.sj_base.specs.Tree.{Tree, Items, Members}
 use Rattle.sj_base.specs.Path.{key}
 use Rattle.sj_base.specs.declared.static_node.ValueType.{ValueType}
@@ -43,13 +44,10 @@ try_member read expected v k = in_object (value_kind v) (read_member read expect
 
 -- answers, with nodes and trees in the place of views
 abbrev pub found_nodes : Result (Option Value) TryTypeError → Result (Option (List Node)) TryTypeError
-found_nodes (Ok v) = Ok (option_map value_nodes v)
-found_nodes (Err e) = Err e
+found_nodes r = ok_map (option_map value_nodes) r
 
 abbrev pub found_items : Result (Option Array) TryTypeError → Result (Option Items) TryTypeError
-found_items (Ok a) = Ok (option_map array_items a)
-found_items (Err e) = Err e
+found_items r = ok_map (option_map array_items) r
 
 abbrev pub found_members : Result (Option Object) TryTypeError → Result (Option Members) TryTypeError
-found_members (Ok o) = Ok (option_map object_members o)
-found_members (Err e) = Err e
+found_members r = ok_map (option_map object_members) r

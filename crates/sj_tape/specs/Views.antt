@@ -1,5 +1,6 @@
 -- What tapes and views stand for.
-use Rattle.std.specs.Prelude.{ℕ, List, [], ◌∷◌, Option, Result, Ok, Err, option_map, map}
+use Rattle.std.specs.Prelude.{ℕ, List, [], ◌∷◌, Option, Result, option_map, map}
+use Rattle.sj_base.specs.Answers.{ok_map}
 use Rattle.sj_base.specs.Tree.{Tree, Items, Members}
 use Rattle.sj_base.specs.declared.static_node.ValueType.{ValueType}
 use Rattle.sj_base.specs.declared.static_node.ValueType.TheVariants.{Null as null_type}
@@ -73,16 +74,13 @@ object_member o k = member_nodes o.len (object_nodes o) k
 
 -- answers, with trees in the place of views
 abbrev pub ok_items : Result Array TryTypeError → Result Items TryTypeError
-ok_items (Ok a) = Ok (array_items a)
-ok_items (Err e) = Err e
+ok_items r = ok_map array_items r
 
 abbrev pub ok_members : Result Object TryTypeError → Result Members TryTypeError
-ok_members (Ok o) = Ok (object_members o)
-ok_members (Err e) = Err e
+ok_members r = ok_map object_members r
 
 abbrev pub ok_found : Result (Option Value) TryTypeError → Result (Option Tree) TryTypeError
-ok_found (Ok v) = Ok (option_map value_tree v)
-ok_found (Err e) = Err e
+ok_found r = ok_map (option_map value_tree) r
 
 -- what iterators have yet to give
 abbrev pub items_left : ArrayIter → List Tree
