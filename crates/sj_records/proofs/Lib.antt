@@ -22,6 +22,6 @@ pub mod Written
 pub mod Total
 pub mod Feeding
 pub mod RecordText
-pub mod Misses
+pub mod Counts
 pub mod Running
 pub mod ScriptSteps
