@@ -10,7 +10,6 @@ pub mod Nesting
 pub mod Sound
 pub mod Complete
 pub mod Readings
-pub mod Trees
 pub mod DocumentTrees
 pub mod Kept
 pub mod ReadSteps
