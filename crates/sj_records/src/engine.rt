@@ -1,6 +1,6 @@
 //! The loop over a stream: cuts its lines, runs the script on each, and writes their records.
-ghost use Rattle.std.specs.Prelude.{◌≡◌, ◌≢◌, ℕ, List, ◌+◌, ◌<◌, ◌≤◌, ◌^◌, [], ◌∷◌, ◌++◌, length, vec_len, IfOk, OnOk, OnErr, IfErr, MatchOption, IsErrOf, ◌⊎◌};
-ghost use Rattle.std.specs.Io.KnownBytes.{Appends, Consumes, IsAtEnd};
+ghost use Rattle.std.specs.Prelude.{◌≡◌, ℕ, List, ◌+◌, ◌≤◌, ◌^◌, [], ◌∷◌, ◌++◌, vec_len, IfOk, OnOk, OnErr, IfErr, MatchOption, IsErrOf, ◌⊎◌};
+ghost use Rattle.std.specs.Io.KnownBytes.{Appends, IsAtEnd};
 ghost use Rattle.sj_records.specs.Lines.{ended, unended};
 ghost use Rattle.sj_records.specs.Lines.{if_any};
 ghost use Rattle.sj_records.specs.Run.{Transfers, Leaves, ReadsFor, WritesFor};
