@@ -42,7 +42,7 @@ fn script_name<'a, S: AsStr>(alloc: Global, words: &'a [S]) -> Result<Option<&'a
     Ok(matches.get_str("SCRIPT"))
 }
 
-/// The program's command.
+/// The program's command. Its texts say `records`, whatever the file is called that was started.
 fn records<'a>(alloc: Global) -> Result<Command<'a>, AllocError>
     ensures { IfOk result AlwaysHasScript }
 {
@@ -50,7 +50,10 @@ fn records<'a>(alloc: Global) -> Result<Command<'a>, AllocError>
         .required(true)
         .action(ArgAction::Set)
         .help("The file with the script, an array of commands");
-    let command = Command::new(alloc, "records").about(ABOUT).arg(script)?;
+    let command = Command::new(alloc, "records")
+        .bin_name("records")?
+        .about(ABOUT)
+        .arg(script)?;
     Ok(command)
 }
 
