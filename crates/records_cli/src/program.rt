@@ -1,8 +1,11 @@
 //! The program, over the words, the file, the input and the outputs that it is given.
-ghost use Rattle.std.specs.Prelude.{◌≡◌, ℕ, ◌≤◌, IfErr, OnOk};
+ghost use Rattle.std.specs.Prelude.{◌≡◌, ℕ, ◌≤◌, Ok, IfOk, IfErr, OnOk, map};
 ghost use Rattle.std.specs.Io.KnownBytes.{Appends, Keeps};
 ghost use Rattle.records_cli.specs.Fault.{status_of};
-ghost use Rattle.records_cli.specs.Program.{Runs, Ends};
+ghost use Rattle.records_cli.specs.Program.{Ends, Ran, Runs};
+ghost use Rattle.records_cli.specs.Words.{NamesScript};
+ghost use Rattle.std.specs.Fn.{FnOnceReturnsAt};
+ghost use Rattle.sj_records.specs.Record.{IsReadAs};
 ghost use Rattle.sj_records.specs.ScriptView.{steps_of};
 
 use crate::fault::Fault;
@@ -23,19 +26,20 @@ pub fn program<S, L, I, O, E>(
     words: &[S],
     load: L,
     input: I,
-    mut output: O,
+    output: &mut O,
     faults: E,
 ) -> u8
 where
     S: AsStr,
     L: FnOnce(&str) -> Result<Vec<u8>, LoadFault>,
     I: Read + Drop,
-    O: Write + Drop,
+    O: Write,
     E: Write + Drop,
     requires { L.IsAlwaysCallable load }
-    ensures { result ≤ 2 }
+    ensures status { result ≤ 2 }
+    ensures ran { result ≡ 0 → NamesScript (map S.text words.now) → Ran (FnOnceReturnsAt L.FnOnce load) (map S.text words.now) (I.remaining input) (O.contents output.old) (O.contents output.new) }
 {
-    match answer(alloc, words, load, input, &mut output) {
+    match answer(alloc, words, load, input, output) {
         Ok(()) => 0,
         Err(fault) => fail(&fault, faults),
     }
@@ -63,6 +67,7 @@ where
     I: Read + Drop,
     O: Write,
     requires { L.IsAlwaysCallable load }
+    ensures ran { OnOk result (NamesScript (map S.text words.now) → Ran (FnOnceReturnsAt L.FnOnce load) (map S.text words.now) (I.remaining input) (O.contents output.old) (O.contents output.new)) }
 {
     let name = match read_words(alloc, words) {
         Words::Run(name) => name,
@@ -98,7 +103,9 @@ fn flush<O: Write>(output: &mut O) -> Result<(), Fault>
 }
 
 /// The script that the bytes spell.
-fn read_script(alloc: Global, bytes: &mut [u8]) -> Result<Script, Fault> {
+fn read_script(alloc: Global, bytes: &mut [u8]) -> Result<Script, Fault>
+    ensures { IfOk result (λ script. IsReadAs bytes.old (Ok (steps_of script))) }
+{
     match Script::read(alloc, bytes) {
         Ok(script) => Ok(script),
         Err(ScriptFault::Memory) => Err(Fault::Memory),
