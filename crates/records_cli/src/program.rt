@@ -1,17 +1,23 @@
 //! The program, over the words, the file, the input and the outputs that it is given.
-ghost use Rattle.std.specs.Prelude.{◌≡◌, ◌≤◌, IfErr, OnOk};
+ghost use Rattle.std.specs.Prelude.{◌≡◌, ℕ, ◌≤◌, Ok, IfOk, IfErr, OnOk, map};
 ghost use Rattle.std.specs.Io.KnownBytes.{Appends, Keeps};
 ghost use Rattle.records_cli.specs.Fault.{status_of};
+ghost use Rattle.records_cli.specs.Program.{Ends, Ran, Runs};
+ghost use Rattle.records_cli.specs.Words.{NamesScript};
+ghost use Rattle.std.specs.Fn.{FnOnceReturnsAt};
+ghost use Rattle.sj_records.specs.Record.{IsReadAs};
+ghost use Rattle.sj_records.specs.ScriptView.{steps_of};
 
 use crate::fault::Fault;
 use crate::load::LoadFault;
 use crate::words::{Words, read_words};
 use sj_base::{Counted, DEFAULT_MAX_DEPTH};
-use sj_records::{Form, Script, ScriptFault, run};
+use sj_records::{Form, RunError, Script, ScriptFault, run};
 use std::alloc::{AllocError, Global};
 use std::convert::AsStr;
+use std::io;
 use std::io::{Read, Write};
-use std::marker::Brand;
+use std::marker::{Brand, PhantomData};
 use std::sync::ledger::{Blank, Ledger};
 
 /// Does what the words ask for, and answers the exit status. What is wrong is written to `faults`.
@@ -20,19 +26,20 @@ pub fn program<S, L, I, O, E>(
     words: &[S],
     load: L,
     input: I,
-    mut output: O,
+    output: &mut O,
     faults: E,
 ) -> u8
 where
     S: AsStr,
     L: FnOnce(&str) -> Result<Vec<u8>, LoadFault>,
     I: Read + Drop,
-    O: Write + Drop,
+    O: Write,
     E: Write + Drop,
     requires { L.IsAlwaysCallable load }
-    ensures { result ≤ 2 }
+    ensures status { result ≤ 2 }
+    ensures ran { result ≡ 0 → NamesScript (map S.text words.now) → Ran (FnOnceReturnsAt L.FnOnce load) (map S.text words.now) (I.remaining input) (O.contents output.old) (O.contents output.new) }
 {
-    match answer(alloc, words, load, input, &mut output) {
+    match answer(alloc, words, load, input, output) {
         Ok(()) => 0,
         Err(fault) => fail(&fault, faults),
     }
@@ -60,6 +67,7 @@ where
     I: Read + Drop,
     O: Write,
     requires { L.IsAlwaysCallable load }
+    ensures ran { OnOk result (NamesScript (map S.text words.now) → Ran (FnOnceReturnsAt L.FnOnce load) (map S.text words.now) (I.remaining input) (O.contents output.old) (O.contents output.new)) }
 {
     let name = match read_words(alloc, words) {
         Words::Run(name) => name,
@@ -69,7 +77,7 @@ where
     };
     let mut bytes = load(name)?;
     let script = read_script(alloc, &mut bytes)?;
-    run_script::<I, O, Brand, Brand>(alloc, input, output, &script, Blank::new(4), Blank::new(4))
+    run_script(alloc, input, output, &script)
 }
 
 /// Writes the text, and flushes.
@@ -95,7 +103,9 @@ fn flush<O: Write>(output: &mut O) -> Result<(), Fault>
 }
 
 /// The script that the bytes spell.
-fn read_script(alloc: Global, bytes: &mut [u8]) -> Result<Script, Fault> {
+fn read_script(alloc: Global, bytes: &mut [u8]) -> Result<Script, Fault>
+    ensures { IfOk result (λ script. IsReadAs bytes.old (Ok (steps_of script))) }
+{
     match Script::read(alloc, bytes) {
         Ok(script) => Ok(script),
         Err(ScriptFault::Memory) => Err(Fault::Memory),
@@ -111,21 +121,55 @@ fn refusal(alloc: Global, fault: &ScriptFault) -> Result<Vec<u8>, AllocError> {
     Ok(line)
 }
 
-/// Runs the script on the input, and flushes the output in any case. The blanks count the calls.
-fn run_script<I: Read + Drop, O: Write, L: Ledger, M: Ledger>(
+/// Names the reference to an output.
+trait Named {
+    ghost name: { ℕ };
+}
+
+impl Named for Brand {
+    ghost name = { 0 };
+}
+
+/// The output of a run. What it refers to stays the same, whoever writes to it.
+struct Lent<'a, O, N: Named> {
+    output: &'a mut O,
+    of: PhantomData<N>,
+    ghost same: { output.ghost_name ≡ N.name },
+}
+
+impl<O: Write, N: Named> Write for Lent<'_, O, N> {
+    ghost contents = { λ l. O.contents l.output.now };
+
+    fn write(&mut self, buf: &[u8]) -> io::Result<usize> {
+        self.output.write(buf)
+    }
+
+    fn flush(&mut self) -> io::Result<()> {
+        self.output.flush()
+    }
+}
+
+/// Runs the script on the input, and hands the output back. The blanks count the calls.
+fn run_counted<'a, I: Read + Drop, O: Write, L: Ledger, M: Ledger, N: Named>(
     alloc: Global,
     input: I,
-    output: &mut O,
+    output: &'a mut O,
     script: &Script,
     reads: Blank,
     writes: Blank,
-) -> Result<(), Fault>
+) -> (Result<(), RunError>, &'a mut O)
     requires reads { (reads.name ≡ L.name) × (reads.parts ≡ L.parts) × (reads.parts ≡ 4) }
     requires writes { (writes.name ≡ M.name) × (writes.parts ≡ M.parts) × (writes.parts ≡ 4) }
-    ensures { IfErr result (λ f. status_of f ≡ 1) }
+    requires output { output.ghost_name ≡ N.name }
+    ensures same_reference { result.1.ghost_name ≡ output.entry.ghost_name }
+    ensures stands { Runs (I.remaining input) (O.contents output.old) (O.contents result.1.now) (steps_of script.now) result.0 }
 {
     let mut source = Counted::<I, L>::new(input, reads);
-    let mut sink = Counted::<&mut O, M>::new(output, writes);
+    let lent = Lent::<'a, O, N> {
+        output,
+        of: PhantomData,
+    };
+    let mut sink = Counted::<Lent<'a, O, N>, M>::new(lent, writes);
     let ran = run(
         alloc,
         &mut source,
@@ -135,7 +179,29 @@ fn run_script<I: Read + Drop, O: Write, L: Ledger, M: Ledger>(
         Form::Owned,
     );
     let _ = source.into_inner();
-    let flushed = flush(sink.into_inner());
+    let Lent { output, of: _ } = sink.into_inner();
+    (ran, output)
+}
+
+/// Runs the script on the input, and flushes the output in any case.
+fn run_script<I: Read + Drop, O: Write>(
+    alloc: Global,
+    input: I,
+    output: &mut O,
+    script: &Script,
+) -> Result<(), Fault>
+    ensures status { IfErr result (λ f. status_of f ≡ 1) }
+    ensures stands { Ends (I.remaining input) (O.contents output.old) (O.contents output.new) (steps_of script.now) result }
+{
+    let (ran, output) = run_counted::<I, O, Brand, Brand, Brand>(
+        alloc,
+        input,
+        output,
+        script,
+        Blank::new(4),
+        Blank::new(4),
+    );
+    let flushed = flush(output);
     ran?;
     flushed
 }

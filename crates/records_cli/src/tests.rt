@@ -154,14 +154,20 @@ fn refuses_words(rt: HostRuntime) {
         assert!(rt; faults.starts_with(b"error: "));
         assert!(rt; faults.ends_with(b"\n"));
     }
-    let (_, _, faults) = answered(rt.alloc(), &["records"], unloaded());
-    assert_eq!(rt; faults.as_slice(), NO_SCRIPT.as_bytes());
+    for name in ["records", "records_cli"] {
+        let (_, _, faults) = answered(rt.alloc(), &[name], unloaded());
+        assert_eq!(rt; faults.as_slice(), NO_SCRIPT.as_bytes());
+    }
 }
 
 #[test]
 fn helps(rt: HostRuntime) {
-    for flag in ["--help", "-h"] {
-        let (status, output, faults) = answered(rt.alloc(), &["records", flag], unloaded());
+    for words in [
+        ["records", "--help"],
+        ["records", "-h"],
+        ["out/records_cli", "--help"],
+    ] {
+        let (status, output, faults) = answered(rt.alloc(), &words, unloaded());
         assert_eq!(rt; (status, faults.len()), (0, 0));
         assert_eq!(rt; output.as_slice(), HELP.as_bytes());
     }

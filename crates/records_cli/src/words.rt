@@ -1,6 +1,7 @@
 //! The words of the command line.
-ghost use Rattle.std.specs.Prelude.{◌≡◌, IfOk, true, is_some};
-ghost use Rattle.records_cli.specs.Words.{AlwaysHasScript};
+ghost use Rattle.std.specs.Prelude.{◌≡◌, IfOk, IfErr, List, ℕ, true, is_some, map, option_map};
+ghost use Rattle.clap.specs.Words.{app_of, kind_of};
+ghost use Rattle.records_cli.specs.Words.{AlwaysHasScript, Asks, NamesScript, app, script_of};
 
 use crate::fault::Fault;
 use clap::error::ErrorKind;
@@ -26,7 +27,9 @@ pub enum Words<'a> {
 }
 
 /// Reads the words, of which the first is the program's name.
-pub fn read_words<'a, S: AsStr>(alloc: Global, words: &'a [S]) -> Words<'a> {
+pub fn read_words<'a, S: AsStr>(alloc: Global, words: &'a [S]) -> Words<'a>
+    ensures { Asks (map S.text words.now) result }
+{
     match script_name(alloc, words) {
         Ok(Some(name)) => Words::Run(name),
         Ok(None) => unreachable!(),
@@ -36,26 +39,34 @@ pub fn read_words<'a, S: AsStr>(alloc: Global, words: &'a [S]) -> Words<'a> {
 
 /// The name that the words give for the script.
 fn script_name<'a, S: AsStr>(alloc: Global, words: &'a [S]) -> Result<Option<&'a str>, Error>
-    ensures { IfOk result (λ r. is_some r ≡ true) }
+    ensures some { IfOk result (λ r. is_some r ≡ true) }
+    ensures name { IfOk result (λ r. option_map (λ s. s.now) r ≡ script_of (map S.text words.now)) }
+    ensures taken { IfErr result (λ e. NamesScript (map S.text words.now) → kind_of e ≡ ErrorKind.OutOfMemory) }
 {
     let matches = records(alloc)?.try_get_matches_from(words)?;
     Ok(matches.get_str("SCRIPT"))
 }
 
-/// The program's command.
+/// The program's command. Its texts say `records`, whatever the file is called that was started.
 fn records<'a>(alloc: Global) -> Result<Command<'a>, AllocError>
-    ensures { IfOk result AlwaysHasScript }
+    ensures script { IfOk result AlwaysHasScript }
+    ensures app { IfOk result (λ command. app_of command ≡ app) }
 {
     let script = Arg::new(alloc, "SCRIPT")
         .required(true)
         .action(ArgAction::Set)
         .help("The file with the script, an array of commands");
-    let command = Command::new(alloc, "records").about(ABOUT).arg(script)?;
+    let command = Command::new(alloc, "records")
+        .bin_name("records")?
+        .about(ABOUT)
+        .arg(script)?;
     Ok(command)
 }
 
 /// What a parse that gives no matches asks for.
-fn shown<'a>(alloc: Global, error: &Error) -> Words<'a> {
+fn shown<'a>(alloc: Global, error: &Error) -> Words<'a>
+    ensures { (words : List (List ℕ)) → (NamesScript words → kind_of error.now ≡ ErrorKind.OutOfMemory) → Asks words result }
+{
     if error.kind() == ErrorKind::OutOfMemory {
         return Words::Memory;
     }

@@ -11,7 +11,7 @@ mod Quotes
 mod Decimals
 mod Compact
 mod Pretty
-mod Trees
+pub mod Trees
 mod Utf8
 mod OneLine
 pub mod Spelled

@@ -43,12 +43,12 @@ IsUtf8-rows [] h = IsUtf8-nil
 IsUtf8-rows (r ∷ rows) h = IsUtf8-append (encode_utf8 (row_character r)) (flat_map (λ q. encode_utf8 (row_character q)) rows) (IsUtf8-encode (row_character r) (IsScalar-row r h.0)) (IsUtf8-rows rows h.1)
 
 -- what the body of a string means is UTF-8
-IsUtf8-from_Means : (body text : List ℕ) → Means body text → IsUtf8 text
+pub IsUtf8-from_Means : (body text : List ℕ) → Means body text → IsUtf8 text
 IsUtf8-from_Means body text m = subst (λ (ys : List ℕ). IsUtf8 ys) (sym m.meant) (IsUtf8-rows m.rows m.are_rows)
 
 -- what is spelled is a tree
 mutual
-  IsTree-from_SpellsValue : (t : Tree) (bs : List ℕ) → SpellsValue t bs → IsTree t
+  pub IsTree-from_SpellsValue : (t : Tree) (bs : List ℕ) → SpellsValue t bs → IsTree t
   IsTree-from_SpellsValue null bs h = tt
   IsTree-from_SpellsValue (boolean b) bs h = tt
   IsTree-from_SpellsValue (integer n) bs h = h.0

@@ -1,5 +1,5 @@
 //! Decimal literals: numbers with a fraction or an exponent, kept as their text.
-ghost use Rattle.std.specs.Prelude.{◌≡◌, ◌↔◌, IsTrue, IsSome, IfSome, IfOk, string_bytes};
+ghost use Rattle.std.specs.Prelude.{◌≡◌, ◌↔◌, IsSome, IfSome, IfOk, string_bytes};
 ghost use Rattle.sj_base.specs.Number.{IsDecimal};
 
 use crate::part::is_decimal;

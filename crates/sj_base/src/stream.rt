@@ -2,7 +2,7 @@
 ghost use Rattle.std.specs.Prelude.{◌≡◌, ℕ, ◌+◌, ◌<◌, List, Option, IfOk, IfErr};
 ghost use Rattle.std.specs.Io.{ReadsAtMost, WritesAtMost};
 ghost use Rattle.std.specs.Io.KnownBytes.{ReadConsumes, WriteAppends};
-ghost use Rattle.sj_base.specs.Calls.{Calls, no_calls, one_interrupted, one_failed, CountsOk, CountsErr};
+ghost use Rattle.sj_base.specs.Calls.{Calls, no_calls, CountsOk, CountsErr};
 
 use std::io;
 use std::io::{ErrorKind, Read, Write};

@@ -10,7 +10,6 @@ pub mod Nesting
 pub mod Sound
 pub mod Complete
 pub mod Readings
-pub mod Trees
 pub mod DocumentTrees
 pub mod Kept
 pub mod ReadSteps
@@ -22,6 +21,6 @@ pub mod Written
 pub mod Total
 pub mod Feeding
 pub mod RecordText
-pub mod Misses
+pub mod Counts
 pub mod Running
 pub mod ScriptSteps

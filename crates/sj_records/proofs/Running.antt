@@ -1,8 +1,9 @@
 -- A run so far: what was read was cut into lines, each ended one was answered, and the rest is kept.
-use Rattle.std.proofs.Common.{◌≡◌, ℕ, ◌<◌, List, [], ◌∷◌, ◌++◌, length, Option, Some, None, Result, Ok, Err, refl, sym, ap, subst, ◌∙◌, append_assoc, inl, inr, arith}
+use Rattle.std.proofs.Common.{◌≡◌, ℕ, ◌<◌, List, [], ◌∷◌, ◌++◌, length, Option, Result, Ok, Err, refl, sym, ap, subst, ◌∙◌, append_assoc, inl, inr, arith}
 use Rattle.std.specs.Prelude.{◌⊎◌, OnOk, IsErrOf, IfErr}
 use Rattle.std.proofs.lemmas.List.{append-nil, take_all}
 use Rattle.std.specs.Io.KnownBytes.{Consumes, Keeps}
+use Rattle.std.proofs.KnownBytes.{Consumes-nil, Consumes-trans, Consumes-kept}
 use Rattle.sj_records.specs.declared.run_error.RunError.{RunError}
 use Rattle.sj_records.specs.declared.run_error.RunError.TheVariants.{Memory, Write, Read, TooManyReads}
 use Rattle.sj_records.specs.declared.task.Task.{Task}
@@ -12,19 +13,13 @@ use Rattle.sj_records.specs.Run.{Transfers, Leaves}
 use Rattle.sj_records.specs.ScriptView.{steps_of}
 use Rattle.sj_records.specs.Progress.{HasNoLineFeed, Wrote, WroteSome, WrotePrefix}
 use Rattle.sj_records.proofs.Cut.{ended-append, unended-append, unended-HasNoLineFeed}
-use Rattle.sj_records.proofs.Written.{Consumes-nothing, Consumes-then, Wrote-nothing, Wrote-then, WroteSome-then, WrotePrefix-then, AreRecords-append}
+use Rattle.sj_records.proofs.Written.{Wrote-nothing, Wrote-then, WroteSome-then, WrotePrefix-then, AreRecords-append}
 use Rattle.sj_records.proofs.Total.{AreRecords-exist}
 
 -- a part that is not empty is a line
 pub if_any-some : (line : List ℕ) → 0 < length line → if_any line ≡ line ∷ []
 if_any-some [] some = absurd (omega arith)
 if_any-some (b ∷ line) some = refl
-
-Consumes-keeps : (a b c : Option (List ℕ)) (x : List ℕ) → Consumes a b x → Keeps b c → Consumes a c x
-Consumes-keeps None b c x h k = tt
-Consumes-keeps (Some xs) None c x h k = absurd h
-Consumes-keeps (Some xs) (Some ys) None x h k = absurd k
-Consumes-keeps (Some xs) (Some ys) (Some zs) x h k = h ∙ ap (λ l. x ++ l) (sym k)
 
 pub record Running (task : Task) (unread_old unread held_old held : Option (List ℕ)) (line : List ℕ) : Type 0 where
   pub input : List ℕ
@@ -34,14 +29,14 @@ pub record Running (task : Task) (unread_old unread held_old held : Option (List
 
 module _ (task : Task) where
   pub Running-begin : (r w : Option (List ℕ)) (line : List ℕ) → line ≡ [] → Running task r r w w line
-  Running-begin r w line none = record { input = []; consumed = Consumes-nothing r; wrote = Wrote-nothing task w; kept = none }
+  Running-begin r w line none = record { input = []; consumed = Consumes-nil r; wrote = Wrote-nothing task w; kept = none }
 
   pub Running-clean : (r0 r1 w0 w1 : Option (List ℕ)) (line : List ℕ) → Running task r0 r1 w0 w1 line → HasNoLineFeed line
   Running-clean r0 r1 w0 w1 line h = rw h.kept (unended-HasNoLineFeed h.input)
 
   -- an interrupted read
   pub Running-idle : (r0 r1 r2 w0 w1 : Option (List ℕ)) (line : List ℕ) → Running task r0 r1 w0 w1 line → Keeps r1 r2 → Running task r0 r2 w0 w1 line
-  Running-idle r0 r1 r2 w0 w1 line h keeps = record { input = h.input; consumed = Consumes-keeps r0 r1 r2 h.input h.consumed keeps; wrote = h.wrote; kept = h.kept }
+  Running-idle r0 r1 r2 w0 w1 line h keeps = record { input = h.input; consumed = Consumes-kept r0 r1 r2 h.input h.consumed keeps; wrote = h.wrote; kept = h.kept }
 
   -- the ended lines of what was read now
   more : (input line piece : List ℕ) → line ≡ unended input → ended (input ++ piece) ≡ ended input ++ ended (line ++ piece)
@@ -51,7 +46,7 @@ module _ (task : Task) where
   Running-more r0 r1 r2 w0 w1 w2 line piece new h read wrote kept =
       record {
         input = h.input ++ piece;
-        consumed = Consumes-then r0 r1 r2 h.input piece h.consumed read;
+        consumed = Consumes-trans r0 r1 r2 h.input piece h.consumed read;
         wrote = rw (more h.input line piece h.kept) (Wrote-then task w0 w1 w2 (ended h.input) (ended (line ++ piece)) h.wrote wrote);
         kept = kept ∙ ap (λ l. unended (l ++ piece)) h.kept ∙ sym (unended-append h.input piece);
       }
@@ -63,14 +58,14 @@ module _ (task : Task) where
 
   -- a read failed
   pub Running-failed : (r0 r1 r2 w0 w1 : Option (List ℕ)) (line : List ℕ) → Running task r0 r1 w0 w1 line → Keeps r1 r2 → Stands r0 r2 w0 w1 (Err Read)
-  Running-failed r0 r1 r2 w0 w1 line h keeps = (h.input, h.wrote.0, Consumes-keeps r0 r1 r2 h.input h.consumed keeps, h.wrote.1, h.wrote.2)
+  Running-failed r0 r1 r2 w0 w1 line h keeps = (h.input, h.wrote.0, Consumes-kept r0 r1 r2 h.input h.consumed keeps, h.wrote.1, h.wrote.2)
 
   pub Running-too_many : (r0 r1 w0 w1 : Option (List ℕ)) (line : List ℕ) → Running task r0 r1 w0 w1 line → Stands r0 r1 w0 w1 (Err TooManyReads)
   Running-too_many r0 r1 w0 w1 line h = (h.input, h.wrote.0, h.consumed, h.wrote.1, h.wrote.2)
 
   -- no room at the start
   pub Stands-nothing : (r w : Option (List ℕ)) → Stands r r w w (Err Memory)
-  Stands-nothing r w = let none = Wrote-nothing task w in ([], none.0, Consumes-nothing r, none.1, (0, none.2))
+  Stands-nothing r w = let none = Wrote-nothing task w in ([], none.0, Consumes-nil r, none.1, (0, none.2))
 
   some_stand : (r0 r2 w0 w2 : Option (List ℕ)) (input : List ℕ) → Consumes r0 r2 input → WroteSome task w0 w2 (ended input) → Stands r0 r2 w0 w2 (Err Memory)
   some_stand r0 r2 w0 w2 input consumed h = (input, h.1.0, consumed, h.1.1, (h.0, h.1.2))
@@ -88,12 +83,12 @@ module _ (task : Task) where
 
   pub Running-fed_some : (r0 r1 r2 w0 w1 w2 : Option (List ℕ)) (line piece : List ℕ) → Running task r0 r1 w0 w1 line → Consumes r1 r2 piece → WroteSome task w1 w2 (ended (line ++ piece)) → Stands r0 r2 w0 w2 (Err Memory)
   Running-fed_some r0 r1 r2 w0 w1 w2 line piece h read wrote =
-      some_stand r0 r2 w0 w2 (h.input ++ piece) (Consumes-then r0 r1 r2 h.input piece h.consumed read)
+      some_stand r0 r2 w0 w2 (h.input ++ piece) (Consumes-trans r0 r1 r2 h.input piece h.consumed read)
       (rw (more h.input line piece h.kept) (WroteSome-then task w0 w1 w2 (ended h.input) (ended (line ++ piece)) h.wrote wrote))
 
   pub Running-fed_prefix : (r0 r1 r2 w0 w1 w2 : Option (List ℕ)) (line piece : List ℕ) → Running task r0 r1 w0 w1 line → Consumes r1 r2 piece → WrotePrefix task w1 w2 (ended (line ++ piece)) → Stands r0 r2 w0 w2 (Err Write)
   Running-fed_prefix r0 r1 r2 w0 w1 w2 line piece h read wrote =
-      prefix_stands r0 r2 w0 w2 (h.input ++ piece) (Consumes-then r0 r1 r2 h.input piece h.consumed read)
+      prefix_stands r0 r2 w0 w2 (h.input ++ piece) (Consumes-trans r0 r1 r2 h.input piece h.consumed read)
       (rw (more h.input line piece h.kept) (WrotePrefix-then task w0 w1 w2 (ended h.input) (ended (line ++ piece)) h.wrote wrote))
 
   -- a piece could not be answered whole
@@ -110,14 +105,14 @@ module _ (task : Task) where
       → Stands r0 r2 w0 w2 result
   Running-ended r0 r1 r2 w0 w1 w2 line (Ok done) h read wrote lacks fails only =
       let all = Wrote-then task w0 w1 w2 (ended h.input) (if_any line) h.wrote wrote in
-      let consumed = rw append-nil at (Consumes-then r0 r1 r2 h.input [] h.consumed read) in
+      let consumed = rw append-nil at (Consumes-trans r0 r1 r2 h.input [] h.consumed read) in
       (h.input, all.0, consumed, all.1, subst (λ (l : List ℕ). AreRecords (ended h.input ++ if_any l) (steps_of task.script.now) task.depth task.form all.0) h.kept all.2)
   Running-ended r0 r1 r2 w0 w1 w2 line (Err Memory) h read wrote lacks fails only =
-      let consumed = rw append-nil at (Consumes-then r0 r1 r2 h.input [] h.consumed read) in
+      let consumed = rw append-nil at (Consumes-trans r0 r1 r2 h.input [] h.consumed read) in
       let all = Wrote-then task w0 w1 w2 (ended h.input) [] h.wrote (lacks refl) in
       some_stand r0 r2 w0 w2 h.input consumed (length (ended h.input), rw (take_all (length (ended h.input)) (ended h.input) (omega arith)) (rw append-nil at all))
   Running-ended r0 r1 r2 w0 w1 w2 line (Err Write) h read wrote lacks fails only =
-      let consumed = rw append-nil at (Consumes-then r0 r1 r2 h.input [] h.consumed read) in
+      let consumed = rw append-nil at (Consumes-trans r0 r1 r2 h.input [] h.consumed read) in
       let all = WrotePrefix-then task w0 w1 w2 (ended h.input) (if_any line) h.wrote (fails refl) in
       (h.input, all.0, consumed, all.2, (all.1, subst (λ (l : List ℕ). AreRecords (ended h.input ++ if_any l) (steps_of task.script.now) task.depth task.form (all.0 ++ all.1)) h.kept all.3))
   Running-ended r0 r1 r2 w0 w1 w2 line (Err Read) h read wrote lacks fails only = elim only [ inl e ↦ absurd cc | inr e ↦ absurd cc ]

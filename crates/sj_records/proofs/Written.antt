@@ -1,36 +1,14 @@
 -- Records that are written one after the other.
-use Rattle.std.proofs.Common.{◌≡◌, ℕ, ◌+◌, List, [], ◌∷◌, ◌++◌, take, length, Option, Some, None, refl, sym, ap, ◌∙◌, append_assoc}
+use Rattle.std.proofs.Common.{◌≡◌, ℕ, ◌+◌, List, [], ◌∷◌, ◌++◌, take, length, Option, refl, ap, ◌∙◌, append_assoc}
 use Rattle.std.proofs.Math.Nat.{zero-add, suc-add}
-use Rattle.std.proofs.lemmas.List.{append-nil, take_at}
-use Rattle.std.specs.Io.KnownBytes.{Appends, Consumes}
+use Rattle.std.proofs.lemmas.List.{take_at}
+use Rattle.std.proofs.KnownBytes.{Appends-nil, Appends-trans}
 use Rattle.sj_records.specs.declared.form.Form.{Form}
 use Rattle.sj_records.specs.Command.{Step}
 use Rattle.sj_records.specs.Record.{IsRecord, AreRecords}
 use Rattle.sj_records.specs.declared.task.Task.{Task}
 use Rattle.sj_records.specs.ScriptView.{steps_of}
 use Rattle.sj_records.specs.Progress.{Wrote, WroteSome, WrotePrefix}
-
--- ---- bytes that come and go
-
-pub Appends-nothing : (a : Option (List ℕ)) → Appends a a []
-Appends-nothing None = tt
-Appends-nothing (Some xs) = sym (append-nil xs)
-
-pub Appends-then : (a b c : Option (List ℕ)) (x y : List ℕ) → Appends a b x → Appends b c y → Appends a c (x ++ y)
-Appends-then None b c x y h k = tt
-Appends-then (Some xs) None c x y h k = absurd h
-Appends-then (Some xs) (Some ys) None x y h k = absurd k
-Appends-then (Some xs) (Some ys) (Some zs) x y h k = k ∙ ap (λ l. l ++ y) h ∙ append_assoc xs x y
-
-pub Consumes-nothing : (a : Option (List ℕ)) → Consumes a a []
-Consumes-nothing None = tt
-Consumes-nothing (Some xs) = refl
-
-pub Consumes-then : (a b c : Option (List ℕ)) (x y : List ℕ) → Consumes a b x → Consumes b c y → Consumes a c (x ++ y)
-Consumes-then None b c x y h k = tt
-Consumes-then (Some xs) None c x y h k = absurd h
-Consumes-then (Some xs) (Some ys) None x y h k = absurd k
-Consumes-then (Some xs) (Some ys) (Some zs) x y h k = h ∙ ap (λ l. x ++ l) k ∙ sym (append_assoc x y zs)
 
 -- ---- records
 
@@ -49,10 +27,10 @@ AreRecords-one script limit form line bytes h = (bytes, [], refl, h, refl)
 
 module _ (task : Task) where
   pub Wrote-nothing : (a : Option (List ℕ)) → Wrote task a a []
-  Wrote-nothing a = ([], Appends-nothing a, refl)
+  Wrote-nothing a = ([], Appends-nil a, refl)
 
   pub Wrote-then : (a b c : Option (List ℕ)) (ls ms : List (List ℕ)) → Wrote task a b ls → Wrote task b c ms → Wrote task a c (ls ++ ms)
-  Wrote-then a b c ls ms h k = (h.0 ++ k.0, Appends-then a b c h.0 k.0 h.1 k.1, AreRecords-append (steps_of task.script.now) task.depth task.form ls ms h.0 k.0 h.2 k.2)
+  Wrote-then a b c ls ms h k = (h.0 ++ k.0, Appends-trans a b c h.0 k.0 h.1 k.1, AreRecords-append (steps_of task.script.now) task.depth task.form ls ms h.0 k.0 h.2 k.2)
 
   -- the first of more lines
   pub WroteSome-front : (a b : Option (List ℕ)) (ls ms : List (List ℕ)) → Wrote task a b ls → WroteSome task a b (ls ++ ms)
@@ -70,4 +48,4 @@ module _ (task : Task) where
 
   pub WrotePrefix-then : (a b c : Option (List ℕ)) (ls ms : List (List ℕ)) → Wrote task a b ls → WrotePrefix task b c ms → WrotePrefix task a c (ls ++ ms)
   WrotePrefix-then a b c ls ms h k =
-      (h.0 ++ k.0, k.1, Appends-then a b c h.0 k.0 h.1 k.2, rw (append_assoc h.0 k.0 k.1) (AreRecords-append (steps_of task.script.now) task.depth task.form ls ms h.0 (k.0 ++ k.1) h.2 k.3))
+      (h.0 ++ k.0, k.1, Appends-trans a b c h.0 k.0 h.1 k.2, rw (append_assoc h.0 k.0 k.1) (AreRecords-append (steps_of task.script.now) task.depth task.form ls ms h.0 (k.0 ++ k.1) h.2 k.3))

@@ -1,7 +1,7 @@
 -- What a run has read and written when it ends, and which of its calls failed.
 use Rattle.std.specs.Prelude.{◌≡◌, ℕ, ◌+◌, List, ◌++◌, take, Option, Result, Ok, Err}
 use Rattle.std.specs.Io.KnownBytes.{Consumes, Appends}
-use Rattle.sj_base.specs.Calls.{Calls}
+use Rattle.sj_base.specs.Calls.{Calls, missed}
 use Rattle.sj_records.specs.declared.form.Form.{Form}
 use Rattle.sj_records.specs.declared.run_error.RunError.{RunError}
 use Rattle.sj_records.specs.declared.run_error.RunError.TheVariants.{Memory, Write, Read, TooManyReads}
@@ -57,10 +57,6 @@ ReadsFor bound (Err Read) old new = FailsOnce old new
 ReadsFor bound (Err TooManyReads) old new = GoesOn old new × (new.made ≡ old.made + bound)
 ReadsFor bound (Err Memory) old new = new.failed ≡ old.failed
 ReadsFor bound (Err Write) old new = new.failed ≡ old.failed
-
--- writes that failed, were interrupted or took nothing
-abbrev pub missed : Calls → ℕ
-missed c = c.failed + c.interrupted + c.nothing
 
 -- The writes, by the answer: one missed where the answer is `Write`, and else none.
 abbrev pub WritesFor : Result Unit RunError → Calls → Calls → Type 0

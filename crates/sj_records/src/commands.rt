@@ -1,5 +1,5 @@
 //! From a document to the commands of a script.
-ghost use Rattle.std.specs.Prelude.{◌≡◌, length};
+ghost use Rattle.std.specs.Prelude.{◌≡◌};
 ghost use Rattle.sj_records.specs.declared.commands.CommandStop.TheVariants.{Memory};
 ghost use Rattle.sj_records.specs.Command.{part_of, parts_of, path_of, command_of, commands_from, commands_of, named};
 ghost use Rattle.sj_base.specs.Tree.{list};

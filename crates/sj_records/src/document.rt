@@ -1,7 +1,7 @@
 //! A document that owns its texts.
 ghost use Rattle.std.specs.Prelude.{◌≡◌, ◌++◌, OnOk, OnErr, option_map, string_bytes};
 ghost use Rattle.sj_base.specs.Tree.{list, object};
-ghost use Rattle.sj_base.specs.Path.{key, place, member_at, item_at, child, at};
+ghost use Rattle.sj_base.specs.Path.{key, place, member_at, child, at};
 ghost use Rattle.sj_base.specs.Text.{text};
 ghost use Rattle.sj_records.specs.Step.{reply_of};
 ghost use Rattle.sj_records.specs.Separators.{comma};

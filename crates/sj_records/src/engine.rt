@@ -1,6 +1,6 @@
 //! The loop over a stream: cuts its lines, runs the script on each, and writes their records.
-ghost use Rattle.std.specs.Prelude.{◌≡◌, ◌≢◌, ℕ, List, ◌+◌, ◌<◌, ◌≤◌, ◌^◌, [], ◌∷◌, ◌++◌, length, vec_len, IfOk, OnOk, OnErr, IfErr, MatchOption, IsErrOf, ◌⊎◌};
-ghost use Rattle.std.specs.Io.KnownBytes.{Appends, Consumes, IsAtEnd};
+ghost use Rattle.std.specs.Prelude.{◌≡◌, ℕ, List, ◌+◌, ◌≤◌, ◌^◌, [], ◌∷◌, ◌++◌, vec_len, IfOk, OnOk, OnErr, IfErr, MatchOption, IsErrOf, ◌⊎◌};
+ghost use Rattle.std.specs.Io.KnownBytes.{Appends, IsAtEnd};
 ghost use Rattle.sj_records.specs.Lines.{ended, unended};
 ghost use Rattle.sj_records.specs.Lines.{if_any};
 ghost use Rattle.sj_records.specs.Run.{Transfers, Leaves, ReadsFor, WritesFor};
@@ -11,7 +11,7 @@ use crate::form::Form;
 use crate::run_error::RunError;
 use crate::script::Script;
 use crate::task::{Task, make_record};
-use sj_base::{Sink, Source};
+use sj_base::{Output, Sink, Source, WriteFault};
 use std::alloc::{AllocError, Global};
 use std::io::ErrorKind;
 
@@ -33,14 +33,10 @@ fn write_all<W: Sink>(writer: &mut W, bytes: &[u8]) -> Result<(), RunError>
     ensures only { IfErr result (λ e. e ≡ RunError.Write) }
     ensures writes { WritesFor result (W.calls writer.old) (W.calls writer.new) }
 {
-    let mut rest = bytes;
-    while !rest.is_empty() {
-        match writer.write(rest) {
-            Ok(0) | Err(_) => return Err(RunError::Write),
-            Ok(taken) => rest = &rest[taken..],
-        }
+    match writer.put(bytes) {
+        Ok(()) => Ok(()),
+        Err(WriteFault) => Err(RunError::Write),
     }
-    Ok(())
 }
 
 /// What is kept from one piece of the stream to the next: room, and the line that no line feed has ended yet.

@@ -1,12 +1,11 @@
 //! Reading a document byte by byte. A backslash and a decimal literal are refused.
-ghost use Rattle.std.specs.Prelude.{◌≡◌, ℕ, ◌∷◌, [], ◌<◌, ◌≤◌, ◌^◌, ◌↔◌, Bool, false, true, List, length, Some, None, Option, Result, map, IsTrue, IfOk, IfSome, IfErr, OnErr, MatchOption, SomeIff, option_map, string_bytes, pos, neg_ℤ};
-ghost use Rattle.std.specs.Str.Parse.{digits_value};
+ghost use Rattle.std.specs.Prelude.{◌≡◌, ◌∷◌, [], ◌≤◌, ◌^◌, ◌↔◌, false, map, IsTrue, IfOk, IfErr, MatchOption, SomeIff, option_map, string_bytes, pos, neg_ℤ};
 ghost use Rattle.sj_base.specs.Tree.{Tree, integer};
 ghost use Rattle.sj_base.specs.Spelling.{AreSpaces};
 ghost use Rattle.sj_base.specs.Keep.{keep};
 ghost use Rattle.sj_base.specs.Scalar.{static_tree};
-ghost use Rattle.sj_records.specs.Reading.{mapped, padded_at, scalar_at, value_at, sequence_at, pair_at, is_space, after_spaces, body_at, string_at, digits, after_digits, is_whole, in_range, whole_at, integer_at, line_at, after_word, word_at};
-ghost use Rattle.sj_records.specs.View.{tree_of, items_view, members_view};
+ghost use Rattle.sj_records.specs.Reading.{mapped, padded_at, scalar_at, value_at, sequence_at, pair_at, is_space, after_spaces, body_at, string_at, digits, after_digits, is_whole, whole_at, integer_at, after_word, word_at};
+ghost use Rattle.sj_records.specs.View.{tree_of, members_view};
 ghost use Rattle.sj_records.specs.Building.{kept_value, kept_items, kept_members, kept_pair, after_byte};
 ghost use Rattle.sj_records.specs.Record.{PlainDocument, IsNoPlainDocument};
 ghost use Rattle.sj_records.specs.Stop.{Gives, IfRefused};

@@ -1,5 +1,5 @@
 //! Scripts.
-ghost use Rattle.std.specs.Prelude.{◌≡◌, ◌<◌, ◌++◌, Ok, length, slice_get, Some, map, IfOk, IfErr, OnOk, OnErr, IsTrue, ◌↔◌};
+ghost use Rattle.std.specs.Prelude.{◌≡◌, ◌<◌, ◌++◌, Ok, length, slice_get, Some, IfOk, IfErr, OnOk, OnErr, IsTrue, ◌↔◌};
 ghost use Rattle.sj_records.specs.declared.script.ScriptFault.TheVariants.{Memory};
 ghost use Rattle.sj_records.specs.Record.{IsReadAs};
 ghost use Rattle.sj_records.specs.Refused.{IsRefusedAs};

@@ -1,12 +1,10 @@
 //! The record of one line.
-ghost use Rattle.std.specs.Prelude.{◌≡◌, ℕ, List, ◌∷◌, [], ◌++◌, OnOk, map};
+ghost use Rattle.std.specs.Prelude.{◌≡◌, ℕ, List, ◌∷◌, [], ◌++◌, OnOk};
 ghost use Rattle.sj_base.specs.Tree.{list};
-ghost use Rattle.sj_base.specs.Text.{text, items_text};
-ghost use Rattle.sj_records.specs.Step.{State, replies};
+ghost use Rattle.sj_base.specs.Text.{text};
 ghost use Rattle.sj_records.specs.Record.{IsFault, fault_record, record_of, character_of};
 ghost use Rattle.sj_records.specs.View.{tree_of};
-ghost use Rattle.sj_records.specs.ScriptView.{commands_view};
-ghost use Rattle.sj_records.specs.Progress.{Answers, first_state, replies_to};
+ghost use Rattle.sj_records.specs.Progress.{Answers, replies_to};
 
 use crate::document::{Document, put_comma, put_reply};
 use crate::form::Form;

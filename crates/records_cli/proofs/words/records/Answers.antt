@@ -4,8 +4,8 @@ use Rattle.clap.specs.Words.{found_of, first_value}
 use Rattle.records_cli.proofs.words.records.Goals as goal
 
 -- the command has one argument, which is required and is none of clap's own
-pub returns : goal.returns
-returns c =
+pub returns-clause-script : goal.returns-clause-script
+returns-clause-script c =
     let id : c.help-script.result.id.now ≡ codes "SCRIPT" = search rules in
     let first : (t : List ℕ) → c.help-script.result.id.now ≡ t → slice_index t 0 ≡ 83 = λ t e. rw (← e, id) refl in
     λ matches parsed.

@@ -1,6 +1,6 @@
 use Rattle.std.proofs.Common.{◌≡◌, ◌++◌, length}
 use Rattle.sj_records.proofs.Feeding.{Feeding}
-use Rattle.sj_records.specs.Run.{missed}
+use Rattle.sj_base.specs.Calls.{missed}
 use Rattle.sj_records.proofs.engine.feed.Given as goal
 
 abbrev pub invariant-loop-end : goal.invariant-loop-end

@@ -6,7 +6,7 @@ use Rattle.std.specs.declared.io.ErrorKind.TheVariants.{Interrupted}
 use Rattle.std.specs.Io.KnownBytes.{Consumes}
 use Rattle.std.proofs.lemmas.List.{take_at}
 use Rattle.std.proofs.lemmas.Result.{err_from_is_err_and}
-use Rattle.sj_records.proofs.Misses.{GoesOn-some, GoesOn-interrupted, GoesOn-then}
+use Rattle.sj_records.proofs.Counts.{GoesOn-some, GoesOn-interrupted, GoesOn-then}
 use Rattle.sj_records.proofs.Running.{Running-clean, Running-idle, Running-more, Running-fed, Running-ended}
 use Rattle.sj_records.proofs.engine.run_within.Goals as goal
 use Rattle.sj_records.proofs.engine.run_within.Goals.{in-Ok+in_ok-feed-in-Ok, in-Err}

@@ -1,5 +1,6 @@
 use Rattle.std.proofs.Common.{◌≡◌, ◌+◌, ◌<◌, vec_len}
-use Rattle.sj_records.specs.Run.{missed, GoesOn}
+use Rattle.sj_base.specs.Calls.{missed}
+use Rattle.sj_records.specs.Run.{GoesOn}
 use Rattle.sj_records.proofs.Running.{Running}
 use Rattle.sj_records.proofs.engine.run_within.Given as goal
 

@@ -1,0 +1,49 @@
+-- What the program has written when it ends.
+use Rattle.std.specs.Prelude.{◌≡◌, ℕ, List, Option, Some, Result, Ok, Err, OnOk, Vec}
+use Rattle.std.specs.Io.KnownBytes.{IsAtEnd}
+use Rattle.std.specs.declared.alloc.Global.{Global}
+use Rattle.sj_records.specs.Command.{Step}
+use Rattle.sj_records.specs.Record.{IsReadAs}
+use Rattle.sj_records.specs.Run.{Transfers, Leaves, WritesAll, WritesSome, WritesEnded, WritesPrefix}
+use Rattle.sj_records.specs.declared.form.Form.TheVariants.{Owned}
+use Rattle.sj_records.specs.declared.run_error.RunError.{RunError}
+use Rattle.records_cli.specs.Words.{script_of}
+use Rattle.records_cli.specs.declared.load.LoadFault.{LoadFault}
+use Rattle.records_cli.specs.declared.fault.Fault.{Fault}
+use Rattle.records_cli.specs.declared.fault.Fault.TheVariants.{Memory, Read, Write, Words, Unreadable, Script}
+
+-- the levels of a document
+abbrev pub depth : ℕ
+depth = 1024
+
+-- The input is read, to its end where it answers `Ok`, and P holds of the bytes that were read and of those that were written.
+abbrev pub Reads : Option (List ℕ) → Option (List ℕ) → Option (List ℕ) → {E : Type 0} → Result Unit E → (List ℕ → List ℕ → Type 0) → Type 0
+Reads unread held_old held_new result P =
+    (left : Option (List ℕ)) × Transfers unread left held_old held_new P × OnOk result (IsAtEnd left)
+
+-- A run over that input and output.
+abbrev pub Runs : Option (List ℕ) → Option (List ℕ) → Option (List ℕ) → List Step → Result Unit RunError → Type 0
+Runs unread held_old held_new script result = Reads unread held_old held_new result (Leaves result script depth Owned)
+
+-- What stands written where the program ends so. A flush that fails is a failed write.
+abbrev pub Stands : Result Unit Fault → List Step → List ℕ → List ℕ → Type 0
+Stands (Ok done) script input output = WritesAll script depth Owned input output
+Stands (Err Memory) script input output = WritesSome script depth Owned input output
+Stands (Err Read) script input output = WritesEnded script depth Owned input output
+Stands (Err Write) script input output = WritesPrefix script depth Owned input output
+Stands (Err (Words text)) script input output = ⊥
+Stands (Err Unreadable) script input output = ⊥
+Stands (Err (Script line)) script input output = ⊥
+
+abbrev pub Ends : Option (List ℕ) → Option (List ℕ) → Option (List ℕ) → List Step → Result Unit Fault → Type 0
+Ends unread held_old held_new script result = Reads unread held_old held_new result (Stands result script)
+
+-- The script that the words name was loaded, and ran. `loads` says what a load of a name may give.
+pub record Ran (loads : List ℕ → Result (Vec ℕ Global) LoadFault → Type 0) (words : List (List ℕ)) (unread held_old held_new : Option (List ℕ)) : Type 0 where
+  pub name : List ℕ
+  pub is_named : script_of words ≡ Some name
+  pub bytes : Vec ℕ Global
+  pub is_loaded : loads name (Ok bytes)
+  pub script : List Step
+  pub is_read : IsReadAs bytes.items (Ok script)
+  pub ends : Ends unread held_old held_new script (Ok tt)
