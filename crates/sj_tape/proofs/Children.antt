@@ -1,7 +1,8 @@
 -- What the counts find in front, and behind it.
-use Rattle.std.proofs.Common.{◌≡◌, ℕ, zero, suc, ◌+◌, ◌-◌, ◌<◌, cond, List, [], ◌∷◌, ◌++◌, Some, None, bytes_eq, length, refl, sym, ◌∙◌, ap, arith, append-nil}
+use Rattle.std.proofs.Common.{◌≡◌, ℕ, zero, suc, ◌+◌, ◌-◌, ◌<◌, Bool, true, false, cond, List, [], ◌∷◌, ◌++◌, Option, Some, None, option_map, drop, bytes_eq, length, refl, sym, ◌∙◌, ap, arith, append-nil}
 use Rattle.std.proofs.lemmas.List.{take_at, drop_at}
 use Rattle.sj_base.specs.Tree.{Tree}
+use Rattle.sj_tape.specs.ChildLaws.{ItemsByPlace, MembersByKey}
 use Rattle.sj_tape.specs.Children.{key_text, member_nodes, item_nodes, item_runs, member_runs}
 use Rattle.sj_tape.specs.Listing.{Entry, listing}
 use Rattle.sj_tape.specs.Nodes.{node_count, entries}
@@ -81,3 +82,19 @@ item_runs-none len ns e = ap (λ (l : ℕ). item_runs l ns) e
 
 pub member_runs-none : (len : ℕ) (ns : List Node) → len ≡ 0 → member_runs len ns ≡ []
 member_runs-none len ns e = ap (λ (l : ℕ). member_runs l ns) e
+
+pub items_by_place : ItemsByPlace
+items_by_place zero ns i = refl
+items_by_place (suc len) [] i = refl
+items_by_place (suc len) (n ∷ ns) zero = refl
+items_by_place (suc len) (n ∷ ns) (suc i) = items_by_place len (drop (node_count n) ns) i
+
+found_first : (b : Bool) (x : List ℕ × List Node) (v : Option (List ℕ × List Node)) (o : Option (List Node)) → o ≡ option_map (λ p. p.1) v → cond b (Some x.1) o ≡ option_map (λ p. p.1) (cond b (Some x) v)
+found_first true x v o e = refl
+found_first false x v o e = e
+
+pub members_by_key : MembersByKey
+members_by_key zero ns k = refl
+members_by_key (suc len) [] k = refl
+members_by_key (suc len) (m ∷ []) k = refl
+members_by_key (suc len) (m ∷ n ∷ ns) k = found_first _ _ _ _ (members_by_key len (drop (node_count n) ns) k)
