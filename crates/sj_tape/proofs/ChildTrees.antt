@@ -1,22 +1,23 @@
 -- The children that the counts find are those of the tree.
-use Rattle.std.proofs.Common.{◌≡◌, ℕ, zero, suc, ◌-◌, Bool, true, false, cond, List, [], ◌∷◌, ◌++◌, Option, Some, None, option_map, option_and_then, bytes_eq, take, drop, length, refl, sym, ◌∙◌, ap, arith}
-use Rattle.std.proofs.lemmas.List.{take-append-drop}
+use Rattle.std.proofs.Common.{◌≡◌, ℕ, zero, suc, ◌-◌, Bool, true, false, cond, List, [], ◌∷◌, ◌++◌, Option, Some, None, option_map, option_and_then, bytes_eq, map, take, drop, length, refl, sym, ◌∙◌, ap, arith}
+use Rattle.std.proofs.lemmas.List.{take-append-drop, length-map}
 use Rattle.sj_base.specs.Tree.{Tree, null, boolean, integer, decimal, string, list, object, Items, no_items, item, Members, no_members, member}
 use Rattle.sj_base.specs.Path.{Part, key, place, child, member_at, item_at}
 use Rattle.sj_base.specs.declared.static_node.StaticNode.TheVariants.{Null, Bool as Boolean, I64, U64}
 use Rattle.sj_reads.specs.Member.{Seen}
 use Rattle.sj_tape.specs.ByName.{seen_nodes}
 use Rattle.sj_tape.specs.ChildLaws.{ChildrenByCounts, SeenMembers}
-use Rattle.sj_tape.specs.Children.{key_text, member_nodes, item_nodes, array_part, object_part, child_nodes}
-use Rattle.sj_base.specs.Containers.{items_len, members_len, scalar_in}
+use Rattle.sj_tape.specs.Children.{key_text, member_nodes, item_nodes, item_runs, member_runs, array_part, object_part, child_nodes}
+use Rattle.sj_base.specs.Containers.{items_len, members_len, item_trees, member_pairs, scalar_in}
 use Rattle.sj_tape.specs.Listing.{Entry, string_entry, list_entry, object_entry, listing, items_listing, members_listing}
+use Rattle.sj_tape.specs.Listed.{listed_items, listed_members, ListsItems, ListsMembers}
 use Rattle.sj_tape.specs.Nodes.{node_entry, entries}
-use Rattle.sj_tape.specs.Views.{value_nodes, nodes_tree}
+use Rattle.sj_tape.specs.Views.{value_nodes, nodes_tree, pair_tree}
 use Rattle.sj_tape.specs.declared.node.Node.{Node}
 use Rattle.sj_tape.specs.declared.node.Node.TheVariants.{String, Object, Array, Static, Decimal}
 use Rattle.sj_tape.proofs.Tapes.{listed_front, null_of-nil}
-use Rattle.sj_tape.proofs.Children.{member_nodes-step, item_nodes-step, item_nodes-first}
-use Rattle.sj_tape.proofs.Listings.{tree_from}
+use Rattle.sj_tape.proofs.Children.{member_nodes-step, item_nodes-step, item_nodes-first, item_runs-step, member_runs-step}
+use Rattle.sj_tape.proofs.Listings.{tree_from, length-item_trees, length-member_pairs}
 use Rattle.sj_tape.proofs.Cutting.{cons_parts, cut_front, cut_back, string_node}
 
 -- how many members stand beneath the first entry, where it is an object's
@@ -95,6 +96,64 @@ item_nodes-tree (item t ts) ns (suc i) e =
     let one : suc (items_len ts) - 1 ≡ items_len ts = omega arith in
     let other : suc i - 1 ≡ i = omega arith in
     ap (option_map nodes_tree) (step ∙ (ap (λ (l : ℕ). item_nodes l (drop n ns) (suc i - 1)) one ∙ ap (λ (j : ℕ). item_nodes (items_len ts) (drop n ns) j) other)) ∙ item_nodes-tree ts (drop n ns) i back
+
+-- The nodes of all items are those of the trees.
+runs_trees : (ts : Items) (ns : List Node) → entries ns ≡ items_listing ts → map nodes_tree (item_runs (items_len ts) ns) ≡ item_trees ts
+runs_trees no_items ns e = refl
+runs_trees (item t ts) ns e =
+    let n : ℕ = length (listing t) in
+    let front : entries (take n ns) ≡ listing t = cut_front ns t (items_listing ts) n e refl in
+    let back : entries (drop n ns) ≡ items_listing ts = cut_back ns t (items_listing ts) n e refl in
+    let step = item_runs-step (suc (items_len ts)) ns (take n ns) (drop n ns) t (sym (take-append-drop n ns)) front (omega arith) in
+    let one : suc (items_len ts) - 1 ≡ items_len ts = omega arith in
+    let left = ap (λ (l : ℕ). map nodes_tree (item_runs l (drop n ns))) one ∙ runs_trees ts (drop n ns) back in
+    ap (map nodes_tree) step ∙ both _ _ _ _ (tree_from (entries (take n ns)) t front) left
+  where
+    both : (u v : Tree) (us vs : List Tree) → u ≡ v → us ≡ vs → u ∷ us ≡ v ∷ vs
+    both u v us vs p q = cc
+
+pairs_trees : (ms : Members) (ns : List Node) → entries ns ≡ members_listing ms → map pair_tree (member_runs (members_len ms) ns) ≡ member_pairs ms
+pairs_trees no_members ns e = refl
+pairs_trees (member name t ms) [] e = absurd (cc)
+pairs_trees (member name t ms) (m ∷ ns) e =
+    let parts = cons_parts (node_entry m) (string_entry name) (entries ns) (listing t ++ members_listing ms) e in
+    let n : ℕ = length (listing t) in
+    let front : entries (take n ns) ≡ listing t = cut_front ns t (members_listing ms) n parts.1 refl in
+    let back : entries (drop n ns) ≡ members_listing ms = cut_back ns t (members_listing ms) n parts.1 refl in
+    let step = member_runs-step (suc (members_len ms)) (m ∷ ns) (take n ns) (drop n ns) m t (ap (λ (xs : List Node). m ∷ xs) (sym (take-append-drop n ns))) front (omega arith) in
+    let one : suc (members_len ms) - 1 ≡ members_len ms = omega arith in
+    let left = ap (λ (l : ℕ). map pair_tree (member_runs l (drop n ns))) one ∙ pairs_trees ms (drop n ns) back in
+    ap (map pair_tree) step ∙ both _ _ _ _ _ _ (key_text-string m name parts.0) (tree_from (entries (take n ns)) t front) left
+  where
+    both : (j k : List ℕ) (u v : Tree) (us vs : List (List ℕ × Tree)) → j ≡ k → u ≡ v → us ≡ vs → (j, u) ∷ us ≡ (k, v) ∷ vs
+    both j k u v us vs o p q = cc
+
+pub item_runs-trees : (len : ℕ) (ns : List Node) → ListsItems len (entries ns) → map nodes_tree (item_runs len ns) ≡ item_trees (listed_items len (entries ns))
+item_runs-trees len ns h = ap (λ (l : ℕ). map nodes_tree (item_runs l ns)) (sym h.1) ∙ runs_trees (listed_items len (entries ns)) ns (sym h.0)
+
+pub length-item_runs : (len : ℕ) (ns : List Node) → ListsItems len (entries ns) → length (item_runs len ns) ≡ items_len (listed_items len (entries ns))
+length-item_runs len ns h = sym (length-map (item_runs len ns) nodes_tree) ∙ (ap (λ (ts : List Tree). length ts) (item_runs-trees len ns h) ∙ length-item_trees (listed_items len (entries ns)))
+
+pub member_runs-trees : (len : ℕ) (ns : List Node) → ListsMembers len (entries ns) → map pair_tree (member_runs len ns) ≡ member_pairs (listed_members len (entries ns))
+member_runs-trees len ns h = ap (λ (l : ℕ). map pair_tree (member_runs l ns)) (sym h.1) ∙ pairs_trees (listed_members len (entries ns)) ns (sym h.0)
+
+pub length-member_runs : (len : ℕ) (ns : List Node) → ListsMembers len (entries ns) → length (member_runs len ns) ≡ members_len (listed_members len (entries ns))
+length-member_runs len ns h = sym (length-map (member_runs len ns) pair_tree) ∙ (ap (λ (ps : List (List ℕ × Tree)). length ps) (member_runs-trees len ns h) ∙ length-member_pairs (listed_members len (entries ns)))
+
+-- keys and values alone
+pub pair_keys : (ps : List (List ℕ × List Node)) (ts : List (List ℕ × Tree)) → map pair_tree ps ≡ ts → map (λ p. p.0) ps ≡ map (λ p. p.0) ts
+pair_keys ps ts e = sym (same ps) ∙ ap (map (λ p. p.0)) e
+  where
+    same : (qs : List (List ℕ × List Node)) → map (λ p. p.0) (map pair_tree qs) ≡ map (λ p. p.0) qs
+    same [] = refl
+    same (q ∷ qs) = ap (λ (ks : List (List ℕ)). q.0 ∷ ks) (same qs)
+
+pub pair_values : (ps : List (List ℕ × List Node)) (ts : List (List ℕ × Tree)) → map pair_tree ps ≡ ts → map nodes_tree (map (λ p. p.1) ps) ≡ map (λ p. p.1) ts
+pair_values ps ts e = sym (same ps) ∙ ap (map (λ p. p.1)) e
+  where
+    same : (qs : List (List ℕ × List Node)) → map (λ p. p.1) (map pair_tree qs) ≡ map nodes_tree (map (λ p. p.1) qs)
+    same [] = refl
+    same (q ∷ qs) = ap (λ (us : List Tree). nodes_tree q.1 ∷ us) (same qs)
 
 -- what stands beneath the first node
 beneath : (ns : List Node) (e : Entry) (es : List Entry) → entries ns ≡ e ∷ es → entries (drop 1 ns) ≡ es

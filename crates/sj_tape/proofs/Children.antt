@@ -1,8 +1,9 @@
 -- What the counts find in front, and behind it.
-use Rattle.std.proofs.Common.{◌≡◌, ℕ, zero, suc, ◌+◌, ◌-◌, ◌<◌, cond, List, [], ◌∷◌, ◌++◌, Some, None, bytes_eq, length, refl, sym, ◌∙◌, ap, arith, append-nil}
+use Rattle.std.proofs.Common.{◌≡◌, ℕ, zero, suc, ◌+◌, ◌-◌, ◌<◌, Bool, true, false, cond, List, [], ◌∷◌, ◌++◌, Option, Some, None, option_map, drop, bytes_eq, length, refl, sym, ◌∙◌, ap, arith, append-nil}
 use Rattle.std.proofs.lemmas.List.{take_at, drop_at}
 use Rattle.sj_base.specs.Tree.{Tree}
-use Rattle.sj_tape.specs.Children.{key_text, member_nodes, item_nodes}
+use Rattle.sj_tape.specs.ChildLaws.{ItemsByPlace, MembersByKey}
+use Rattle.sj_tape.specs.Children.{key_text, member_nodes, item_nodes, item_runs, member_runs}
 use Rattle.sj_tape.specs.Listing.{Entry, listing}
 use Rattle.sj_tape.specs.Nodes.{node_count, entries}
 use Rattle.sj_tape.specs.declared.node.Node.{Node}
@@ -53,3 +54,47 @@ member_nodes-none len ns k e = ap (λ (l : ℕ). member_nodes l ns k) e
 
 pub item_nodes-none : (len : ℕ) (ns : List Node) (i : ℕ) → len ≡ 0 → item_nodes len ns i ≡ None
 item_nodes-none len ns i e = ap (λ (l : ℕ). item_nodes l ns i) e
+
+pub item_runs-step : (len : ℕ) (ns front rest : List Node) (t : Tree) → ns ≡ front ++ rest → entries front ≡ listing t → 0 < len → item_runs len ns ≡ front ∷ item_runs (len - 1) rest
+item_runs-step zero ns front rest t h e some = absurd (omega arith)
+item_runs-step (suc len) ns [] rest t h e some = absurd (no_listing t e)
+item_runs-step (suc len) ns (n ∷ beneath) rest t h e some =
+    let count : length beneath ≡ node_count n = beneath_count n beneath t e in
+    let one : len ≡ suc len - 1 = omega arith in
+    ap (item_runs (suc len)) h ∙ split _ _ _ _ _ (take_at beneath rest (node_count n) count) (drop_at beneath rest (node_count n) count) one
+  where
+    split : (a b c d : List Node) (l : ℕ) → a ≡ c → b ≡ d → len ≡ l → (n ∷ a) ∷ item_runs len b ≡ (n ∷ c) ∷ item_runs l d
+    split a b c d l p q r = cc
+
+pub member_runs-step : (len : ℕ) (ns front rest : List Node) (m : Node) (t : Tree) → ns ≡ m ∷ (front ++ rest) → entries front ≡ listing t → 0 < len → member_runs len ns ≡ (key_text m, front) ∷ member_runs (len - 1) rest
+member_runs-step zero ns front rest m t h e some = absurd (omega arith)
+member_runs-step (suc len) ns [] rest m t h e some = absurd (no_listing t e)
+member_runs-step (suc len) ns (n ∷ beneath) rest m t h e some =
+    let count : length beneath ≡ node_count n = beneath_count n beneath t e in
+    let one : len ≡ suc len - 1 = omega arith in
+    ap (member_runs (suc len)) h ∙ split _ _ _ _ _ (take_at beneath rest (node_count n) count) (drop_at beneath rest (node_count n) count) one
+  where
+    split : (a b c d : List Node) (l : ℕ) → a ≡ c → b ≡ d → len ≡ l → (key_text m, n ∷ a) ∷ member_runs len b ≡ (key_text m, n ∷ c) ∷ member_runs l d
+    split a b c d l p q r = cc
+
+pub item_runs-none : (len : ℕ) (ns : List Node) → len ≡ 0 → item_runs len ns ≡ []
+item_runs-none len ns e = ap (λ (l : ℕ). item_runs l ns) e
+
+pub member_runs-none : (len : ℕ) (ns : List Node) → len ≡ 0 → member_runs len ns ≡ []
+member_runs-none len ns e = ap (λ (l : ℕ). member_runs l ns) e
+
+pub items_by_place : ItemsByPlace
+items_by_place zero ns i = refl
+items_by_place (suc len) [] i = refl
+items_by_place (suc len) (n ∷ ns) zero = refl
+items_by_place (suc len) (n ∷ ns) (suc i) = items_by_place len (drop (node_count n) ns) i
+
+found_first : (b : Bool) (x : List ℕ × List Node) (v : Option (List ℕ × List Node)) (o : Option (List Node)) → o ≡ option_map (λ p. p.1) v → cond b (Some x.1) o ≡ option_map (λ p. p.1) (cond b (Some x) v)
+found_first true x v o e = refl
+found_first false x v o e = e
+
+pub members_by_key : MembersByKey
+members_by_key zero ns k = refl
+members_by_key (suc len) [] k = refl
+members_by_key (suc len) (m ∷ []) k = refl
+members_by_key (suc len) (m ∷ n ∷ ns) k = found_first _ _ _ _ (members_by_key len (drop (node_count n) ns) k)

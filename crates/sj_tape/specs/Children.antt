@@ -26,6 +26,19 @@ item_nodes (suc len) [] i = None
 item_nodes (suc len) (n ∷ ns) zero = Some (n ∷ take (node_count n) ns)
 item_nodes (suc len) (n ∷ ns) (suc i) = item_nodes len (drop (node_count n) ns) i
 
+-- the nodes of each item, of so many
+abbrev pub item_runs : ℕ → List Node → List (List Node)
+item_runs zero ns = []
+item_runs (suc len) [] = []
+item_runs (suc len) (n ∷ ns) = (n ∷ take (node_count n) ns) ∷ item_runs len (drop (node_count n) ns)
+
+-- the key of each member and the nodes of its value, of so many
+abbrev pub member_runs : ℕ → List Node → List (List ℕ × List Node)
+member_runs zero ns = []
+member_runs (suc len) [] = []
+member_runs (suc len) (m ∷ []) = []
+member_runs (suc len) (m ∷ n ∷ ns) = (key_text m, n ∷ take (node_count n) ns) ∷ member_runs len (drop (node_count n) ns)
+
 -- how many items an array has, and the nodes beneath it
 abbrev pub array_part : List Node → Option (ℕ × List Node)
 array_part [] = None

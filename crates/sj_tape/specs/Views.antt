@@ -5,10 +5,9 @@ use Rattle.sj_base.specs.Tree.{Tree, Items, Members}
 use Rattle.sj_base.specs.declared.static_node.ValueType.{ValueType}
 use Rattle.sj_base.specs.declared.static_node.ValueType.TheVariants.{Null as null_type}
 use Rattle.sj_base.specs.declared.fault.TryTypeError.{TryTypeError}
-use Rattle.sj_base.specs.Containers.{item_trees, member_pairs}
 use Rattle.sj_tape.specs.Listed.{tree_of, listed_items, listed_members, listed_tree}
 use Rattle.sj_tape.specs.Nodes.{entries, node_type}
-use Rattle.sj_tape.specs.Children.{member_nodes, item_nodes}
+use Rattle.sj_tape.specs.Children.{member_nodes, item_nodes, item_runs, member_runs}
 use Rattle.sj_tape.specs.declared.array.Array.{Array}
 use Rattle.sj_tape.specs.declared.array.Iter.{Iter as ArrayIter}
 use Rattle.sj_tape.specs.declared.node.Node.{Node}
@@ -58,6 +57,10 @@ array_part_of a = (a.len, array_nodes a)
 abbrev pub array_item : Array → ℕ → Option (List Node)
 array_item a i = item_nodes a.len (array_nodes a) i
 
+-- the nodes of each item
+abbrev pub array_runs : Array → List (List Node)
+array_runs a = item_runs a.len (array_nodes a)
+
 abbrev pub object_nodes : Object → List Node
 object_nodes o = o.nodes.now
 
@@ -72,6 +75,14 @@ object_part_of o = (o.len, object_nodes o)
 abbrev pub object_member : Object → List ℕ → Option (List Node)
 object_member o k = member_nodes o.len (object_nodes o) k
 
+-- the key of each member and the nodes of its value
+abbrev pub object_runs : Object → List (List ℕ × List Node)
+object_runs o = member_runs o.len (object_nodes o)
+
+-- a key, and the tree of a value's nodes
+abbrev pub pair_tree : List ℕ × List Node → List ℕ × Tree
+pair_tree p = (p.0, nodes_tree p.1)
+
 -- answers, with trees in the place of views
 abbrev pub ok_items : Result Array TryTypeError → Result Items TryTypeError
 ok_items r = ok_map array_items r
@@ -82,15 +93,15 @@ ok_members r = ok_map object_members r
 abbrev pub ok_found : Result (Option Value) TryTypeError → Result (Option Tree) TryTypeError
 ok_found r = ok_map (option_map value_tree) r
 
--- what iterators have yet to give
-abbrev pub items_left : ArrayIter → List Tree
-items_left it = item_trees (array_items it.rest)
+-- what iterators have yet to give: the nodes of each value
+abbrev pub items_left : ArrayIter → List (List Node)
+items_left it = array_runs it.rest
 
-abbrev pub pairs_left : ObjectIter → List (List ℕ × Tree)
-pairs_left it = member_pairs (object_members it.rest)
+abbrev pub pairs_left : ObjectIter → List (List ℕ × List Node)
+pairs_left it = object_runs it.rest
 
 abbrev pub keys_left : Keys → List (List ℕ)
 keys_left it = map (λ p. p.0) (pairs_left it.members)
 
-abbrev pub values_left : Values → List Tree
+abbrev pub values_left : Values → List (List Node)
 values_left it = map (λ p. p.1) (pairs_left it.members)

@@ -1,6 +1,7 @@
 //! Views of the arrays of a tape.
-ghost use Rattle.std.specs.Prelude.{◌≡◌, ◌↔◌, ◌++◌, IsTrue, IfSome, MatchOption, length, option_map, ◌-◌, ◌<◌, ℕ, None};
-ghost use Rattle.std.specs.Iterator.{YieldsFirstBy, item_count};
+ghost use Rattle.std.specs.Prelude.{◌≡◌, ◌↔◌, ◌-◌, ◌<◌, ℕ, IsTrue, IfSome, MatchOption, Some, None, option_map, [], ◌∷◌, length, map};
+ghost use Rattle.std.specs.Iterator.{YieldsFirstBy, UpTo, item_count};
+ghost use Rattle.std.specs.Iterator.SizeHint.{IsWithinCount};
 ghost use Rattle.sj_base.specs.Tree.{no_items, item};
 ghost use Rattle.sj_base.specs.Path.{item_at};
 ghost use Rattle.sj_base.specs.Containers.{items_len, item_trees};
@@ -20,14 +21,14 @@ pub struct Array<'t, 'i> {
 }
 
 impl<'t, 'i> Array<'t, 'i> {
-    ghost use Rattle.sj_tape.specs.Views.{value_nodes, value_tree, array_nodes, array_items, items_left, array_item};
+    ghost use Rattle.sj_tape.specs.Views.{value_nodes, value_tree, nodes_tree, array_items, array_runs, items_left, array_item};
 
     // The first item, and an array of those behind it.
     pub(crate) fn split_first(&self) -> Option<(Value<'t, 'i>, Array<'t, 'i>)>
         ensures items { MatchOption result (array_items self.now ≡ no_items)
             (λ p. array_items self.now ≡ item (value_tree p.0) (array_items p.1)) }
-        ensures nodes { IfSome result
-            (λ p. array_nodes self.now ≡ value_nodes p.0 ++ array_nodes p.1) }
+        ensures runs { MatchOption result (array_runs self.now ≡ [])
+            (λ p. array_runs self.now ≡ value_nodes p.0 ∷ array_runs p.1) }
         ensures first { array_item self.now 0 ≡ option_map (λ p. value_nodes p.0) result }
         ensures behind { (i : ℕ) → 0 < i → MatchOption result (array_item self.now i ≡ None)
             (λ p. array_item self.now i ≡ array_item p.1 (i - 1)) }
@@ -76,7 +77,8 @@ impl<'t, 'i> Array<'t, 'i> {
 
     /// The items in order.
     pub fn iter(&self) -> Iter<'t, 'i>
-        ensures items { items_left result ≡ item_trees (array_items self.now) }
+        ensures nodes { items_left result ≡ array_runs self.now }
+        ensures items { map nodes_tree (items_left result) ≡ item_trees (array_items self.now) }
         ensures count { length (items_left result) ≡ items_len (array_items self.now) }
     {
         Iter { rest: *self }
@@ -88,9 +90,10 @@ impl<'t, 'i> IntoIterator for &Array<'t, 'i> {
 
     type IntoIter = Iter<'t, 'i>;
 
-    ghost use Rattle.sj_tape.specs.Views.{array_items, items_left};
+    ghost use Rattle.sj_tape.specs.Views.{nodes_tree, array_items, array_runs, items_left};
 
-    ghost into_iter_gives = { λ array it. (items_left it ≡ item_trees (array_items array.now))
+    ghost into_iter_gives = { λ array it. (items_left it ≡ array_runs array.now)
+        × (map nodes_tree (items_left it) ≡ item_trees (array_items array.now))
         × (length (items_left it) ≡ items_len (array_items array.now)) };
 
     fn into_iter(self) -> Iter<'t, 'i> {
@@ -107,9 +110,9 @@ pub struct Iter<'t, 'i> {
 impl<'t, 'i> Iterator for Iter<'t, 'i> {
     type Item = Value<'t, 'i>;
 
-    ghost use Rattle.sj_tape.specs.Views.{value_tree, items_left};
+    ghost use Rattle.sj_tape.specs.Views.{value_nodes, items_left};
 
-    ghost next_gives = { YieldsFirstBy value_tree items_left };
+    ghost next_gives = { YieldsFirstBy value_nodes items_left };
 
     ghost remaining = { item_count items_left };
 
@@ -119,7 +122,11 @@ impl<'t, 'i> Iterator for Iter<'t, 'i> {
         Some(first)
     }
 
-    fn size_hint(&self) -> (usize, Option<usize>) {
+    fn size_hint(&self) -> (usize, Option<usize>)
+        ensures lower { IsWithinCount result.0 (item_count items_left self.now) }
+        ensures upper { IfSome result.1 (UpTo (item_count items_left self.now)) }
+        ensures exact { result ≡ (length (items_left self.now), Some (length (items_left self.now))) }
+    {
         let len = self.len();
         (len, Some(len))
     }

@@ -1,5 +1,5 @@
 //! Laws of the definitions that the contracts cite: each function has no code, and its contract is the law.
-ghost use Rattle.sj_tape.specs.ChildLaws.{ChildrenByCounts, SeenMembers};
+ghost use Rattle.sj_tape.specs.ChildLaws.{ChildrenByCounts, SeenMembers, ItemsByPlace, MembersByKey};
 ghost use Rattle.sj_tape.specs.Laws.{OneListing, ListingBack};
 
 /// A listing has one tree: its keys and the order of its members show.
@@ -20,4 +20,14 @@ pub fn children_by_counts()
 /// Typed reads by name see the scalar of the child in the tree.
 pub fn seen_members()
     ensures { SeenMembers }
+{}
+
+/// `get` of an array finds the nodes that `iter` gives at that place.
+pub fn items_by_place()
+    ensures { ItemsByPlace }
+{}
+
+/// `get` of an object finds the nodes of the first member with that key that `iter` gives.
+pub fn members_by_key()
+    ensures { MembersByKey }
 {}

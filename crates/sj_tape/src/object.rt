@@ -1,6 +1,7 @@
 //! Views of the objects of a tape.
-ghost use Rattle.std.specs.Prelude.{◌≡◌, ◌↔◌, IsTrue, MatchOption, length, map, option_map, ℕ, List, Some, None, bytes_eq, cond};
-ghost use Rattle.std.specs.Iterator.{YieldsFirstBy, item_count};
+ghost use Rattle.std.specs.Prelude.{◌≡◌, ◌↔◌, ℕ, IsTrue, IfSome, MatchOption, Some, None, option_map, List, [], ◌∷◌, length, map, bytes_eq, cond};
+ghost use Rattle.std.specs.Iterator.{YieldsFirstBy, UpTo, item_count};
+ghost use Rattle.std.specs.Iterator.SizeHint.{IsWithinCount};
 ghost use Rattle.sj_base.specs.Tree.{no_members, member};
 ghost use Rattle.sj_base.specs.Path.{member_at};
 ghost use Rattle.sj_base.specs.Containers.{members_len, member_pairs};
@@ -20,12 +21,14 @@ pub struct Object<'t, 'i> {
 }
 
 impl<'t, 'i> Object<'t, 'i> {
-    ghost use Rattle.sj_tape.specs.Views.{value_tree, object_members, pairs_left, keys_left, values_left, value_nodes, object_member};
+    ghost use Rattle.sj_tape.specs.Views.{value_nodes, value_tree, nodes_tree, object_members, object_member, object_runs, pair_tree, pairs_left, keys_left, values_left};
 
     // The first member, and an object of those behind it.
     pub(crate) fn split_first(&self) -> Option<(&'i str, Value<'t, 'i>, Object<'t, 'i>)>
         ensures members { MatchOption result (object_members self.now ≡ no_members)
             (λ p. object_members self.now ≡ member p.0.now (value_tree p.1) (object_members p.2)) }
+        ensures runs { MatchOption result (object_runs self.now ≡ [])
+            (λ p. object_runs self.now ≡ (p.0.now, value_nodes p.1) ∷ object_runs p.2) }
         ensures found { (k : List ℕ) → MatchOption result (object_member self.now k ≡ None)
             (λ p. object_member self.now k
             ≡ cond (bytes_eq p.0.now k) (Some (value_nodes p.1)) (object_member p.2 k)) }
@@ -76,7 +79,8 @@ impl<'t, 'i> Object<'t, 'i> {
 
     /// The members in order.
     pub fn iter(&self) -> Iter<'t, 'i>
-        ensures members { pairs_left result ≡ member_pairs (object_members self.now) }
+        ensures nodes { pairs_left result ≡ object_runs self.now }
+        ensures members { map pair_tree (pairs_left result) ≡ member_pairs (object_members self.now) }
         ensures count { length (pairs_left result) ≡ members_len (object_members self.now) }
     {
         Iter { rest: *self }
@@ -94,7 +98,8 @@ impl<'t, 'i> Object<'t, 'i> {
 
     /// The values in order.
     pub fn values(&self) -> Values<'t, 'i>
-        ensures values { values_left result ≡ map (λ p. p.1) (member_pairs (object_members self.now)) }
+        ensures nodes { values_left result ≡ map (λ p. p.1) (object_runs self.now) }
+        ensures values { map nodes_tree (values_left result) ≡ map (λ p. p.1) (member_pairs (object_members self.now)) }
         ensures count { length (values_left result) ≡ members_len (object_members self.now) }
     {
         Values {
@@ -108,9 +113,10 @@ impl<'t, 'i> IntoIterator for &Object<'t, 'i> {
 
     type IntoIter = Iter<'t, 'i>;
 
-    ghost use Rattle.sj_tape.specs.Views.{object_members, pairs_left};
+    ghost use Rattle.sj_tape.specs.Views.{object_members, object_runs, pair_tree, pairs_left};
 
-    ghost into_iter_gives = { λ object it. (pairs_left it ≡ member_pairs (object_members object.now))
+    ghost into_iter_gives = { λ object it. (pairs_left it ≡ object_runs object.now)
+        × (map pair_tree (pairs_left it) ≡ member_pairs (object_members object.now))
         × (length (pairs_left it) ≡ members_len (object_members object.now)) };
 
     fn into_iter(self) -> Iter<'t, 'i> {
@@ -127,9 +133,9 @@ pub struct Iter<'t, 'i> {
 impl<'t, 'i> Iterator for Iter<'t, 'i> {
     type Item = (&'i str, Value<'t, 'i>);
 
-    ghost use Rattle.sj_tape.specs.Views.{value_tree, pairs_left};
+    ghost use Rattle.sj_tape.specs.Views.{value_nodes, pairs_left};
 
-    ghost next_gives = { YieldsFirstBy (λ p. (p.0.now, value_tree p.1)) pairs_left };
+    ghost next_gives = { YieldsFirstBy (λ p. (p.0.now, value_nodes p.1)) pairs_left };
 
     ghost remaining = { item_count pairs_left };
 
@@ -139,7 +145,11 @@ impl<'t, 'i> Iterator for Iter<'t, 'i> {
         Some((key, value))
     }
 
-    fn size_hint(&self) -> (usize, Option<usize>) {
+    fn size_hint(&self) -> (usize, Option<usize>)
+        ensures lower { IsWithinCount result.0 (item_count pairs_left self.now) }
+        ensures upper { IfSome result.1 (UpTo (item_count pairs_left self.now)) }
+        ensures exact { result ≡ (length (pairs_left self.now), Some (length (pairs_left self.now))) }
+    {
         let len = self.len();
         (len, Some(len))
     }
@@ -173,9 +183,12 @@ impl<'t, 'i> Iterator for Keys<'t, 'i> {
         Some(key)
     }
 
-    fn size_hint(&self) -> (usize, Option<usize>) {
-        let len = self.len();
-        (len, Some(len))
+    fn size_hint(&self) -> (usize, Option<usize>)
+        ensures lower { IsWithinCount result.0 (item_count keys_left self.now) }
+        ensures upper { IfSome result.1 (UpTo (item_count keys_left self.now)) }
+        ensures exact { result ≡ (length (keys_left self.now), Some (length (keys_left self.now))) }
+    {
+        self.members.size_hint()
     }
 }
 
@@ -196,9 +209,9 @@ pub struct Values<'t, 'i> {
 impl<'t, 'i> Iterator for Values<'t, 'i> {
     type Item = Value<'t, 'i>;
 
-    ghost use Rattle.sj_tape.specs.Views.{value_tree, values_left};
+    ghost use Rattle.sj_tape.specs.Views.{value_nodes, values_left};
 
-    ghost next_gives = { YieldsFirstBy value_tree values_left };
+    ghost next_gives = { YieldsFirstBy value_nodes values_left };
 
     ghost remaining = { item_count values_left };
 
@@ -207,9 +220,12 @@ impl<'t, 'i> Iterator for Values<'t, 'i> {
         Some(value)
     }
 
-    fn size_hint(&self) -> (usize, Option<usize>) {
-        let len = self.len();
-        (len, Some(len))
+    fn size_hint(&self) -> (usize, Option<usize>)
+        ensures lower { IsWithinCount result.0 (item_count values_left self.now) }
+        ensures upper { IfSome result.1 (UpTo (item_count values_left self.now)) }
+        ensures exact { result ≡ (length (values_left self.now), Some (length (values_left self.now))) }
+    {
+        self.members.size_hint()
     }
 }
 

@@ -197,6 +197,66 @@ fn none_after_the_last_member(rt: HostRuntime) -> Result<(), Fail> {
 }
 
 #[test]
+fn equal_items_of_both_carriers(rt: HostRuntime) -> Result<(), Fail> {
+    let nodes = [
+        Node::Array { len: 2, count: 2 },
+        Node::Static(StaticNode::I64(1)),
+        Node::Static(StaticNode::U64(1)),
+    ];
+    let tape = Tape::new(nodes.to_vec(rt.alloc())?).ok_or("no tape")?;
+    assert!(rt; !tape.is_empty());
+    let array = tape.as_value().as_array().ok_or("no array")?;
+    assert_eq!(rt; array.iter().size_hint(), (2, Some(2)));
+    let mut types = Vec::new(rt.alloc());
+    for item in &array {
+        types.push(item.value_type())?;
+    }
+    assert_eq!(rt;
+        types.as_slice(),
+        [ValueType::I64, ValueType::U64].as_slice()
+    );
+    Ok(())
+}
+
+// The nodes of `{"a":1,"a":1}`, with both carriers.
+fn twice() -> [Node<'static>; 5] {
+    [
+        Node::Object { len: 2, count: 4 },
+        Node::String("a"),
+        Node::Static(StaticNode::I64(1)),
+        Node::String("a"),
+        Node::Static(StaticNode::U64(1)),
+    ]
+}
+
+#[test]
+fn equal_members_of_both_carriers(rt: HostRuntime) -> Result<(), Fail> {
+    let tape = Tape::new(twice().to_vec(rt.alloc())?).ok_or("no tape")?;
+    assert!(rt; !tape.is_empty());
+    let object = tape.as_value().as_object().ok_or("no object")?;
+    assert_eq!(rt; object.iter().size_hint(), (2, Some(2)));
+    assert_eq!(rt; object.keys().size_hint(), (2, Some(2)));
+    assert_eq!(rt; object.values().size_hint(), (2, Some(2)));
+    let mut members = Vec::new(rt.alloc());
+    for (key, value) in &object {
+        members.push((key, value.value_type()))?;
+    }
+    assert_eq!(rt;
+        members.as_slice(),
+        [("a", ValueType::I64), ("a", ValueType::U64)].as_slice()
+    );
+    let mut values = Vec::new(rt.alloc());
+    for value in object.values() {
+        values.push(value.value_type())?;
+    }
+    assert_eq!(rt;
+        values.as_slice(),
+        [ValueType::I64, ValueType::U64].as_slice()
+    );
+    Ok(())
+}
+
+#[test]
 fn try_get_on_tape(rt: HostRuntime) -> Result<(), Fail> {
     let nodes = [
         Node::Object { len: 1, count: 2 },

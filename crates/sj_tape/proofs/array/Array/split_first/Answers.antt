@@ -2,7 +2,7 @@ use Rattle.std.proofs.Common.{◌-◌, ◌∙◌, arith, sym}
 use Rattle.sj_tape.specs.Listing.{items_listing}
 use Rattle.sj_tape.specs.Nodes.{entries}
 use Rattle.sj_tape.proofs.Listings.{items_from, lists_items}
-use Rattle.sj_tape.proofs.Children.{item_nodes-step, item_nodes-first, item_nodes-none}
+use Rattle.sj_tape.proofs.Children.{item_nodes-step, item_nodes-first, item_nodes-none, item_runs-step, item_runs-none}
 use Rattle.sj_tape.proofs.Cutting.{items_front, no_items_left, item_same}
 use Rattle.sj_tape.proofs.array.Array.split_first.Goals as goal
 
@@ -43,3 +43,12 @@ returns-clause-behind c = λ i some.
     let a = c.args.self.now in
     let f = items_front a.len (entries a.nodes.now) a.items (omega arith) in
     item_nodes-step a.len a.nodes.now c.split_from.result.0.nodes.now c.split_from.result.1.now f.0 i c.split_from.ensures.parts (c.split_from.ensures.first f.0 (items_listing f.1) f.3) (omega arith) some
+
+pub returns-then-self-eq0-clause-runs : goal.returns-then-self-eq0-clause-runs
+returns-then-self-eq0-clause-runs c = item_runs-none c.args.self.now.len c.args.self.now.nodes.now (omega arith)
+
+pub returns-clause-runs : goal.returns-clause-runs
+returns-clause-runs c =
+    let a = c.args.self.now in
+    let f = items_front a.len (entries a.nodes.now) a.items (omega arith) in
+    item_runs-step a.len a.nodes.now c.split_from.result.0.nodes.now c.split_from.result.1.now f.0 c.split_from.ensures.parts (c.split_from.ensures.first f.0 (items_listing f.1) f.3) (omega arith)

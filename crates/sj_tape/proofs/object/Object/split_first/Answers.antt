@@ -2,14 +2,14 @@ use Rattle.std.proofs.Common.{◌≡◌, ℕ, ◌-◌, cond, bytes_eq, Some, Lis
 use Rattle.sj_tape.specs.Listing.{Entry, string_entry, listing, members_listing}
 use Rattle.sj_tape.specs.Nodes.{node_entry, entries}
 use Rattle.sj_tape.proofs.Listings.{members_from, lists_members}
-use Rattle.sj_tape.specs.Children.{key_text, member_nodes}
+use Rattle.sj_tape.specs.Children.{key_text, member_nodes, member_runs}
 use Rattle.sj_tape.specs.declared.node.Node.{Node}
-use Rattle.sj_tape.proofs.Children.{member_nodes-step, member_nodes-none}
+use Rattle.sj_tape.proofs.Children.{member_nodes-step, member_nodes-none, member_runs-step, member_runs-none}
 use Rattle.sj_tape.proofs.Cutting.{members_front, no_members_left, member_same, cons_parts, string_node}
 use Rattle.sj_tape.proofs.object.Object.split_first.Goals as goal
 
 pub returns-then-self-eq0 : goal.returns-then-self-eq0
-returns-then-self-eq0 c = record { members = no_members_left c.args.self.now.len (entries c.args.self.now.nodes.now) c.args.self.now.members (omega arith); found = λ k. member_nodes-none c.args.self.now.len c.args.self.now.nodes.now k (omega arith) }
+returns-then-self-eq0 c = record { members = no_members_left c.args.self.now.len (entries c.args.self.now.nodes.now) c.args.self.now.members (omega arith); runs = member_runs-none c.args.self.now.len c.args.self.now.nodes.now (omega arith); found = λ k. member_nodes-none c.args.self.now.len c.args.self.now.nodes.now k (omega arith) }
 
 pub returns-in_err-first : goal.returns-in_err-first
 returns-in_err-first c =
@@ -53,4 +53,4 @@ returns c =
     let left = c.args.self.now.len - 1 in
     let front : ns ≡ c.in_ok-first.first ∷ (value ++ rest) = c.in_ok-first.ensures ∙ ap (λ (ms : List Node). c.in_ok-first.first ∷ ms) c.split_from.ensures.parts in
     let listed : entries value ≡ listing f.1 = c.split_from.ensures.first f.1 (members_listing f.2) parts.1 in
-    record { members = f.3 ∙ sym (member_same _ _ _ _ _ _ same_key both.0 (members_from (entries rest) f.2 left both.1 f.5)); found = λ k. member_nodes-step c.args.self.now.len ns value rest c.in_ok-first.first f.1 k front listed (omega arith) ∙ ap (λ (m : Node). cond (bytes_eq (key_text m) k) (Some value) (member_nodes left rest k)) c.in-String.is }
+    record { members = f.3 ∙ sym (member_same _ _ _ _ _ _ same_key both.0 (members_from (entries rest) f.2 left both.1 f.5)); runs = member_runs-step c.args.self.now.len ns value rest c.in_ok-first.first f.1 front listed (omega arith) ∙ ap (λ (m : Node). (key_text m, value) ∷ member_runs left rest) c.in-String.is; found = λ k. member_nodes-step c.args.self.now.len ns value rest c.in_ok-first.first f.1 k front listed (omega arith) ∙ ap (λ (m : Node). cond (bytes_eq (key_text m) k) (Some value) (member_nodes left rest k)) c.in-String.is }
