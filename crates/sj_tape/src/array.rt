@@ -1,10 +1,10 @@
 //! Views of the arrays of a tape.
 ghost use Rattle.std.specs.Prelude.{◌≡◌, ◌↔◌, ◌++◌, IsTrue, IfSome, MatchOption, length, option_map, ◌-◌, ◌<◌, ℕ, None};
 ghost use Rattle.std.specs.Iterator.{YieldsFirstBy, item_count};
-ghost use Rattle.sj_base.specs.Tree.{no_items, item};
+ghost use Rattle.sj_base.specs.Tree.{no_items, item, AreTrees};
 ghost use Rattle.sj_base.specs.Path.{item_at};
 ghost use Rattle.sj_base.specs.Containers.{items_len, item_trees};
-ghost use Rattle.sj_tape.specs.Listed.{ListsItems};
+ghost use Rattle.sj_tape.specs.Listed.{ListsItems, listed_items};
 ghost use Rattle.sj_tape.specs.Nodes.{entries};
 
 use crate::node::Node;
@@ -17,6 +17,7 @@ pub struct Array<'t, 'i> {
     pub(crate) len: usize,
     pub(crate) nodes: &'t [Node<'i>],
     ghost items: { ListsItems len (entries nodes.now) },
+    ghost are_trees: { ∥ AreTrees (listed_items len (entries nodes.now)) ∥₁ },
 }
 
 impl<'t, 'i> Array<'t, 'i> {

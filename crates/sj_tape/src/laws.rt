@@ -1,6 +1,7 @@
 //! Laws of the definitions that the contracts cite: each function has no code, and its contract is the law.
 ghost use Rattle.sj_tape.specs.ChildLaws.{ChildrenByCounts, SeenMembers};
 ghost use Rattle.sj_tape.specs.Laws.{OneListing, ListingBack};
+ghost use Rattle.sj_tape.specs.ViewLaws.{TapesAreTrees, ValuesAreTrees, ArraysAreTrees, ObjectsAreMembers};
 
 /// A listing has one tree: its keys and the order of its members show.
 pub fn one_listing()
@@ -20,4 +21,12 @@ pub fn children_by_counts()
 /// Typed reads by name see the scalar of the child in the tree.
 pub fn seen_members()
     ensures { SeenMembers }
+{}
+
+/// The tree of a tape or a view is one that there is, and so are the items of an array and the members of an object.
+pub fn trees_of_views()
+    ensures tapes { TapesAreTrees }
+    ensures values { ValuesAreTrees }
+    ensures arrays { ArraysAreTrees }
+    ensures objects { ObjectsAreMembers }
 {}

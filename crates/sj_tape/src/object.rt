@@ -1,10 +1,10 @@
 //! Views of the objects of a tape.
 ghost use Rattle.std.specs.Prelude.{◌≡◌, ◌↔◌, IsTrue, MatchOption, length, map, option_map, ℕ, List, Some, None, bytes_eq, cond};
 ghost use Rattle.std.specs.Iterator.{YieldsFirstBy, item_count};
-ghost use Rattle.sj_base.specs.Tree.{no_members, member};
+ghost use Rattle.sj_base.specs.Tree.{no_members, member, AreMembers};
 ghost use Rattle.sj_base.specs.Path.{member_at};
 ghost use Rattle.sj_base.specs.Containers.{members_len, member_pairs};
-ghost use Rattle.sj_tape.specs.Listed.{ListsMembers};
+ghost use Rattle.sj_tape.specs.Listed.{ListsMembers, listed_members};
 ghost use Rattle.sj_tape.specs.Nodes.{entries};
 
 use crate::node::{Node, take_node};
@@ -17,6 +17,7 @@ pub struct Object<'t, 'i> {
     pub(crate) len: usize,
     pub(crate) nodes: &'t [Node<'i>],
     ghost members: { ListsMembers len (entries nodes.now) },
+    ghost are_members: { ∥ AreMembers (listed_members len (entries nodes.now)) ∥₁ },
 }
 
 impl<'t, 'i> Object<'t, 'i> {
