@@ -1,5 +1,6 @@
 pub mod Listings
 pub mod Passings
+pub mod AreTrees
 pub mod NodeLists
 pub mod Tapes
 pub mod Cutting

@@ -1,18 +1,12 @@
 -- Entries of nodes, by place.
-use Rattle.std.proofs.Common.{◌≡◌, ℕ, ◌+◌, ◌<◌, List, [], ◌∷◌, ◌++◌, Some, refl, drop, get_or, length, sym, ◌∙◌, ap, subst, ◌⊎◌, inl, inr}
+use Rattle.std.proofs.Common.{◌≡◌, ℕ, ◌+◌, ◌<◌, List, [], ◌∷◌, refl, drop, get_or, length, sym, ◌∙◌, ap, subst}
 use Rattle.std.proofs.lemmas.List.{drop_more, get_or-map, length-map}
-use Rattle.std.specs.Borrow.{Bor}
-use Rattle.sj_base.specs.Tree.{string, decimal as literal}
-use Rattle.sj_base.specs.Literal.{decimal_text}
 use Rattle.sj_base.specs.Scalar.{static_tree}
-use Rattle.sj_base.specs.declared.decimal.Decimal.{Decimal as Literal}
 use Rattle.sj_base.specs.declared.static_node.StaticNode.{StaticNode}
 use Rattle.sj_base.specs.declared.static_node.StaticNode.TheVariants.{Null, Bool as Boolean, I64, U64}
 use Rattle.sj_tape.specs.Listing.{Entry, listing}
 use Rattle.sj_tape.specs.Nodes.{static_entry, node_entry, entries}
-use Rattle.sj_tape.specs.Passing.{PassesTree}
 use Rattle.sj_tape.specs.declared.node.Node.{Node}
-use Rattle.sj_tape.specs.declared.node.Node.TheVariants.{String, Static, Decimal}
 
 pub length-entries : (ns : List Node) → length (entries ns) ≡ length ns
 length-entries ns = length-map ns node_entry
@@ -28,8 +22,3 @@ static_listing (Boolean b) = refl
 static_listing (I64 n) = refl
 static_listing (U64 n) = refl
 
--- A node that is no container is a tree by itself.
-pub leaf_passes : (n : Node) (es beneath : List Entry) → ((s : Bor (List ℕ)) × (n ≡ String s)) ⊎ (((s : StaticNode) × (n ≡ Static s)) ⊎ ((d : Literal) × (n ≡ Decimal d))) → es ≡ node_entry n ∷ beneath → PassesTree es (Some beneath)
-leaf_passes n es beneath (inl (s, e)) h = (string s.now, h ∙ ap (λ (m : Node). node_entry m ∷ beneath) e)
-leaf_passes n es beneath (inr (inl (s, e))) h = (static_tree s, h ∙ (ap (λ (m : Node). node_entry m ∷ beneath) e ∙ sym (ap (λ (ys : List Entry). ys ++ beneath) (static_listing s))))
-leaf_passes n es beneath (inr (inr (d, e))) h = (literal (decimal_text d), h ∙ ap (λ (m : Node). node_entry m ∷ beneath) e)

@@ -9,11 +9,11 @@ use Rattle.sj_tape.proofs.Listings.{one_listing, one_items, one_members}
 no_more_items : (n : ℕ) (es rest : List Entry) → PassesTree es (Some rest) → PassesItems n rest None → (ts : Items) (x : List Entry) → items_len ts ≡ suc n → es ≢ items_listing ts ++ x
 no_more_items n es rest h g no_items x m = absurd (omega (arith, m))
 no_more_items n es rest h g (item t ts) x m = λ e.
-    let same = one_listing h.0 t rest (items_listing ts ++ x) (sym h.1 ∙ (e ∙ append_assoc (listing t) (items_listing ts) x)) in
+    let same = one_listing h.0 t rest (items_listing ts ++ x) (sym h.2 ∙ (e ∙ append_assoc (listing t) (items_listing ts) x)) in
     g ts x (omega (arith, m)) same.1
 
 pub items_more : (n : ℕ) (es rest : List Entry) (r : Option (List Entry)) → PassesTree es (Some rest) → PassesItems n rest r → PassesItems (suc n) es r
-items_more n es rest (Some x) h g = (item h.0 g.0, ap (λ (k : ℕ). suc k) g.1, h.1 ∙ (ap (λ (ys : List Entry). listing h.0 ++ ys) g.2 ∙ sym (append_assoc (listing h.0) (items_listing g.0) x)))
+items_more n es rest (Some x) h g = (item h.0 g.0, (h.1, g.1), ap (λ (k : ℕ). suc k) g.2, h.2 ∙ (ap (λ (ys : List Entry). listing h.0 ++ ys) g.3 ∙ sym (append_assoc (listing h.0) (items_listing g.0) x)))
 items_more n es rest None h g = no_more_items n es rest h g
 
 pub items_stop : (n : ℕ) (es : List Entry) → PassesTree es None → PassesItems (suc n) es None
@@ -21,25 +21,25 @@ items_stop n es h no_items x m = absurd (omega (arith, m))
 items_stop n es h (item t ts) x m = λ e. h t (items_listing ts ++ x) (e ∙ append_assoc (listing t) (items_listing ts) x)
 
 pub items_done : (es : List Entry) → PassesItems 0 es (Some es)
-items_done es = (no_items, refl, refl)
+items_done es = (no_items, tt, refl, refl)
 
 no_more_members : (n : ℕ) (es value rest : List Entry) → PassesKey es (Some value) → PassesTree value (Some rest) → PassesMembers n rest None → (ms : Members) (x : List Entry) → members_len ms ≡ suc n → es ≢ members_listing ms ++ x
 no_more_members n es value rest k h g no_members x m = absurd (omega (arith, m))
 no_more_members n es value rest k h g (member name t ms) x m = λ e.
-    let both : string_entry k.0 ∷ value ≡ string_entry name ∷ ((listing t ++ members_listing ms) ++ x) = sym k.1 ∙ e in
+    let both : string_entry k.0 ∷ value ≡ string_entry name ∷ ((listing t ++ members_listing ms) ++ x) = sym k.2 ∙ e in
     let behind : value ≡ (listing t ++ members_listing ms) ++ x = cc in
-    let same = one_listing h.0 t rest (members_listing ms ++ x) (sym h.1 ∙ (behind ∙ append_assoc (listing t) (members_listing ms) x)) in
+    let same = one_listing h.0 t rest (members_listing ms ++ x) (sym h.2 ∙ (behind ∙ append_assoc (listing t) (members_listing ms) x)) in
     g ms x (omega (arith, m)) same.1
 
 pub members_more : (n : ℕ) (es value rest : List Entry) (r : Option (List Entry)) → PassesKey es (Some value) → PassesTree value (Some rest) → PassesMembers n rest r → PassesMembers (suc n) es r
 members_more n es value rest (Some x) k h g =
-    (member k.0 h.0 g.0, ap (λ (m : ℕ). suc m) g.1, k.1 ∙ ap (λ (ys : List Entry). string_entry k.0 ∷ ys) (h.1 ∙ (ap (λ (ys : List Entry). listing h.0 ++ ys) g.2 ∙ sym (append_assoc (listing h.0) (members_listing g.0) x))))
+    (member k.0 h.0 g.0, (k.1, h.1, g.1), ap (λ (m : ℕ). suc m) g.2, k.2 ∙ ap (λ (ys : List Entry). string_entry k.0 ∷ ys) (h.2 ∙ (ap (λ (ys : List Entry). listing h.0 ++ ys) g.3 ∙ sym (append_assoc (listing h.0) (members_listing g.0) x))))
 members_more n es value rest None k h g = no_more_members n es value rest k h g
 
 pub members_stop : (n : ℕ) (es value : List Entry) → PassesKey es (Some value) → PassesTree value None → PassesMembers (suc n) es None
 members_stop n es value k h no_members x m = absurd (omega (arith, m))
 members_stop n es value k h (member name t ms) x m = λ e.
-    let both : string_entry k.0 ∷ value ≡ string_entry name ∷ ((listing t ++ members_listing ms) ++ x) = sym k.1 ∙ e in
+    let both : string_entry k.0 ∷ value ≡ string_entry name ∷ ((listing t ++ members_listing ms) ++ x) = sym k.2 ∙ e in
     let behind : value ≡ (listing t ++ members_listing ms) ++ x = cc in
     h t (members_listing ms ++ x) (behind ∙ append_assoc (listing t) (members_listing ms) x)
 
@@ -48,16 +48,16 @@ members_stop_key n es k no_members x m = absurd (omega (arith, m))
 members_stop_key n es k (member name t ms) x m = λ e. k name ((listing t ++ members_listing ms) ++ x) e
 
 pub members_done : (es : List Entry) → PassesMembers 0 es (Some es)
-members_done es = (no_members, refl, refl)
+members_done es = (no_members, tt, refl, refl)
 
 -- A container is a tree where its count is that of what stands beneath it.
 pub list_passes : (len count : ℕ) (es rest : List Entry) → PassesItems len es (Some rest) → length es ≡ count + length rest → PassesTree (list_entry len count ∷ es) (Some rest)
 list_passes len count es rest h n =
-    let a = ap (λ (ys : List Entry). length ys) h.2 ∙ length-append (items_listing h.0) rest in
+    let a = ap (λ (ys : List Entry). length ys) h.3 ∙ length-append (items_listing h.0) rest in
     let same : count ≡ length (items_listing h.0) = omega (arith, a, n) in
-    let is_len : len ≡ items_len h.0 = sym h.1 in
-    let is_rest : es ≡ items_listing h.0 ++ rest = h.2 in
-    (list h.0, cc (same, is_len, is_rest))
+    let is_len : len ≡ items_len h.0 = sym h.2 in
+    let is_rest : es ≡ items_listing h.0 ++ rest = h.3 in
+    (list h.0, h.1, cc (same, is_len, is_rest))
 
 pub list_stops : (len count : ℕ) (es : List Entry) → ((ts : Items) (x : List Entry) → items_len ts ≡ len → length (items_listing ts) ≡ count → es ≢ items_listing ts ++ x) → PassesTree (list_entry len count ∷ es) None
 list_stops len count es h null x = λ e. cc
@@ -77,18 +77,18 @@ list_too_short len count es h = list_stops len count es (λ ts x n m. h ts x n)
 
 pub list_miscounted : (len count : ℕ) (es rest : List Entry) → PassesItems len es (Some rest) → length es ≢ count + length rest → PassesTree (list_entry len count ∷ es) None
 list_miscounted len count es rest h wrong = list_stops len count es (λ ts x n m e.
-    let same = one_items h.0 ts rest x (h.1 ∙ sym n) (sym h.2 ∙ e) in
+    let same = one_items h.0 ts rest x (h.2 ∙ sym n) (sym h.3 ∙ e) in
     let a = ap (λ (ys : List Entry). length ys) e ∙ length-append (items_listing ts) x in
     let b : length rest ≡ length x = ap (λ (ys : List Entry). length ys) same.1 in
     wrong (omega (arith, a, b, m)))
 
 pub object_passes : (len count : ℕ) (es rest : List Entry) → PassesMembers len es (Some rest) → length es ≡ count + length rest → PassesTree (object_entry len count ∷ es) (Some rest)
 object_passes len count es rest h n =
-    let a = ap (λ (ys : List Entry). length ys) h.2 ∙ length-append (members_listing h.0) rest in
+    let a = ap (λ (ys : List Entry). length ys) h.3 ∙ length-append (members_listing h.0) rest in
     let same : count ≡ length (members_listing h.0) = omega (arith, a, n) in
-    let is_len : len ≡ members_len h.0 = sym h.1 in
-    let is_rest : es ≡ members_listing h.0 ++ rest = h.2 in
-    (object h.0, cc (same, is_len, is_rest))
+    let is_len : len ≡ members_len h.0 = sym h.2 in
+    let is_rest : es ≡ members_listing h.0 ++ rest = h.3 in
+    (object h.0, h.1, cc (same, is_len, is_rest))
 
 pub object_stops : (len count : ℕ) (es : List Entry) → ((ms : Members) (x : List Entry) → members_len ms ≡ len → length (members_listing ms) ≡ count → es ≢ members_listing ms ++ x) → PassesTree (object_entry len count ∷ es) None
 object_stops len count es h null x = λ e. cc
@@ -108,7 +108,7 @@ object_too_short len count es h = object_stops len count es (λ ms x n m. h ms x
 
 pub object_miscounted : (len count : ℕ) (es rest : List Entry) → PassesMembers len es (Some rest) → length es ≢ count + length rest → PassesTree (object_entry len count ∷ es) None
 object_miscounted len count es rest h wrong = object_stops len count es (λ ms x n m e.
-    let same = one_members h.0 ms rest x (h.1 ∙ sym n) (sym h.2 ∙ e) in
+    let same = one_members h.0 ms rest x (h.2 ∙ sym n) (sym h.3 ∙ e) in
     let a = ap (λ (ys : List Entry). length ys) e ∙ length-append (members_listing ms) x in
     let b : length rest ≡ length x = ap (λ (ys : List Entry). length ys) same.1 in
     wrong (omega (arith, a, b, m)))

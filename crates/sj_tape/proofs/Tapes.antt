@@ -1,7 +1,7 @@
 -- Entries that are a whole tree, or none at all.
 use Rattle.std.proofs.Common.{◌≡◌, ◌≢◌, ℕ, ◌<◌, ◌≤◌, List, [], ◌∷◌, ◌++◌, drop, length, Option, Some, None, IfSome, option_map, refl, sym, ◌∙◌, ap, subst, arith, append-nil, length-drop}
 use Rattle.std.proofs.lemmas.List.{drop_all}
-use Rattle.sj_base.specs.Tree.{Tree, null}
+use Rattle.sj_base.specs.Tree.{Tree, null, IsTree}
 use Rattle.sj_tape.specs.Listing.{Entry, listing}
 use Rattle.sj_tape.proofs.Listings.{IsListing}
 use Rattle.sj_tape.specs.Listed.{tree_of, listed_tree, option_listing, IsTape}
@@ -58,15 +58,22 @@ tree_fits [] m h fits two = omega (arith, two, ap (λ (t : Tree). length (listin
 tree_fits (n ∷ ns) m h fits two = omega (arith, fits, ap (λ (es : List Entry). length es) (listed_front (n ∷ ns) ns n h refl), length-entries (n ∷ ns))
 
 -- A tree that ends at the end is the whole.
-pub whole : (es : List Entry) (n : ℕ) (r : Option ℕ) → PassesTree (drop 0 es) (option_map (λ (end : ℕ). drop end es) r) → r ≡ Some n → n ≡ length es → (t : Tree) × (es ≡ listing t)
+pub whole : (es : List Entry) (n : ℕ) (r : Option ℕ) → PassesTree (drop 0 es) (option_map (λ (end : ℕ). drop end es) r) → r ≡ Some n → n ≡ length es → (t : Tree) × IsTree t × (es ≡ listing t)
 whole es n r h e m =
     let p : PassesTree (drop 0 es) (Some (drop n es)) = subst (λ (o : Option ℕ). PassesTree (drop 0 es) (option_map (λ (end : ℕ). drop end es) o)) e h in
-    (p.0, p.1 ∙ (ap (λ (ys : List Entry). listing p.0 ++ ys) (drop_all n es (omega (arith, m))) ∙ append-nil (listing p.0)))
+    (p.0, p.1, p.2 ∙ (ap (λ (ys : List Entry). listing p.0 ++ ys) (drop_all n es (omega (arith, m))) ∙ append-nil (listing p.0)))
 
 pub not_whole : (es : List Entry) (n : ℕ) (r : Option ℕ) → PassesTree (drop 0 es) (option_map (λ (end : ℕ). drop end es) r) → IfSome r (λ end. end ≤ n) → r ≢ Some n → n ≡ length es → (t : Tree) → es ≢ listing t
 not_whole es n None h low ne m t = λ e. h t [] (e ∙ sym (append-nil (listing t)))
 not_whole es n (Some x) h low ne m t = λ e.
-    let same = one_listing h.0 t (drop x es) [] (sym h.1 ∙ (e ∙ sym (append-nil (listing t)))) in
+    let same = one_listing h.0 t (drop x es) [] (sym h.2 ∙ (e ∙ sym (append-nil (listing t)))) in
     let none : length (drop x es) ≡ 0 = ap (λ (ys : List Entry). length ys) same.1 in
     let end : x ≡ n = omega (arith, none, length-drop x es, low, m) in
     ne (ap (λ (k : ℕ). Some k) end)
+
+-- A tree that the entries list is the one that is passed.
+pub passed_is_tree : (es : List Entry) (r : Option ℕ) → PassesTree (drop 0 es) (option_map (λ (end : ℕ). drop end es) r) → (t : Tree) → es ≡ listing t → IsTree t
+passed_is_tree es None h t e = absurd (h t [] (e ∙ sym (append-nil (listing t))))
+passed_is_tree es (Some x) h t e =
+    let same = one_listing h.0 t (drop x es) [] (sym h.2 ∙ (e ∙ sym (append-nil (listing t)))) in
+    subst (λ (u : Tree). IsTree u) same.0 h.1

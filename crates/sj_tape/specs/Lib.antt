@@ -11,3 +11,4 @@ pub mod Compare
 pub mod Layouts
 pub mod ByName
 pub mod ChildLaws
+pub mod ViewLaws

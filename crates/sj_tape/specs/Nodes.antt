@@ -1,7 +1,8 @@
 -- What nodes stand for.
-use Rattle.std.specs.Prelude.{ℕ, pos, List, map}
+use Rattle.std.specs.Prelude.{ℕ, pos, List, map, Option, Some, None}
+use Rattle.sj_base.specs.Tree.{Tree, decimal, string}
 use Rattle.sj_base.specs.Literal.{decimal_text}
-use Rattle.sj_base.specs.Scalar.{static_type}
+use Rattle.sj_base.specs.Scalar.{static_tree, static_type}
 use Rattle.sj_base.specs.declared.static_node.ValueType.{ValueType}
 use Rattle.sj_base.specs.declared.static_node.ValueType.TheVariants.{Decimal as decimal_type, String as string_type, Array as array_type, Object as object_type}
 use Rattle.sj_base.specs.declared.static_node.StaticNode.{StaticNode}
@@ -34,6 +35,14 @@ node_type (Object len count) = object_type
 node_type (Array len count) = array_type
 node_type (Static s) = static_type s
 node_type (Decimal d) = decimal_type
+
+-- the tree of a node that is a value without others beneath
+abbrev pub leaf_tree : Node → Option Tree
+leaf_tree (String s) = Some (string s.now)
+leaf_tree (Object len count) = None
+leaf_tree (Array len count) = None
+leaf_tree (Static s) = Some (static_tree s)
+leaf_tree (Decimal d) = Some (decimal (decimal_text d))
 
 -- how many nodes stand beneath
 abbrev pub node_count : Node → ℕ

@@ -2,10 +2,10 @@
 ghost use Rattle.std.specs.Prelude.{◌≡◌, ◌↔◌, ◌-◌, ◌<◌, ℕ, IsTrue, IfSome, MatchOption, Some, None, option_map, [], ◌∷◌, length, map};
 ghost use Rattle.std.specs.Iterator.{YieldsFirstBy, UpTo, item_count};
 ghost use Rattle.std.specs.Iterator.SizeHint.{IsWithinCount};
-ghost use Rattle.sj_base.specs.Tree.{no_items, item};
+ghost use Rattle.sj_base.specs.Tree.{no_items, item, AreTrees};
 ghost use Rattle.sj_base.specs.Path.{item_at};
 ghost use Rattle.sj_base.specs.Containers.{items_len, item_trees};
-ghost use Rattle.sj_tape.specs.Listed.{ListsItems};
+ghost use Rattle.sj_tape.specs.Listed.{ListsItems, listed_items};
 ghost use Rattle.sj_tape.specs.Nodes.{entries};
 
 use crate::node::Node;
@@ -18,6 +18,7 @@ pub struct Array<'t, 'i> {
     pub(crate) len: usize,
     pub(crate) nodes: &'t [Node<'i>],
     ghost items: { ListsItems len (entries nodes.now) },
+    ghost are_trees: { ∥ AreTrees (listed_items len (entries nodes.now)) ∥₁ },
 }
 
 impl<'t, 'i> Array<'t, 'i> {

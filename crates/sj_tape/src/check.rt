@@ -17,7 +17,7 @@ pub(crate) fn tree_end(nodes: &[Node<'_>], start: usize) -> Option<usize>
         Node::Object { len, count } => {
             counted(start + 1, members_end(nodes, start + 1, len)?, count)
         }
-        Node::String(_) | Node::Static(_) | Node::Decimal(_) => Some(start + 1),
+        leaf => leaf.scalar().and(Some(start + 1)),
     }
 }
 

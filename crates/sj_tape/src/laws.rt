@@ -1,6 +1,7 @@
 //! Laws of the definitions that the contracts cite: each function has no code, and its contract is the law.
 ghost use Rattle.sj_tape.specs.ChildLaws.{ChildrenByCounts, SeenMembers, ItemsByPlace, MembersByKey};
 ghost use Rattle.sj_tape.specs.Laws.{OneListing, ListingBack};
+ghost use Rattle.sj_tape.specs.ViewLaws.{TapesAreTrees, ValuesAreTrees, ArraysAreTrees, ObjectsAreMembers};
 
 /// A listing has one tree: its keys and the order of its members show.
 pub fn one_listing()
@@ -30,4 +31,12 @@ pub fn items_by_place()
 /// `get` of an object finds the nodes of the first member with that key that `iter` gives.
 pub fn members_by_key()
     ensures { MembersByKey }
+{}
+
+/// The tree of a tape or a view is one that there is, and so are the items of an array and the members of an object.
+pub fn trees_of_views()
+    ensures tapes { TapesAreTrees }
+    ensures values { ValuesAreTrees }
+    ensures arrays { ArraysAreTrees }
+    ensures objects { ObjectsAreMembers }
 {}

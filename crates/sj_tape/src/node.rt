@@ -1,7 +1,9 @@
 //! The nodes of a tape.
-ghost use Rattle.std.specs.Prelude.{◌≡◌, [], ◌∷◌, MatchOption};
+ghost use Rattle.std.specs.Prelude.{◌≡◌, [], ◌∷◌, IfSome, MatchOption, option_map};
+ghost use Rattle.sj_base.specs.Scalar.{scalar_tree, scalar_type};
+ghost use Rattle.sj_base.specs.Tree.{IsTree};
 
-use sj_base::{Decimal, StaticNode, ValueType};
+use sj_base::{Decimal, Scalar, StaticNode, ValueType};
 
 /// One value, or one key, in the preorder of a document (`simd_json::Node`). `len` is the number of items or members,
 /// `count` the number of nodes beneath.
@@ -19,8 +21,8 @@ pub enum Node<'i> {
     Decimal(Decimal<'i>),
 }
 
-impl Node<'_> {
-    ghost use Rattle.sj_tape.specs.Nodes.{node_type, node_count};
+impl<'i> Node<'i> {
+    ghost use Rattle.sj_tape.specs.Nodes.{leaf_tree, node_type, node_count};
 
     /// The type, which tells the carrier of an integer.
     pub fn value_type(&self) -> ValueType
@@ -32,6 +34,23 @@ impl Node<'_> {
             Node::Array { .. } => ValueType::Array,
             Node::Static(node) => node.value_type(),
             Node::Decimal(_) => ValueType::Decimal,
+        }
+    }
+
+    // The value, where it holds no other value.
+    pub(crate) fn scalar(&self) -> Option<Scalar<'i>>
+        ensures tree { option_map scalar_tree result ≡ leaf_tree self.now }
+        ensures is_tree { IfSome result (λ s. IsTree (scalar_tree s)) }
+        ensures kind { IfSome result (λ s. scalar_type s ≡ node_type self.now) }
+    {
+        match self {
+            // An integer is in the range of its carrier.
+            Node::Static(StaticNode::I64(n)) => Some(Scalar::Static(StaticNode::I64(*n))),
+            Node::Static(StaticNode::U64(n)) => Some(Scalar::Static(StaticNode::U64(*n))),
+            Node::Static(node) => Some(Scalar::Static(*node)),
+            Node::String(text) => Some(Scalar::Text(text)),
+            Node::Decimal(literal) => Some(Scalar::Literal(*literal)),
+            Node::Array { .. } | Node::Object { .. } => None,
         }
     }
 

@@ -2,10 +2,10 @@
 ghost use Rattle.std.specs.Prelude.{◌≡◌, ◌↔◌, ℕ, IsTrue, IfSome, MatchOption, Some, None, option_map, List, [], ◌∷◌, length, map, bytes_eq, cond};
 ghost use Rattle.std.specs.Iterator.{YieldsFirstBy, UpTo, item_count};
 ghost use Rattle.std.specs.Iterator.SizeHint.{IsWithinCount};
-ghost use Rattle.sj_base.specs.Tree.{no_members, member};
+ghost use Rattle.sj_base.specs.Tree.{no_members, member, AreMembers};
 ghost use Rattle.sj_base.specs.Path.{member_at};
 ghost use Rattle.sj_base.specs.Containers.{members_len, member_pairs};
-ghost use Rattle.sj_tape.specs.Listed.{ListsMembers};
+ghost use Rattle.sj_tape.specs.Listed.{ListsMembers, listed_members};
 ghost use Rattle.sj_tape.specs.Nodes.{entries};
 
 use crate::node::{Node, take_node};
@@ -18,6 +18,7 @@ pub struct Object<'t, 'i> {
     pub(crate) len: usize,
     pub(crate) nodes: &'t [Node<'i>],
     ghost members: { ListsMembers len (entries nodes.now) },
+    ghost are_members: { ∥ AreMembers (listed_members len (entries nodes.now)) ∥₁ },
 }
 
 impl<'t, 'i> Object<'t, 'i> {

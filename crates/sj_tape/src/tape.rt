@@ -1,8 +1,8 @@
 //! A whole document as one flat list of nodes.
 ghost use Rattle.std.specs.Prelude.{◌≡◌, ◌≢◌, ◌↔◌, [], ◌∷◌, Some, IsTrue, IsSome, IfSome, IfOk};
-ghost use Rattle.sj_base.specs.Tree.{Tree, null};
+ghost use Rattle.sj_base.specs.Tree.{Tree, null, IsTree};
 ghost use Rattle.sj_tape.specs.Listing.{listing};
-ghost use Rattle.sj_tape.specs.Listed.{IsTape};
+ghost use Rattle.sj_tape.specs.Listed.{IsTape, tree_of};
 ghost use Rattle.sj_tape.specs.Nodes.{entries};
 
 use crate::check::tree_end;
@@ -16,6 +16,7 @@ use std::alloc::{AllocError, Global};
 pub struct Tape<'i> {
     nodes: Vec<Node<'i>>,
     ghost listed: { IsTape (entries nodes.items) },
+    ghost is_tree: { ∥ IsTree (tree_of (entries nodes.items)) ∥₁ },
 }
 
 impl<'i> Tape<'i> {
@@ -28,6 +29,7 @@ impl<'i> Tape<'i> {
         ensures nodes { IfSome result (λ tape. tape_nodes tape ≡ nodes.entry.items) }
         ensures tree { (t : Tree) → entries nodes.entry.items ≡ listing t
             → IfSome result (λ tape. tape_tree tape ≡ Some t) }
+        ensures is_tree { (t : Tree) → entries nodes.entry.items ≡ listing t → IsTree t }
     {
         if tree_end(&nodes, 0) == Some(nodes.len()) {
             Some(Tape { nodes })
@@ -80,6 +82,7 @@ impl<'i> Tape<'i> {
         requires { tape_nodes self.now ≢ [] }
         ensures nodes { value_nodes result ≡ tape_nodes self.now }
         ensures tree { tape_tree self.now ≡ Some (value_tree result) }
+        ensures is_tree { IsTree (value_tree result) }
     {
         Value {
             nodes: self.nodes(),

@@ -1,12 +1,12 @@
 //! Views of the values of a tape.
 ghost use Rattle.std.specs.Prelude.{◌≡◌, ◌++◌, List, Some, IfOk, IfSome, is_some, ok_or, option_and_then, option_map};
 ghost use Rattle.sj_base.specs.Containers.{items_in, members_in, scalar_in};
-ghost use Rattle.sj_base.specs.Tree.{Tree, null};
+ghost use Rattle.sj_base.specs.Tree.{Tree, null, IsTree};
 ghost use Rattle.sj_base.specs.Path.{key, place, member_at, item_at, child};
 ghost use Rattle.sj_base.specs.Scalar.{scalar_tree, scalar_type};
 ghost use Rattle.sj_reads.specs.Reads.{mismatch, str_read};
 ghost use Rattle.sj_tape.specs.Listing.{Entry, listing};
-ghost use Rattle.sj_tape.specs.Listed.{IsTape};
+ghost use Rattle.sj_tape.specs.Listed.{IsTape, tree_of};
 ghost use Rattle.sj_tape.specs.Nodes.{entries};
 
 use crate::array::Array;
@@ -21,6 +21,7 @@ pub struct Value<'t, 'i> {
     // Those of the value; none for the null that stands in no tape.
     pub(crate) nodes: &'t [Node<'i>],
     ghost listed: { IsTape (entries nodes.now) },
+    ghost is_tree: { ∥ IsTree (tree_of (entries nodes.now)) ∥₁ },
 }
 
 impl<'t, 'i> Value<'t, 'i> {
@@ -39,7 +40,7 @@ impl<'t, 'i> Value<'t, 'i> {
 
     // The value that the nodes begin with, and the nodes behind it.
     pub(crate) fn split_from(nodes: &'t [Node<'i>]) -> (Value<'t, 'i>, &'t [Node<'i>])
-        requires { (t : Tree) × (rest : List Entry) × (entries nodes.now ≡ listing t ++ rest) }
+        requires { (t : Tree) × (rest : List Entry) × IsTree t × (entries nodes.now ≡ listing t ++ rest) }
         ensures parts { nodes.now ≡ value_nodes result.0 ++ result.1.now }
         ensures tree { (t : Tree) (rest : List Entry) → entries nodes.now ≡ listing t ++ rest
             → (value_tree result.0 ≡ t) × (entries result.1.now ≡ rest) }
@@ -254,14 +255,9 @@ impl<'t, 'i> Value<'t, 'i> {
         ensures tree { option_map scalar_tree result ≡ scalar_in (value_tree self.now) }
         ensures kind { IfSome result (λ s. scalar_type s ≡ value_kind self.now) }
     {
-        let Some((first, _)) = take_node(self.nodes) else {
-            return Some(Scalar::Static(StaticNode::Null));
-        };
-        match first {
-            Node::Static(node) => Some(Scalar::Static(node)),
-            Node::String(text) => Some(Scalar::Text(text)),
-            Node::Decimal(literal) => Some(Scalar::Literal(literal)),
-            Node::Array { .. } | Node::Object { .. } => None,
+        match take_node(self.nodes) {
+            Some((first, _)) => first.scalar(),
+            None => Some(Scalar::Static(StaticNode::Null)),
         }
     }
 

@@ -2,7 +2,7 @@ use Rattle.std.proofs.Common.{rules, arith, ◌≡◌, ◌+◌, ◌<◌, ◌≤�
 use Rattle.sj_tape.specs.Listing.{Entry, list_entry, object_entry}
 use Rattle.sj_tape.specs.Nodes.{entries}
 use Rattle.sj_tape.specs.Passing.{PassesTree, PassesItems, PassesMembers}
-use Rattle.sj_tape.proofs.NodeLists.{length-entries, leaf_passes}
+use Rattle.sj_tape.proofs.NodeLists.{length-entries}
 use Rattle.sj_tape.proofs.Passings.{no_tree, items_failed, items_step, items_finished, members_failed_key, members_failed, members_step, members_finished, list_failed, object_failed, list_counted, object_counted}
 use Rattle.sj_tape.proofs.check.+check.Goals as goal
 
@@ -52,12 +52,12 @@ members_end-returns-clause-passes t c =
     let es : List Entry = entries c.args.nodes.now in
     members_finished c.args.len c.loop-i._i (drop c.args.start es) (drop c.loop-i.end es) (omega arith) c.loop-i.invariant.2
 
-pub tree_end-returns-in_err-len-clause-passes : goal.tree_end-returns-in_err-len-clause-passes
-tree_end-returns-in_err-len-clause-passes t c =
+pub tree_end-returns-in_err-leaf-clause-passes : goal.tree_end-returns-in_err-leaf-clause-passes
+tree_end-returns-in_err-leaf-clause-passes t c =
     let es : List Entry = entries c.args.nodes.now in
     let none : c.from_residual.result ≡ None = search rules in
     subst (λ (r : Option ℕ). PassesTree (drop c.args.start es) (option_map (λ (end : ℕ). drop end es) r)) (sym none)
-    (no_tree (drop c.args.start es) c.in_err-len.ensures)
+    (no_tree (drop c.args.start es) c.in_err-leaf.ensures)
 
 pub tree_end-returns-in_err-items_end-in-Array-clause-passes : goal.tree_end-returns-in_err-items_end-in-Array-clause-passes
 tree_end-returns-in_err-items_end-in-Array-clause-passes t c =
@@ -91,8 +91,3 @@ tree_end-returns-in_ok-members_end-in-Object-clause-passes t c =
     let b : (c.args.start + 1 ≤ c.in_ok-members_end-in-Object.field-0) × (c.in_ok-members_end-in-Object.field-0 ≤ length c.args.nodes.now) = c.in_ok-members_end-in-Object.ensures.bounds in
     object_counted es c.args.start c.in_ok-members_end-in-Object.field-0 c.in-Object.len c.in-Object.count c.counted-in-Object.result front (omega arith) (omega arith) c.in_ok-members_end-in-Object.ensures.passes c.counted-in-Object.ensures
 
-pub tree_end-returns-in-String : goal.tree_end-returns-in-String
-tree_end-returns-in-String t c =
-    let es : List Entry = entries c.args.nodes.now in
-    let within : c.args.start < length c.args.nodes.now = c.in_ok-len.ensures.0 in
-    record { passes = leaf_passes c.in_ok-len.field-0 (drop c.args.start es) (drop (c.args.start + 1) es) c.in-String.is c.in_ok-len.ensures.1; bounds = (omega arith, omega arith) }

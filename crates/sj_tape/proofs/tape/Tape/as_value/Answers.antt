@@ -1,15 +1,24 @@
-use Rattle.std.proofs.Common.{◌≢◌, List, [], Some, ap, subst, sym, ◌∙◌}
+use Rattle.std.proofs.Common.{◌≡◌, ◌≢◌, List, [], Some, ap, subst, sym, ◌∙◌}
 use Rattle.sj_tape.specs.Listed.{IsTape, tree_of}
 use Rattle.sj_tape.specs.Nodes.{entries}
 use Rattle.sj_tape.specs.declared.node.Node.{Node}
+use Rattle.sj_base.specs.Tree.{IsTree}
+use Rattle.sj_tape.proofs.AreTrees.{tree_found}
 use Rattle.sj_tape.proofs.Tapes.{listed_tree-some, entries_nil}
 use Rattle.sj_tape.proofs.tape.Tape.as_value.Goals as goal
 
 pub invariant_of-result : goal.invariant_of-result
-invariant_of-result c = record { listed = subst (λ (ms : List Node). IsTape (entries ms)) (sym c.nodes.ensures) c.args.self.now.listed }
+invariant_of-result c =
+    let same : c.args.self.now.nodes.items ≡ c.nodes.result.now = sym c.nodes.ensures in
+    record { listed = subst (λ (ms : List Node). IsTape (entries ms)) same c.args.self.now.listed; is_tree = subst (λ (ms : List Node). ∥ IsTree (tree_of (entries ms)) ∥₁) same c.args.self.now.is_tree }
 
 pub returns-clause-tree : goal.returns-clause-tree
 returns-clause-tree c =
     let ns : List Node = c.args.self.now.nodes.items in
     let some : entries ns ≢ [] = λ e. c.requires (entries_nil ns e) in
     listed_tree-some (entries ns) some ∙ ap (λ (ms : List Node). Some (tree_of (entries ms))) (sym c.nodes.ensures)
+
+pub returns-clause-is_tree : goal.returns-clause-is_tree
+returns-clause-is_tree c =
+    let ns : List Node = c.args.self.now.nodes.items in
+    subst (λ (ms : List Node). IsTree (tree_of (entries ms))) (sym c.nodes.ensures) (tree_found (tree_of (entries ns)) c.args.self.now.is_tree)

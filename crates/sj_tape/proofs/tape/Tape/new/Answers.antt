@@ -5,7 +5,8 @@ use Rattle.sj_tape.specs.Nodes.{entries}
 use Rattle.sj_tape.specs.Passing.{PassesTree}
 use Rattle.sj_tape.specs.declared.node.Node.{Node}
 use Rattle.sj_tape.proofs.NodeLists.{length-entries}
-use Rattle.sj_tape.proofs.Tapes.{whole, not_whole, is_tape, listed_tree-listing}
+use Rattle.sj_tape.proofs.AreTrees.{is_tree}
+use Rattle.sj_tape.proofs.Tapes.{whole, not_whole, passed_is_tree, is_tape, listed_tree-listing}
 use Rattle.sj_tape.proofs.tape.Tape.new.Goals as goal
 
 pub invariant_of-result : goal.invariant_of-result
@@ -16,7 +17,7 @@ invariant_of-result c =
     let same : c.deref.result.now ≡ c.args.nodes.items = c.deref.ensures.value in
     let passes : PassesTree (drop 0 es) (option_map (λ (x : ℕ). drop x es) c.tree_end.result) = subst (λ (ns : List Node). PassesTree (drop 0 (entries ns)) (option_map (λ (x : ℕ). drop x (entries ns)) c.tree_end.result)) same c.tree_end.ensures.passes in
     let tree = whole es c.len.result c.tree_end.result passes end all in
-    record { listed = is_tape es tree.0 tree.1 }
+    record { listed = is_tape es tree.0 tree.2; is_tree = is_tree es tree.0 tree.2 tree.1 }
 
 pub returns-clause-accepts : goal.returns-clause-accepts
 returns-clause-accepts c =
@@ -30,3 +31,13 @@ returns-clause-accepts c =
 
 pub returns-then-eq-clause-tree : goal.returns-then-eq-clause-tree
 returns-then-eq-clause-tree c = λ t e. listed_tree-listing (entries c.args.nodes.items) t e
+
+pub returns-then-eq-clause-is_tree : goal.returns-then-eq-clause-is_tree
+returns-then-eq-clause-is_tree c = λ t e.
+    let passes = subst (λ (ns : List Node). PassesTree (drop 0 (entries ns)) (option_map (λ (x : ℕ). drop x (entries ns)) c.tree_end.result)) c.deref.ensures.value c.tree_end.ensures.passes in
+    passed_is_tree (entries c.args.nodes.items) c.tree_end.result passes t e
+
+pub returns-clause-is_tree : goal.returns-clause-is_tree
+returns-clause-is_tree c = λ t e.
+    let passes = subst (λ (ns : List Node). PassesTree (drop 0 (entries ns)) (option_map (λ (x : ℕ). drop x (entries ns)) c.tree_end.result)) c.deref.ensures.value c.tree_end.ensures.passes in
+    passed_is_tree (entries c.args.nodes.items) c.tree_end.result passes t e
