@@ -13,9 +13,11 @@ use Rattle.sj_tape.specs.Listing.{Entry, listing, items_listing, members_listing
 use Rattle.sj_tape.specs.Listed.{tree_of, listed_tree, listed_items, listed_members}
 use Rattle.sj_tape.proofs.Listings.{tree_from, items_from, members_from}
 
+-- a text that is known to be UTF-8 is: a test tells
 utf8_found : (bs : List ℕ) → ∥ IsUtf8 bs ∥₁ → IsUtf8 bs
 utf8_found bs h = IsUtf8-from_is_utf8 bs (∥∥₁_elim h (Bool-set (is_utf8 bs) true) (is_utf8-from_IsUtf8 bs))
 
+-- so is an integer's range
 range_found : (n : ℤ) → ∥ IsInRange n ∥₁ → IsInRange n
 range_found (pos n) h = ∥∥₁_elim h le_prop (λ x. x)
 range_found (negsuc n) h = ∥∥₁_elim h le_prop (λ x. x)

@@ -21,4 +21,3 @@ static_listing Null = refl
 static_listing (Boolean b) = refl
 static_listing (I64 n) = refl
 static_listing (U64 n) = refl
-

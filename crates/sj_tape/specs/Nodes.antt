@@ -36,7 +36,7 @@ node_type (Array len count) = array_type
 node_type (Static s) = static_type s
 node_type (Decimal d) = decimal_type
 
--- the tree of a node that is a value without others beneath
+-- the tree of a node that is a value without others beneath; only a clause of a private function cites it
 abbrev pub leaf_tree : Node → Option Tree
 leaf_tree (String s) = Some (string s.now)
 leaf_tree (Object len count) = None

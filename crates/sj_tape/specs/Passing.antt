@@ -1,5 +1,5 @@
--- What is left of entries behind a tree that there is, or behind so many items or members, where they begin so. Where they
--- don't, they list no such tree, item or member at all.
+-- What is left of entries behind a tree that there is, or behind so many items or members, where they begin so.
+-- Where they don't, no tree at all is listed there, nor so many items or members.
 use Rattle.std.specs.Prelude.{◌≡◌, ◌≢◌, ℕ, List, ◌∷◌, ◌++◌, Option, Some, None, IsUtf8}
 use Rattle.sj_base.specs.Tree.{Tree, Items, Members, IsTree, AreTrees, AreMembers}
 use Rattle.sj_base.specs.Containers.{items_len, members_len}

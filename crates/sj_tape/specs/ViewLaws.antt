@@ -1,6 +1,7 @@
 -- Laws of tapes and views.
-use Rattle.std.specs.Prelude.{IfSome}
-use Rattle.sj_base.specs.Tree.{IsTree, AreTrees, AreMembers}
+use Rattle.std.specs.Prelude.{ℕ, List, IfSome}
+use Rattle.sj_base.specs.Tree.{Tree, IsTree, AreTrees, AreMembers}
+use Rattle.sj_base.specs.Spelling.{Spells}
 use Rattle.sj_tape.specs.Views.{tape_tree, value_tree, array_items, object_members}
 use Rattle.sj_tape.specs.declared.array.Array.{Array}
 use Rattle.sj_tape.specs.declared.object.Object.{Object}
@@ -19,3 +20,7 @@ ArraysAreTrees = (a : Array) → AreTrees (array_items a)
 
 abbrev pub ObjectsAreMembers : Type 0
 ObjectsAreMembers = (o : Object) → AreMembers (object_members o)
+
+-- What prints the tree of a view, compact or with line breaks, spells it.
+abbrev pub ValuesPrintBack : (Tree → List ℕ) → Type 0
+ValuesPrintBack print = (v : Value) → Spells (print (value_tree v)) (value_tree v)

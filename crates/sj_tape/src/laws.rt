@@ -1,7 +1,10 @@
-//! Laws of the definitions that the contracts cite: each function has no code, and its contract is the law.
 ghost use Rattle.sj_tape.specs.ChildLaws.{ChildrenByCounts, SeenMembers, ItemsByPlace, MembersByKey};
+//! Laws of the definitions that the contracts cite: each function does nothing, and its contract is the law.
+ghost use Rattle.sj_base.specs.Text.{text, pretty};
 ghost use Rattle.sj_tape.specs.Laws.{OneListing, ListingBack};
-ghost use Rattle.sj_tape.specs.ViewLaws.{TapesAreTrees, ValuesAreTrees, ArraysAreTrees, ObjectsAreMembers};
+ghost use Rattle.sj_tape.specs.ViewLaws.{TapesAreTrees, ValuesAreTrees, ArraysAreTrees, ObjectsAreMembers, ValuesPrintBack};
+
+use sj_base::laws::printing_reads_back;
 
 /// A listing has one tree: its keys and the order of its members show.
 pub fn one_listing()
@@ -40,3 +43,11 @@ pub fn trees_of_views()
     ensures arrays { ArraysAreTrees }
     ensures objects { ObjectsAreMembers }
 {}
+
+/// What `encode` and `encode_pp` append spells the tree of the value.
+pub fn texts_of_values()
+    ensures compact { ValuesPrintBack text }
+    ensures indented { ValuesPrintBack pretty }
+{
+    printing_reads_back();
+}

@@ -44,7 +44,7 @@ impl<'i> Node<'i> {
         ensures kind { IfSome result (λ s. scalar_type s ≡ node_type self.now) }
     {
         match self {
-            // An integer is in the range of its carrier.
+            // Integers are in the range of their carrier.
             Node::Static(StaticNode::I64(n)) => Some(Scalar::Static(StaticNode::I64(*n))),
             Node::Static(StaticNode::U64(n)) => Some(Scalar::Static(StaticNode::U64(*n))),
             Node::Static(node) => Some(Scalar::Static(*node)),

@@ -90,4 +90,3 @@ tree_end-returns-in_ok-members_end-in-Object-clause-passes t c =
     let front : drop c.args.start es ≡ object_entry c.in-Object.len c.in-Object.count ∷ drop (c.args.start + 1) es = search rules in
     let b : (c.args.start + 1 ≤ c.in_ok-members_end-in-Object.field-0) × (c.in_ok-members_end-in-Object.field-0 ≤ length c.args.nodes.now) = c.in_ok-members_end-in-Object.ensures.bounds in
     object_counted es c.args.start c.in_ok-members_end-in-Object.field-0 c.in-Object.len c.in-Object.count c.counted-in-Object.result front (omega arith) (omega arith) c.in_ok-members_end-in-Object.ensures.passes c.counted-in-Object.ensures
-
