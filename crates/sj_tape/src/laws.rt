@@ -1,5 +1,5 @@
-ghost use Rattle.sj_tape.specs.ChildLaws.{ChildrenByCounts, SeenMembers, ItemsByPlace, MembersByKey};
 //! Laws of the definitions that the contracts cite: each function does nothing, and its contract is the law.
+ghost use Rattle.sj_tape.specs.ChildLaws.{ChildrenByCounts, SeenMembers, ItemsByPlace, MembersByKey};
 ghost use Rattle.sj_base.specs.Text.{text, pretty};
 ghost use Rattle.sj_tape.specs.Laws.{OneListing, ListingBack};
 ghost use Rattle.sj_tape.specs.ViewLaws.{TapesAreTrees, ValuesAreTrees, ArraysAreTrees, ObjectsAreMembers, ValuesPrintBack};
