@@ -1,5 +1,5 @@
 -- Worked values: the scripts that words name.
-use Rattle.std.specs.Prelude.{◌≡◌, refl, true, false, codes, [], ◌∷◌, Some}
+use Rattle.std.specs.Prelude.{◌≡◌, refl, false, codes, [], ◌∷◌, Some}
 use Rattle.clap.specs.Walk.{walked}
 use Rattle.clap.specs.Takes.{takes, walk_passes}
 use Rattle.records_cli.specs.Words.{NamesScript, app, script_of}
