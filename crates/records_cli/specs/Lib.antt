@@ -1,3 +1,4 @@
 pub mod Fault
 pub mod Program
+pub mod Rows
 pub mod Words

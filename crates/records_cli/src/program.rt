@@ -130,7 +130,7 @@ impl Named for Brand {
     ghost name = { 0 };
 }
 
-/// The output of a run. What it refers to stays the same, whoever writes to it.
+/// The output of a run. It keeps its reference, whoever writes to it, so that what was written stands in that output.
 struct Lent<'a, O, N: Named> {
     output: &'a mut O,
     of: PhantomData<N>,
