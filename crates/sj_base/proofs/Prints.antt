@@ -14,11 +14,14 @@ level_more i =
     let count : 2 * i + 2 ≡ 2 * (i + 1) = omega arith in
     replicate-append-replicate (2 * i) 2 0x20 ∙ ap (λ (n : ℕ). replicate n 0x20) count
 
+two_first : (n : ℕ) → 0x20 ∷ 0x20 ∷ replicate n 0x20 ≡ replicate {A = ℕ} (2 + n) 0x20
+two_first n = replicate-append-replicate 2 n 0x20
+
 -- those so far, two more, and those of the levels behind
 pub levels_left : (level i : ℕ) → i < level → replicate (2 * i) 0x20 ++ (0x20 ∷ 0x20 ∷ replicate (2 * (level - i - 1)) 0x20) ≡ replicate {A = ℕ} (2 * level) 0x20
 levels_left level i within =
     let count : 2 * i + (2 + 2 * (level - i - 1)) ≡ 2 * level = omega arith in
-    ap (λ (xs : List ℕ). replicate (2 * i) 0x20 ++ xs) (replicate-append-replicate 2 (2 * (level - i - 1)) 0x20)
+    ap (λ (xs : List ℕ). replicate (2 * i) 0x20 ++ xs) (two_first (2 * (level - i - 1)))
     ∙ replicate-append-replicate (2 * i) (2 + 2 * (level - i - 1)) 0x20
     ∙ ap (λ (n : ℕ). replicate n 0x20) count
 

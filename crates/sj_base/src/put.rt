@@ -123,8 +123,19 @@ fn print_int<O: Output, I: Integer>(out: &mut O, n: I) -> Result<(), O::Fault>
     out.put(buffer.format(n).as_bytes())
 }
 
-// Copies the runs that need no escape as they are.
 fn print_body<O: Output>(out: &mut O, text: &[u8]) -> Result<(), O::Fault>
+    ensures ok { OnOk result (O.appends out.old out.new (flat_map escaped text.now)) }
+    ensures err { OnErr result (O.begins out.old out.new (flat_map escaped text.now)) }
+{
+    if is_plain_text(text) {
+        out.put(text)
+    } else {
+        print_runs(out, text)
+    }
+}
+
+// Copies the runs that need no escape as they are.
+fn print_runs<O: Output>(out: &mut O, text: &[u8]) -> Result<(), O::Fault>
     ensures ok { OnOk result (O.appends out.old out.new (flat_map escaped text.now)) }
     ensures err { OnErr result (O.begins out.old out.new (flat_map escaped text.now)) }
 {
@@ -137,6 +148,17 @@ fn print_body<O: Output>(out: &mut O, text: &[u8]) -> Result<(), O::Fault>
         }
     }
     out.put(&text[copied..])
+}
+
+// Whether no byte needs an escape. It looks at every byte in any case, so that many are looked at together.
+fn is_plain_text(text: &[u8]) -> bool
+    ensures { IsTrue result → flat_map escaped text.now ≡ text.now }
+{
+    let mut plain = true;
+    for byte in text {
+        plain &= is_plain(*byte);
+    }
+    plain
 }
 
 fn is_plain(byte: u8) -> bool

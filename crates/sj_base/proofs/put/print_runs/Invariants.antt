@@ -1,7 +1,7 @@
 use Rattle.std.proofs.Common.{◌≡◌, List, ℕ, ◌++◌, ◌≤◌, take, flat_map}
 use Rattle.std.specs.Prelude.{slice_range}
 use Rattle.sj_base.specs.Text.{escaped}
-use Rattle.sj_base.proofs.put.print_body.Given as goal
+use Rattle.sj_base.proofs.put.print_runs.Given as goal
 
 -- the run from `copied` on stands raw, and all before it is in `out`
 abbrev pub invariant-loop-i : goal.invariant-loop-i

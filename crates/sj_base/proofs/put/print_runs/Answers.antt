@@ -3,8 +3,8 @@ use Rattle.std.specs.Prelude.{slice_range}
 use Rattle.sj_base.specs.Text.{escaped}
 use Rattle.sj_base.proofs.Prints.{on_err, body_split}
 use Rattle.sj_base.proofs.Runs.{shown_more, plain_more, escape_more}
-use Rattle.sj_base.proofs.put.print_body.Goals as goal
-use Rattle.sj_base.proofs.put.print_body.Goals.{then-not-is_plain+in_ok-put+in_ok-print_escape, else-not-is_plain}
+use Rattle.sj_base.proofs.put.print_runs.Goals as goal
+use Rattle.sj_base.proofs.put.print_runs.Goals.{then-not-is_plain+in_ok-put+in_ok-print_escape, else-not-is_plain}
 
 pub returns-in_err-put-clause-err : goal.returns-in_err-put-clause-err
 returns-in_err-put-clause-err g c =
