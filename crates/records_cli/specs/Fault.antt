@@ -1,5 +1,7 @@
 -- The statuses and the lines of the program's faults.
 use Rattle.std.specs.Prelude.{ℕ, List, [], ◌∷◌, ◌++◌, codes, string_bytes}
+use Rattle.sj_records.specs.FaultText.{fault_text}
+use Rattle.sj_records.specs.declared.script.ScriptFault.{ScriptFault}
 use Rattle.records_cli.specs.declared.fault.Fault.{Fault}
 use Rattle.records_cli.specs.declared.load.LoadFault.{LoadFault}
 use Rattle.records_cli.specs.declared.load.LoadFault.TheVariants.{Memory as NoRoom, Unreadable as NoFile}
@@ -36,3 +38,7 @@ of_run RunMemory = Memory
 of_run RunWrite = Write
 of_run RunRead = Read
 of_run TooManyReads = Read
+
+-- the line that tells why a script is refused
+abbrev pub refusal_line : ScriptFault → List ℕ
+refusal_line fault = codes "records: script: " ++ (fault_text fault ++ 10 ∷ [])

@@ -1,5 +1,5 @@
 -- What the program has written when it ends.
-use Rattle.std.specs.Prelude.{◌≡◌, ℕ, List, Option, Some, Result, Ok, Err, OnOk, Vec}
+use Rattle.std.specs.Prelude.{◌≡◌, ℕ, List, Option, Some, Result, Ok, Err, OnOk, Vec, ⊤}
 use Rattle.std.specs.Io.KnownBytes.{IsAtEnd}
 use Rattle.std.specs.declared.alloc.Global.{Global}
 use Rattle.sj_records.specs.Command.{Step}
@@ -7,10 +7,15 @@ use Rattle.sj_records.specs.Record.{IsReadAs}
 use Rattle.sj_records.specs.Run.{Transfers, Leaves, WritesAll, WritesSome, WritesEnded, WritesPrefix}
 use Rattle.sj_records.specs.declared.form.Form.TheVariants.{Owned}
 use Rattle.sj_records.specs.declared.run_error.RunError.{RunError}
-use Rattle.records_cli.specs.Words.{script_of}
+use Rattle.sj_records.specs.Command.{json, not_an_array, command}
+use Rattle.sj_records.specs.declared.script.ScriptFault.{ScriptFault}
+use Rattle.sj_records.specs.declared.script.ScriptFault.TheVariants.{Json, NotAnArray, Command, Memory}
+use Rattle.records_cli.specs.Words.{NamesScript, script_of}
+use Rattle.records_cli.specs.Fault.{refusal_line}
+use Rattle.records_cli.specs.declared.load.LoadFault.TheVariants.{Unreadable as NoFile}
 use Rattle.records_cli.specs.declared.load.LoadFault.{LoadFault}
 use Rattle.records_cli.specs.declared.fault.Fault.{Fault}
-use Rattle.records_cli.specs.declared.fault.Fault.TheVariants.{Memory, Read, Write, Words, Unreadable, Script}
+use Rattle.records_cli.specs.declared.fault.Fault.TheVariants.{Memory as NoRoom, Read, Write, Words, Unreadable, Script}
 
 -- the levels of a document
 abbrev pub depth : ℕ
@@ -28,7 +33,7 @@ Runs unread held_old held_new script result = Reads unread held_old held_new res
 -- What stands written where the program ends so. A flush that fails is a failed write.
 abbrev pub Stands : Result Unit Fault → List Step → List ℕ → List ℕ → Type 0
 Stands (Ok done) script input output = WritesAll script depth Owned input output
-Stands (Err Memory) script input output = WritesSome script depth Owned input output
+Stands (Err NoRoom) script input output = WritesSome script depth Owned input output
 Stands (Err Read) script input output = WritesEnded script depth Owned input output
 Stands (Err Write) script input output = WritesPrefix script depth Owned input output
 Stands (Err (Words text)) script input output = ⊥
@@ -47,3 +52,28 @@ pub record Ran (loads : List ℕ → Result (Vec ℕ Global) LoadFault → Type 
   pub script : List Step
   pub is_read : IsReadAs bytes.items (Ok script)
   pub ends : Ends unread held_old held_new script (Ok tt)
+
+-- The bytes are no script, for that reason.
+abbrev pub IsNoScript : List ℕ → ScriptFault → Type 0
+IsNoScript bytes (Json e) = IsReadAs bytes (Err (json e))
+IsNoScript bytes NotAnArray = IsReadAs bytes (Err not_an_array)
+IsNoScript bytes (Command place fault) = IsReadAs bytes (Err (command place fault))
+IsNoScript bytes Memory = ⊥
+
+-- What is wrong with a script, and the line that tells it. Memory may always be refused.
+abbrev pub RefusesScript : List ℕ → Fault → Type 0
+RefusesScript bytes (Script line) = (fault : ScriptFault) × IsNoScript bytes fault × (line.items ≡ refusal_line fault)
+RefusesScript bytes NoRoom = ⊤
+RefusesScript bytes Read = ⊥
+RefusesScript bytes Write = ⊥
+RefusesScript bytes (Words text) = ⊥
+RefusesScript bytes Unreadable = ⊥
+
+-- What may be wrong before a script runs: the words name none, or its file can't be loaded, or its bytes are none.
+abbrev pub Refuses : (List ℕ → Result (Vec ℕ Global) LoadFault → Type 0) → List (List ℕ) → Fault → Type 0
+Refuses loads words (Words text) = NamesScript words → ⊥
+Refuses loads words Unreadable = (name : List ℕ) × (script_of words ≡ Some name) × loads name (Err NoFile)
+Refuses loads words (Script line) = (name : List ℕ) × (bytes : Vec ℕ Global) × (script_of words ≡ Some name) × loads name (Ok bytes) × RefusesScript bytes.items (Script line)
+Refuses loads words NoRoom = ⊤
+Refuses loads words Read = ⊤
+Refuses loads words Write = ⊤

@@ -1,9 +1,10 @@
 //! The program, over the words, the file, the input and the outputs that it is given.
 ghost use Rattle.std.specs.Prelude.{◌≡◌, ℕ, ◌≤◌, Ok, IfOk, IfErr, OnOk, map};
 ghost use Rattle.std.specs.Io.KnownBytes.{Appends, Keeps};
-ghost use Rattle.records_cli.specs.Fault.{status_of};
-ghost use Rattle.records_cli.specs.Program.{Ends, Ran};
+ghost use Rattle.records_cli.specs.Fault.{status_of, refusal_line};
+ghost use Rattle.records_cli.specs.Program.{Ends, Ran, Refuses, RefusesScript};
 ghost use Rattle.records_cli.specs.Words.{NamesScript};
+ghost use Rattle.records_cli.specs.declared.fault.Fault.{Fault};
 ghost use Rattle.std.specs.Fn.{FnOnceReturnsAt};
 ghost use Rattle.sj_records.specs.Record.{IsReadAs};
 ghost use Rattle.sj_records.specs.ScriptView.{steps_of};
@@ -36,6 +37,7 @@ where
     E: Write + Drop,
     requires { L.IsAlwaysCallable load }
     ensures status { result ≤ 2 }
+    ensures refused { result ≡ 2 → (fault : Fault) × (status_of fault ≡ 2) × Refuses (FnOnceReturnsAt L.FnOnce load) (map S.text words.now) fault }
     ensures ran { result ≡ 0 → NamesScript (map S.text words.now) → Ran (FnOnceReturnsAt L.FnOnce load) (map S.text words.now) (I.remaining input) (O.contents output.old) (O.contents output.new) }
 {
     match answer(alloc, words, load, input, output) {
@@ -66,6 +68,7 @@ where
     I: Read + Drop,
     O: Write,
     requires { L.IsAlwaysCallable load }
+    ensures refused { IfErr result (λ fault. Refuses (FnOnceReturnsAt L.FnOnce load) (map S.text words.now) fault) }
     ensures ran { OnOk result (NamesScript (map S.text words.now) → Ran (FnOnceReturnsAt L.FnOnce load) (map S.text words.now) (I.remaining input) (O.contents output.old) (O.contents output.new)) }
 {
     let name = match read_words(alloc, words) {
@@ -103,7 +106,8 @@ fn flush<O: Write>(output: &mut O) -> Result<(), Fault>
 
 /// The script that the bytes spell.
 fn read_script(alloc: Global, bytes: &mut [u8]) -> Result<Script, Fault>
-    ensures { IfOk result (λ script. IsReadAs bytes.old (Ok (steps_of script))) }
+    ensures ok { IfOk result (λ script. IsReadAs bytes.old (Ok (steps_of script))) }
+    ensures refused { IfErr result (λ fault. RefusesScript bytes.old fault) }
 {
     match Script::read(alloc, bytes) {
         Ok(script) => Ok(script),
@@ -113,7 +117,9 @@ fn read_script(alloc: Global, bytes: &mut [u8]) -> Result<Script, Fault>
 }
 
 /// The line that tells why a script is refused.
-fn refusal(alloc: Global, fault: &ScriptFault) -> Result<Vec<u8>, AllocError> {
+fn refusal(alloc: Global, fault: &ScriptFault) -> Result<Vec<u8>, AllocError>
+    ensures { IfOk result (λ line. line.items ≡ refusal_line fault.now) }
+{
     let mut line = Vec::from_slice(alloc, b"records: script: ")?;
     fault.put_fault(&mut line)?;
     line.push(b'\n')?;
