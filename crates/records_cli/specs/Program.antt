@@ -4,7 +4,7 @@ use Rattle.std.specs.Io.KnownBytes.{IsAtEnd}
 use Rattle.std.specs.declared.alloc.Global.{Global}
 use Rattle.sj_records.specs.Command.{Step}
 use Rattle.sj_records.specs.Record.{IsReadAs}
-use Rattle.sj_records.specs.Run.{Transfers, Leaves, WritesAll, WritesSome, WritesEnded, WritesPrefix}
+use Rattle.sj_records.specs.Run.{Transfers, Leaves, RecordsOfAll, RecordsOfSome, RecordsOfEnded, RecordsPrefix}
 use Rattle.sj_records.specs.declared.form.Form.TheVariants.{Owned}
 use Rattle.sj_records.specs.declared.run_error.RunError.{RunError}
 use Rattle.sj_records.specs.Command.{json, not_an_array, command}
@@ -17,31 +17,31 @@ use Rattle.records_cli.specs.declared.load.LoadFault.{LoadFault}
 use Rattle.records_cli.specs.declared.fault.Fault.{Fault}
 use Rattle.records_cli.specs.declared.fault.Fault.TheVariants.{Memory as NoRoom, Read, Write, Words, Unreadable, Script}
 
--- the levels of a document
-abbrev pub depth : ℕ
-depth = 1024
+-- how many levels of nesting a document may have
+abbrev pub allowed_depth : ℕ
+allowed_depth = 1024
 
 -- The input is read, to its end where it answers `Ok`, and P holds of the bytes that were read and of those that were written.
-abbrev pub Reads : Option (List ℕ) → Option (List ℕ) → Option (List ℕ) → {E : Type 0} → Result Unit E → (List ℕ → List ℕ → Type 0) → Type 0
-Reads unread held_old held_new result P =
+abbrev pub ReadsAndWrites : Option (List ℕ) → Option (List ℕ) → Option (List ℕ) → {E : Type 0} → Result Unit E → (List ℕ → List ℕ → Type 0) → Type 0
+ReadsAndWrites unread held_old held_new result P =
     (left : Option (List ℕ)) × Transfers unread left held_old held_new P × OnOk result (IsAtEnd left)
 
 -- A run over that input and output.
-abbrev pub Runs : Option (List ℕ) → Option (List ℕ) → Option (List ℕ) → List Step → Result Unit RunError → Type 0
-Runs unread held_old held_new script result = Reads unread held_old held_new result (Leaves result script depth Owned)
+abbrev pub RunLeaves : Option (List ℕ) → Option (List ℕ) → Option (List ℕ) → List Step → Result Unit RunError → Type 0
+RunLeaves unread held_old held_new script result = ReadsAndWrites unread held_old held_new result (Leaves result script allowed_depth Owned)
 
 -- What stands written where the program ends so. A flush that fails is a failed write.
-abbrev pub Stands : Result Unit Fault → List Step → List ℕ → List ℕ → Type 0
-Stands (Ok done) script input output = WritesAll script depth Owned input output
-Stands (Err NoRoom) script input output = WritesSome script depth Owned input output
-Stands (Err Read) script input output = WritesEnded script depth Owned input output
-Stands (Err Write) script input output = WritesPrefix script depth Owned input output
-Stands (Err (Words text)) script input output = ⊥
-Stands (Err Unreadable) script input output = ⊥
-Stands (Err (Script line)) script input output = ⊥
+abbrev pub WrittenBy : Result Unit Fault → List Step → List ℕ → List ℕ → Type 0
+WrittenBy (Ok done) script input output = RecordsOfAll script allowed_depth Owned input output
+WrittenBy (Err NoRoom) script input output = RecordsOfSome script allowed_depth Owned input output
+WrittenBy (Err Read) script input output = RecordsOfEnded script allowed_depth Owned input output
+WrittenBy (Err Write) script input output = RecordsPrefix script allowed_depth Owned input output
+WrittenBy (Err (Words text)) script input output = ⊥
+WrittenBy (Err Unreadable) script input output = ⊥
+WrittenBy (Err (Script line)) script input output = ⊥
 
-abbrev pub Ends : Option (List ℕ) → Option (List ℕ) → Option (List ℕ) → List Step → Result Unit Fault → Type 0
-Ends unread held_old held_new script result = Reads unread held_old held_new result (Stands result script)
+abbrev pub ProgramLeaves : Option (List ℕ) → Option (List ℕ) → Option (List ℕ) → List Step → Result Unit Fault → Type 0
+ProgramLeaves unread held_old held_new script result = ReadsAndWrites unread held_old held_new result (WrittenBy result script)
 
 -- The script that the words name was loaded, and ran. `loads` says what a load of a name may give.
 pub record Ran (loads : List ℕ → Result (Vec ℕ Global) LoadFault → Type 0) (words : List (List ℕ)) (unread held_old held_new : Option (List ℕ)) : Type 0 where
@@ -51,7 +51,7 @@ pub record Ran (loads : List ℕ → Result (Vec ℕ Global) LoadFault → Type 
   pub is_loaded : loads name (Ok bytes)
   pub script : List Step
   pub is_read : IsReadAs bytes.items (Ok script)
-  pub ends : Ends unread held_old held_new script (Ok tt)
+  pub ends : ProgramLeaves unread held_old held_new script (Ok tt)
 
 -- The bytes are no script, for that reason.
 abbrev pub IsNoScript : List ℕ → ScriptFault → Type 0

@@ -1,6 +1,6 @@
 //! A run whose calls are counted, over an output that is only lent.
 ghost use Rattle.std.specs.Prelude.{◌≡◌, ℕ};
-ghost use Rattle.records_cli.specs.Program.{Runs};
+ghost use Rattle.records_cli.specs.Program.{RunLeaves};
 ghost use Rattle.sj_records.specs.ScriptView.{steps_of};
 
 use sj_base::{Counted, DEFAULT_MAX_DEPTH};
@@ -11,16 +11,18 @@ use std::io::{Read, Write};
 use std::marker::{Brand, PhantomData};
 use std::sync::ledger::{Blank, Ledger};
 
-/// Names the reference to an output.
+/// Stands for one `&mut` reference by its ghost name, so that a type can say which reference a value holds.
 pub trait Named {
     ghost name: { ℕ };
 }
 
+// A place to fill: the proof at a call picks the name.
 impl Named for Brand {
     ghost name = { 0 };
 }
 
-/// The output of a run. It keeps its reference, whoever writes to it, so that what was written stands in that output.
+/// An output that is lent to `run`. Its type says which reference it holds, so what comes back is the reference that was
+/// lent, and what `run` wrote stands in the caller's output.
 struct Lent<'a, O, N: Named> {
     output: &'a mut O,
     of: PhantomData<N>,
@@ -39,7 +41,8 @@ impl<O: Write, N: Named> Write for Lent<'_, O, N> {
     }
 }
 
-/// Runs the script on the input, and hands the output back. The blanks count the calls.
+/// Runs the script on the input, and hands the output back. The blanks open the counts of reads and writes, which `run`
+/// wants; nothing of them is told on.
 pub fn run_counted<'a, I: Read + Drop, O: Write, L: Ledger, M: Ledger, N: Named>(
     alloc: Global,
     input: I,
@@ -52,7 +55,7 @@ pub fn run_counted<'a, I: Read + Drop, O: Write, L: Ledger, M: Ledger, N: Named>
     requires writes { (writes.name ≡ M.name) × (writes.parts ≡ M.parts) × (writes.parts ≡ 4) }
     requires output { output.ghost_name ≡ N.name }
     ensures same_reference { result.1.ghost_name ≡ output.entry.ghost_name }
-    ensures stands { Runs (I.remaining input) (O.contents output.old) (O.contents result.1.now) (steps_of script.now) result.0 }
+    ensures stands { RunLeaves (I.remaining input) (O.contents output.old) (O.contents result.1.now) (steps_of script.now) result.0 }
 {
     let mut source = Counted::<I, L>::new(input, reads);
     let lent = Lent::<'a, O, N> {

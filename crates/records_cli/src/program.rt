@@ -2,7 +2,7 @@
 ghost use Rattle.std.specs.Prelude.{◌≡◌, ℕ, ◌≤◌, Ok, IfOk, IfErr, OnOk, map};
 ghost use Rattle.std.specs.Io.KnownBytes.{Appends, Keeps};
 ghost use Rattle.records_cli.specs.Fault.{status_of, refusal_line};
-ghost use Rattle.records_cli.specs.Program.{Ends, Ran, Refuses, RefusesScript};
+ghost use Rattle.records_cli.specs.Program.{ProgramLeaves, Ran, Refuses, RefusesScript};
 ghost use Rattle.records_cli.specs.Words.{NamesScript};
 ghost use Rattle.records_cli.specs.declared.fault.Fault.{Fault};
 ghost use Rattle.std.specs.Fn.{FnOnceReturnsAt};
@@ -134,7 +134,7 @@ fn run_script<I: Read + Drop, O: Write>(
     script: &Script,
 ) -> Result<(), Fault>
     ensures status { IfErr result (λ f. status_of f ≡ 1) }
-    ensures stands { Ends (I.remaining input) (O.contents output.old) (O.contents output.new) (steps_of script.now) result }
+    ensures stands { ProgramLeaves (I.remaining input) (O.contents output.old) (O.contents output.new) (steps_of script.now) result }
 {
     let (ran, output) = run_counted::<I, O, Brand, Brand, Brand>(
         alloc,

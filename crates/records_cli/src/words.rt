@@ -26,7 +26,7 @@ pub enum Words<'a> {
     Memory,
 }
 
-/// Reads the words, of which the first is the program's name.
+/// ReadsAndWrites the words, of which the first is the program's name.
 pub fn read_words<'a, S: AsStr>(alloc: Global, words: &'a [S]) -> Words<'a>
     ensures { Asks (map S.text words.now) result }
 {

@@ -1,4 +1,4 @@
--- What a container holds, and what a tree is.
+-- What a container holds, and what a tree holds.
 use Rattle.std.specs.Prelude.{ℕ, suc, List, [], ◌∷◌, Option, Some, None}
 use Rattle.sj_base.specs.Tree.{Tree, null, boolean, integer, decimal, string, list, object, Items, no_items, item, Members, no_members, member}
 

@@ -15,6 +15,6 @@ pub mod Names
 pub mod Classes
 pub mod Calls
 pub mod Output
-pub mod Outputs
+pub mod OutputLaws
 pub mod Rows
 pub mod Laws

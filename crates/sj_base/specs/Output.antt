@@ -14,10 +14,10 @@ pub record Continues {S : Type 0} (A B : S → S → List ℕ → Type 0) : Type
 abbrev pub AppendsPrefix : Option (List ℕ) → Option (List ℕ) → List ℕ → Type 0
 AppendsPrefix old new bytes = (taken rest : List ℕ) × (bytes ≡ taken ++ rest) × Appends old new taken
 
--- by calls of which none failed, was interrupted or moved no byte
+-- All of the bytes were appended, by calls of which none failed, was interrupted or moved no byte.
 abbrev pub WritesAll : Option (List ℕ) → Option (List ℕ) → Calls → Calls → List ℕ → Type 0
 WritesAll old new calls_old calls_new bytes = Appends old new bytes × (missed calls_new ≡ missed calls_old)
 
--- by calls of which one did
+-- A prefix was appended, by calls of which exactly one did.
 abbrev pub WritesPrefix : Option (List ℕ) → Option (List ℕ) → Calls → Calls → List ℕ → Type 0
 WritesPrefix old new calls_old calls_new bytes = AppendsPrefix old new bytes × (missed calls_new ≡ missed calls_old + 1)

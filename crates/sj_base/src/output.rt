@@ -1,7 +1,7 @@
 //! Where a text is written to: a vector, or a sink.
 ghost use Rattle.std.specs.Prelude.{◌≡◌, List, ℕ, ◌++◌, OnOk, OnErr};
 ghost use Rattle.sj_base.specs.Output.{Continues, WritesAll, WritesPrefix};
-ghost use Rattle.sj_base.specs.Outputs.{vectors_continue, sinks_continue};
+ghost use Rattle.sj_base.specs.OutputLaws.{vectors_continue, sinks_continue};
 
 use crate::fault::WriteFault;
 use crate::stream::Sink;

@@ -7,7 +7,7 @@ use Rattle.sj_base.specs.declared.fault.TryTypeError.{TryTypeError}
 use Rattle.sj_base.specs.declared.static_node.ValueType.{ValueType}
 use Rattle.sj_base.specs.declared.static_node.ValueType.TheVariants.{Object}
 use Rattle.sj_reads.specs.Reads.{mismatch}
-use Rattle.sj_reads.specs.declared.member.Member.{Member}
+use Rattle.sj_reads.specs.declared.found.Member.{Member}
 
 -- a value, as typed reads see it
 pub record Seen : Type 0 where

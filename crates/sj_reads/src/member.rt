@@ -6,16 +6,10 @@ ghost use Rattle.sj_reads.specs.Reads.{bool_read, signed_read, unsigned_read, st
 ghost use Rattle.sj_reads.specs.Views.{found_text, found_literal};
 ghost use Rattle.sj_reads.specs.Member.{Seen, seen_result, looked_up, found_scalar, try_found};
 
+use crate::found::Member;
 use crate::read::*;
 use crate::scalar::TypedValue;
 use sj_base::{Decimal, Scalar, TryTypeError, ValueType};
-
-/// What a look-up finds: the member's type, and the member where it holds no other value.
-#[derive(Clone, Copy, Debug)]
-pub struct Member<'a> {
-    pub kind: ValueType,
-    pub scalar: Option<Scalar<'a>>,
-}
 
 // A read that asked for another type than the member's.
 fn mismatch(member: &Member<'_>, expected: ValueType) -> TryTypeError

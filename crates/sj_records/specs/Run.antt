@@ -15,28 +15,28 @@ Transfers unread_old unread_new held_old held_new P =
     (input output : List ℕ) × Consumes unread_old unread_new input × Appends held_old held_new output × P input output
 
 -- the records of all lines
-abbrev pub WritesAll : List Step → ℕ → Form → List ℕ → List ℕ → Type 0
-WritesAll script limit form input output = IsOutput input script limit form output
+abbrev pub RecordsOfAll : List Step → ℕ → Form → List ℕ → List ℕ → Type 0
+RecordsOfAll script limit form input output = IsOutput input script limit form output
 
 -- those of the lines that a line feed ended
-abbrev pub WritesEnded : List Step → ℕ → Form → List ℕ → List ℕ → Type 0
-WritesEnded script limit form input output = AreRecords (ended input) script limit form output
+abbrev pub RecordsOfEnded : List Step → ℕ → Form → List ℕ → List ℕ → Type 0
+RecordsOfEnded script limit form input output = AreRecords (ended input) script limit form output
 
 -- those of the first k of these lines, for some k
-abbrev pub WritesSome : List Step → ℕ → Form → List ℕ → List ℕ → Type 0
-WritesSome script limit form input output = (k : ℕ) × AreRecords (take k (ended input)) script limit form output
+abbrev pub RecordsOfSome : List Step → ℕ → Form → List ℕ → List ℕ → Type 0
+RecordsOfSome script limit form input output = (k : ℕ) × AreRecords (take k (ended input)) script limit form output
 
 -- a prefix of the records of all lines
-abbrev pub WritesPrefix : List Step → ℕ → Form → List ℕ → List ℕ → Type 0
-WritesPrefix script limit form input output = (unwritten : List ℕ) × IsOutput input script limit form (output ++ unwritten)
+abbrev pub RecordsPrefix : List Step → ℕ → Form → List ℕ → List ℕ → Type 0
+RecordsPrefix script limit form input output = (unwritten : List ℕ) × IsOutput input script limit form (output ++ unwritten)
 
 -- What stands written, by the answer.
 abbrev pub Leaves : Result Unit RunError → List Step → ℕ → Form → List ℕ → List ℕ → Type 0
-Leaves (Ok done) script limit form input output = WritesAll script limit form input output
-Leaves (Err Memory) script limit form input output = WritesSome script limit form input output
-Leaves (Err Write) script limit form input output = WritesPrefix script limit form input output
-Leaves (Err Read) script limit form input output = WritesEnded script limit form input output
-Leaves (Err TooManyReads) script limit form input output = WritesEnded script limit form input output
+Leaves (Ok done) script limit form input output = RecordsOfAll script limit form input output
+Leaves (Err Memory) script limit form input output = RecordsOfSome script limit form input output
+Leaves (Err Write) script limit form input output = RecordsPrefix script limit form input output
+Leaves (Err Read) script limit form input output = RecordsOfEnded script limit form input output
+Leaves (Err TooManyReads) script limit form input output = RecordsOfEnded script limit form input output
 
 -- No read failed, but by an interruption, and none but the last gave nothing, which gave the reader's end.
 abbrev pub ReachesEnd : Calls → Calls → Type 0

@@ -9,11 +9,11 @@ use Rattle.records_cli.specs.declared.fault.Fault.TheVariants.{Memory, Read, Wri
 use Rattle.records_cli.specs.declared.load.LoadFault.{LoadFault}
 use Rattle.records_cli.specs.Fault.{status_of}
 use Rattle.records_cli.specs.Words.{script_of}
-use Rattle.records_cli.specs.Program.{Ends, Refuses, RefusesScript}
+use Rattle.records_cli.specs.Program.{ProgramLeaves, Refuses, RefusesScript}
 use Rattle.records_cli.proofs.program.answer.Goals as goal
 
 -- a run that ended well
-ended_well : {P : Type 0} (unread old new : Option (List ℕ)) (script : List Step) (result : Result Unit Fault) → Ends unread old new script result → (Ends unread old new script (Ok tt) → P) → OnOk result P
+ended_well : {P : Type 0} (unread old new : Option (List ℕ)) (script : List Step) (result : Result Unit Fault) → ProgramLeaves unread old new script result → (ProgramLeaves unread old new script (Ok tt) → P) → OnOk result P
 ended_well unread old new script (Ok done) ends then = then ends
 ended_well unread old new script (Err fault) ends then = tt
 
