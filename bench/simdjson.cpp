@@ -1,5 +1,5 @@
 // The same work as `records` on the script [["get",["package"]],["get",["depends",0]]], with simdjson's DOM:
-//     g++ -O3 -march=native bench/simdjson.cpp -lsimdjson -o simdjson && ./simdjson < big.jsonl > records.jsonl
+//     g++ -O3 -march=native bench/simdjson.cpp -lsimdjson -o simdjson && ./simdjson < big.jsonl > expected.jsonl
 #include <simdjson.h>
 
 #include <cstdio>
