@@ -149,11 +149,6 @@ string_node (Array l c) k e = absurd (cc)
 string_node (Static s) k e = absurd (static_not_string s k e)
 string_node (Decimal d) k e = absurd (cc)
 
-pub one_front : (ns front rest : List Node) (n : Node) → ns ≡ front ++ rest → length front ≡ 1 → n ≡ get_or front 0 n → ns ≡ n ∷ rest
-one_front ns [] rest n h l is = absurd (omega (arith, l))
-one_front ns (m ∷ []) rest n h l is = h ∙ ap (λ (k : Node). k ∷ rest) (sym is)
-one_front ns (m ∷ k ∷ ms) rest n h l is = absurd (omega (arith, l))
-
 pub cons_parts : (a b : Entry) (xs ys : List Entry) → a ∷ xs ≡ b ∷ ys → (a ≡ b) × (xs ≡ ys)
 cons_parts a b xs ys e = (cc, cc)
 

@@ -16,10 +16,6 @@ abbrev pub more_members : Layout → Members → List ℕ
 more_members Compact ms = more_members_text ms
 more_members (Pretty level) ms = pretty_more_members level ms
 
-pub no_items_laid_out : (y : Layout) → laid_out y (list no_items) ≡ 0x5b ∷ 0x5d ∷ []
-no_items_laid_out Compact = refl
-no_items_laid_out (Pretty level) = refl
-
 pub items_laid_out : (y : Layout) (t : Tree) (ts : Items) → laid_out y (list (item t ts)) ≡ 0x5b ∷ (line_start (inside y) ++ (laid_out (inside y) t ++ (more_items (inside y) ts ++ (line_start y ++ 0x5d ∷ []))))
 items_laid_out Compact t ts = ap (λ (l : List ℕ). 0x5b ∷ l) (append_assoc (text t) (more_items_text ts) (0x5d ∷ []))
 items_laid_out (Pretty level) t ts = refl
@@ -33,10 +29,6 @@ more_items_laid_out Compact t ts behind = ap (λ (l : List ℕ). 0x2c ∷ l) (ap
 more_items_laid_out (Pretty level) t ts behind =
     ap (λ (l : List ℕ). 0x2c ∷ l) (append_assoc (line_start (Pretty level)) (laid_out (Pretty level) t ++ more_items (Pretty level) ts) behind
     ∙ ap (λ (l : List ℕ). line_start (Pretty level) ++ l) (append_assoc (laid_out (Pretty level) t) (more_items (Pretty level) ts) behind))
-
-pub no_members_laid_out : (y : Layout) → laid_out y (object no_members) ≡ 0x7b ∷ 0x7d ∷ []
-no_members_laid_out Compact = refl
-no_members_laid_out (Pretty level) = refl
 
 pub members_laid_out : (y : Layout) (k : List ℕ) (t : Tree) (ms : Members) → laid_out y (object (member k t ms)) ≡ 0x7b ∷ (line_start (inside y) ++ (pair (inside y) k t ++ (more_members (inside y) ms ++ (line_start y ++ 0x7d ∷ []))))
 members_laid_out Compact k t ms =
