@@ -1,6 +1,6 @@
--- What holds a decimal literal holds one.
+-- The text in each carrier of a decimal literal is a decimal literal.
 use Rattle.sj_base.specs.Number.{IsDecimal}
-use Rattle.sj_base.specs.Literal.{decimal_text, decimal_buf_text, decimal_cow_text}
+use Rattle.sj_base.specs.Scalar.{decimal_text, decimal_buf_text, decimal_cow_text}
 use Rattle.sj_base.specs.declared.decimal.Decimal.{Decimal}
 use Rattle.sj_base.specs.declared.decimal.DecimalBuf.{DecimalBuf}
 use Rattle.sj_base.specs.declared.decimal.DecimalCow.{DecimalCow}

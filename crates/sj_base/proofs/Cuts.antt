@@ -1,4 +1,4 @@
--- Parts that are cut off from what stands behind them in one way, and mean one thing.
+-- Parts of a text: the split between a part and the rest is unique, and the part has one meaning.
 use Rattle.std.specs.Prelude.{◌≡◌, ℕ, ◌<◌, ◌≤◌, cond, ◌==◌, nat_lt, nat_le, ◌&&◌, List, [], ◌∷◌, ◌++◌}
 use Rattle.std.specs.Char.{IsAsciiDigit}
 use Rattle.std.proofs.Common.{refl, sym, ap, ap₂, ◌∙◌, inl, inr, arith, append_assoc}
@@ -7,7 +7,7 @@ use Rattle.sj_base.specs.Spelling.{IsSpace, AreSpaces, Padded, Pairs, Then, Comm
 use Rattle.sj_base.proofs.Fronts.{cons_parts, NotFirst, same_front}
 use Rattle.sj_base.proofs.NumberBytes.{IsInNumber, number_low}
 
--- What a first byte begins: 1 to 7 for a kind of values, 8 for what stands behind a value, 0 for any other.
+-- The class of a first byte: 1 to 7 for a kind of values, 8 for a byte that may follow a value, 0 for any other.
 abbrev pub kind_of : ℕ → ℕ
 kind_of b =
     cond (b == 0x22) 1
@@ -22,36 +22,36 @@ kind_of b =
     (cond (b == 0x7d) 8
     (cond (nat_le 0x2d b && nat_lt b 0x3a) 7 0))))))))))
 
--- what a list begins
+-- the class of a list's first byte
 abbrev pub kind_at : List ℕ → ℕ
 kind_at [] = 0
 kind_at (b ∷ bs) = kind_of b
 
--- a digit begins a number
+-- A digit begins a number.
 pub kind_of-digit : (b : ℕ) → IsAsciiDigit b → kind_of b ≡ 7
 kind_of-digit b d =
     let low : 48 ≤ b = d.0 in
     let high : b ≤ 57 = d.1 in
     rw (ne_eqb b 0x22 (λ e. omega arith), ne_eqb b 0x5b (λ e. omega arith), ne_eqb b 0x7b (λ e. omega arith), ne_eqb b 0x74 (λ e. omega arith), ne_eqb b 0x66 (λ e. omega arith), ne_eqb b 0x6e (λ e. omega arith), ne_eqb b 0x2c (λ e. omega arith), ne_eqb b 0x3a (λ e. omega arith), ne_eqb b 0x5d (λ e. omega arith), ne_eqb b 0x7d (λ e. omega arith), le-leb 0x2d b (omega arith), lt-ltb b 0x3a (omega arith)) refl
 
--- whitespace begins nothing
+-- Whitespace begins no value.
 space_kind : (b : ℕ) → IsSpace b → kind_of b ≡ 0
 space_kind b (inl e) = rw e refl
 space_kind b (inr (inl e)) = rw e refl
 space_kind b (inr (inr (inl e))) = rw e refl
 space_kind b (inr (inr (inr e))) = rw e refl
 
--- what begins something has no whitespace in front
+-- A text whose first byte has a class doesn't begin with whitespace.
 pub no_space : (bs : List ℕ) → 0 < kind_at bs → NotFirst IsSpace bs
 no_space [] h = tt
 no_space (b ∷ bs) h = λ s. let e = space_kind b s in omega arith
 
--- what may follow a value with whitespace around it
+-- the bytes that may follow a value and the whitespace around it
 pub record Stops (bs : List ℕ) : Type 0 where
   pub no_space : NotFirst IsSpace bs
   pub no_number : NotFirst IsInNumber bs
 
--- a comma, a colon and a closing byte stand in no number
+-- A comma, a colon and a closing bracket are in no number.
 stop_no_number : (b : ℕ) → kind_of b ≡ 8 → IsInNumber b → ⊥
 stop_no_number b k (inl d) = let e = kind_of-digit b d in omega arith
 stop_no_number b k (inr (inl e)) = let seven = ap kind_of e in omega arith
@@ -60,35 +60,35 @@ stop_no_number b k (inr (inr (inr (inl e)))) = let none = ap kind_of e in omega 
 stop_no_number b k (inr (inr (inr (inr (inl e))))) = let none = ap kind_of e in omega arith
 stop_no_number b k (inr (inr (inr (inr (inr e))))) = let none = ap kind_of e in omega arith
 
--- so they stop a value
+-- So they end a value.
 pub stops_at : (b : ℕ) (bs : List ℕ) → kind_of b ≡ 8 → Stops (b ∷ bs)
 stops_at b bs k = record { no_space = no_space (b ∷ bs) (omega arith); no_number = stop_no_number b k }
 
--- whitespace is no byte above a space
+-- Whitespace has no byte above a space.
 pub space_low : (b : ℕ) → IsSpace b → b ≤ 0x20
 space_low b (inl e) = omega arith
 space_low b (inr (inl e)) = omega arith
 space_low b (inr (inr (inl e))) = omega arith
 space_low b (inr (inr (inr e))) = omega arith
 
--- so what stands in no number stands in none behind whitespace either
+-- A byte that is in no number isn't in one behind whitespace either.
 spaces_no_number : (spaces bs : List ℕ) → AreSpaces spaces → NotFirst IsInNumber bs → NotFirst IsInNumber (spaces ++ bs)
 spaces_no_number [] bs h n = n
 spaces_no_number (b ∷ spaces) bs h n = λ i. let low = space_low b h.0 in let high = number_low b i in omega arith
 
--- x is what a part means, and the part is cut off from what stands behind it in one way
+-- The part has the meaning x, and the split between it and the rest is unique.
 abbrev pub Cuts : {A : Type 0} → (A → List ℕ → Type 0) → (List ℕ → Type 0) → A → Type 0
 Cuts {A} E End x = (y : A) (f g r q : List ℕ) → E x f → E y g → End r → End q → f ++ r ≡ g ++ q → (x ≡ y) × (r ≡ q)
 
--- what begins with a value
+-- a text that begins with a value
 abbrev pub Opens : {A : Type 0} → (A → List ℕ → Type 0) → Type 0
 Opens {A} E = (y : A) (f r : List ℕ) → E y f → (0 < kind_at (f ++ r)) × (kind_at (f ++ r) < 8)
 
--- whitespace around, taken apart
+-- the three parts of a padded text
 pub padded_open : (P : List ℕ → Type 0) (f r : List ℕ) (p : Padded P f) → f ++ r ≡ p.before ++ (p.inner ++ (p.after ++ r))
 padded_open P f r p = ap (λ (ys : List ℕ). ys ++ r) p.parts ∙ append_assoc p.before (p.inner ++ p.after) r ∙ ap (λ (ys : List ℕ). p.before ++ ys) (append_assoc p.inner p.after r)
 
--- whitespace around is cut off in one way
+-- The split after a padded part is unique.
 pub padded_cuts : {A : Type 0} (E : A → List ℕ → Type 0) (x : A) → Opens E → Cuts E (NotFirst IsInNumber) x → Cuts (λ y. Padded (E y)) Stops x
 padded_cuts E x opens cuts y f g r q p k m n e =
     let inner = same_front IsSpace p.before k.before (p.inner ++ (p.after ++ r)) (k.inner ++ (k.after ++ q)) p.spaces_before k.spaces_before
@@ -107,7 +107,7 @@ pairs_cuts K E k x opens_key opens key_cuts cuts y f g r q h l m n e =
     let second = padded_cuts E x opens cuts y.1 h.1 l.1 r q h.4 l.4 m n (cons_parts first.1).1 in
     (ap₂ (λ a b. (a, b)) first.0 second.0, second.1)
 
--- first something, and then the rest
+-- a first part and the rest
 pub then_cuts : {A B : Type 0} (E : A → List ℕ → Type 0) (M : B → List ℕ → Type 0) (End : List ℕ → Type 0) (x : A) (xs : B) → ((ys : B) (f r : List ℕ) → M ys f → End r → Stops (f ++ r)) → Cuts E Stops x → Cuts M End xs → Cuts {A = A × B} (λ p. Then (E p.0) (M p.1)) End (x, xs)
 then_cuts E M End x xs stops cuts more_cuts y f g r q h k m n e =
     let left = ap (λ (ys : List ℕ). ys ++ r) h.2 ∙ append_assoc h.0 h.1 r in
@@ -123,23 +123,23 @@ comma_cuts E M End x xs stops cuts more_cuts y f g r q h k m n e =
     let right = ap (λ (ys : List ℕ). ys ++ q) k.2 in
     then_cuts E M End x xs stops cuts more_cuts y (h.0 ++ h.1) (k.0 ++ k.1) r q (h.0, h.1, refl, h.3, h.4) (k.0, k.1, refl, k.3, k.4) m n (cons_parts (sym left ∙ e ∙ right)).1
 
--- what P holds of begins, behind whitespace, with a value
+-- A text of P begins, behind whitespace, with a value.
 abbrev pub Begins : (List ℕ → Type 0) → Type 0
 Begins P = (f r : List ℕ) → P f → (before rest : List ℕ) × AreSpaces before × (f ++ r ≡ before ++ rest) × (0 < kind_at rest) × (kind_at rest < 8)
 
--- a value with whitespace around it does
+-- a value with whitespace around it
 pub padded_begins : {A : Type 0} (E : A → List ℕ → Type 0) (y : A) → Opens E → Begins (Padded (E y))
 padded_begins E y opens f r p =
     let o = opens y p.inner (p.after ++ r) p.holds in
     (p.before, p.inner ++ (p.after ++ r), p.spaces_before, padded_open (E y) f r p, o.0, o.1)
 
--- so does a key with its value
+-- a key with its value
 pub pairs_begin : {A B : Type 0} (K : A → List ℕ → Type 0) (E : B → List ℕ → Type 0) (k : A) (x : B) → Opens K → Begins (Pairs (K k) (E x))
 pairs_begin K E k x opens f r h =
     let p = padded_begins K k opens h.0 ((0x3a ∷ h.1) ++ r) h.3 in
     (p.0, p.1, p.2, ap (λ (ys : List ℕ). ys ++ r) h.2 ∙ append_assoc h.0 (0x3a ∷ h.1) r ∙ p.3, p.4, p.5)
 
--- whitespace before a closing byte holds no first element
+-- Whitespace before a closing bracket has no first element.
 pub no_first : (P Q : List ℕ → Type 0) (f g r q : List ℕ) → Begins P → AreSpaces f → kind_at r ≡ 8 → Then P Q g → f ++ r ≡ g ++ q → ⊥
 no_first P Q f g r q begins spaces k h e =
     let p = begins h.0 (h.1 ++ q) h.3 in

@@ -10,7 +10,7 @@ use Rattle.sj_base.specs.Tree.{IsInRange}
 use Rattle.sj_base.specs.Number.{IsWhole, SpellsInteger}
 use Rattle.sj_base.proofs.Fronts.{AllByRecursion-append}
 
--- the digits of a number: those of one above 0 begin with none
+-- the decimal digits of a number, without leading zeros
 record Digits (n : ℕ) (ds : List ℕ) : Type 0 where
   none : n ≡ 0 → ds ≡ 0x30 ∷ []
   some : 0 < n → (d : ℕ) × (others : List ℕ) × (ds ≡ d ∷ others) × (0x31 ≤ d) × (d ≤ 0x39) × AllByRecursion IsAsciiDigit others

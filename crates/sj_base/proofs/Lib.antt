@@ -1,19 +1,21 @@
 mod Runs
 pub mod Literals
 pub mod Carriers
-mod Fronts
-mod NumberBytes
-mod Bodies
+pub mod Fronts
+pub mod NumberBytes
+pub mod Bodies
 mod Cuts
 mod Values
 mod Meanings
-mod Quotes
+pub mod Quotes
 mod Decimals
 mod Compact
 mod Pretty
 pub mod Trees
-mod Utf8
+pub mod Utf8
 mod OneLine
 pub mod Spelled
 pub mod Misses
 pub mod Prints
+pub mod LaidOut
+pub mod Towards

@@ -1,4 +1,4 @@
--- A text is accepted part by part exactly where it is a decimal literal.
+-- A text is accepted byte by byte exactly if it is a decimal literal.
 use Rattle.std.specs.Prelude.{◌≡◌, ◌≢◌, ℕ, ◌≤◌, ◌<◌, ◌⊎◌, Bool, true, false, cond, ◌==◌, ◌||◌, nat_le, List, [], ◌∷◌, ◌++◌}
 use Rattle.std.specs.List.{AllByRecursion}
 use Rattle.std.specs.Char.{is_ascii_digit, IsAsciiDigit}
@@ -7,21 +7,21 @@ use Rattle.std.proofs.Math.Bool.{Bool-set}
 use Rattle.std.proofs.Math.Logic.{∥∥₁_elim}
 use Rattle.std.proofs.lemmas.Bool.{and_parts, and_from, or_cases, or_from, eqb-true, ne_eqb, leb-true, le-leb, cond-true, cond-false}
 use Rattle.sj_base.specs.Number.{minus, IsDigits, IsWhole, IsFraction, IsExponent, IsDecimal}
-use Rattle.sj_base.specs.Parts.{next_part, accepted}
+use Rattle.sj_base.specs.inside.Parts.{next_part, accepted}
 use Rattle.sj_base.specs.declared.part.Part.{Part}
 use Rattle.sj_base.specs.declared.part.Part.TheVariants.{Start, Minus, Zero, Whole, Point, Fraction, Letter, Sign, Exponent, Wrong}
 
--- each byte is a digit
+-- All bytes are digits.
 abbrev AreDigits : List ℕ → Type 0
 AreDigits ds = AllByRecursion IsAsciiDigit ds
 
-from_test : (b : ℕ) → is_ascii_digit b ≡ true → IsAsciiDigit b
+pub from_test : (b : ℕ) → is_ascii_digit b ≡ true → IsAsciiDigit b
 from_test b e = let p = and_parts (nat_le 48 b) (nat_le b 57) e in (leb-true 48 b p.0, leb-true b 57 p.1)
 
-to_test : (b : ℕ) → IsAsciiDigit b → is_ascii_digit b ≡ true
+pub to_test : (b : ℕ) → IsAsciiDigit b → is_ascii_digit b ≡ true
 to_test b h = and_from (nat_le 48 b) (nat_le b 57) (le-leb 48 b h.0) (le-leb b 57 h.1)
 
--- a choice is one of its branches
+-- A `cond` is one of its branches.
 chosen : (t : Bool) (p q : Part) (bs : List ℕ) → accepted (cond t p q) bs ≡ true → ((t ≡ true) × (accepted p bs ≡ true)) ⊎ ((t ≡ false) × (accepted q bs ≡ true))
 chosen true p q bs e = inl (refl, e)
 chosen false p q bs e = inr (refl, e)
@@ -30,12 +30,12 @@ nothing_wrong : (bs : List ℕ) → accepted Wrong bs ≡ true → ⊥
 nothing_wrong [] e = absurd cc
 nothing_wrong (b ∷ bs) e = nothing_wrong bs e
 
--- a choice between a part and none
+-- a `cond` between a part and `Wrong`
 required : (t : Bool) (p : Part) (bs : List ℕ) → accepted (cond t p Wrong) bs ≡ true → (t ≡ true) × (accepted p bs ≡ true)
 required true p bs e = (refl, e)
 required false p bs e = absurd (nothing_wrong bs e)
 
--- ---- what is accepted from each part on
+-- ---- The texts that are accepted from each part on.
 
 exponent_digits : (bs : List ℕ) → accepted Exponent bs ≡ true → AreDigits bs
 exponent_digits [] e = tt
@@ -45,7 +45,7 @@ sign_digits : (bs : List ℕ) → accepted Sign bs ≡ true → IsDigits bs
 sign_digits [] e = absurd cc
 sign_digits (b ∷ bs) e = let r = required (is_ascii_digit b) Exponent bs e in (omega arith, (from_test b r.0, exponent_digits bs r.1))
 
-abbrev IsSign : List ℕ → Type 0
+abbrev pub IsSign : List ℕ → Type 0
 IsSign sign = (sign ≡ []) ⊎ ((sign ≡ 0x2b ∷ []) ⊎ (sign ≡ 0x2d ∷ []))
 
 -- behind the letter of an exponent
@@ -60,7 +60,7 @@ signed_power : (b : ℕ) (bs : List ℕ) → (b ≡ 0x2b) ⊎ (b ≡ 0x2d) → a
 signed_power b bs (inl same) e = record { sign = 0x2b ∷ []; ds = bs; parts = ap (λ x. x ∷ bs) same; is_sign = inr (inl refl); digits = sign_digits bs e }
 signed_power b bs (inr same) e = record { sign = 0x2d ∷ []; ds = bs; parts = ap (λ x. x ∷ bs) same; is_sign = inr (inr refl); digits = sign_digits bs e }
 
-one_of : (b x y : ℕ) → (b == x || b == y) ≡ true → (b ≡ x) ⊎ (b ≡ y)
+pub one_of : (b x y : ℕ) → (b == x || b == y) ≡ true → (b ≡ x) ⊎ (b ≡ y)
 one_of b x y e = elim (or_cases (b == x) (b == y) e) [ inl h ↦ inl (eqb-true b x h) | inr h ↦ inr (eqb-true b y h) ]
 
 letter_power : (bs : List ℕ) → accepted Letter bs ≡ true → Power bs
@@ -196,7 +196,7 @@ sound (b ∷ bs) e =
       | inr h ↦ literal false (b ∷ bs) (from_first b bs h.1)
     ]
 
--- ---- what a literal is made of is accepted
+-- ---- Each part of a literal is accepted.
 
 -- a step to a part from which the rest is accepted
 goes : (p q : Part) (b : ℕ) (bs : List ℕ) → next_part p b ≡ q → accepted q bs ≡ true → accepted p (b ∷ bs) ≡ true
@@ -303,6 +303,6 @@ complete bs h =
     (tail_all Zero refl refl refl h.fraction h.exponent h.is_fraction h.is_exponent h.has_one)
     (tail_all Whole refl refl refl h.fraction h.exponent h.is_fraction h.is_exponent h.has_one))
 
--- a text that is known to be a literal is one: its parts can be found
+-- The parts of a literal can be found, so the truncated proof that there are some gives them.
 pub found : (bs : List ℕ) → ∥ IsDecimal bs ∥₁ → IsDecimal bs
 found bs h = sound bs (∥∥₁_elim h (Bool-set (accepted Start bs) true) (complete bs))

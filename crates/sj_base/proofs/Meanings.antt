@@ -1,4 +1,4 @@
--- Bytes spell one tree at most.
+-- No bytes spell two trees.
 use Rattle.std.specs.Prelude.{◌≡◌, ℕ, true, false, List, [], ◌∷◌, ◌++◌}
 use Rattle.std.proofs.Common.{refl, sym, ap, ◌∙◌, subst, arith}
 use Rattle.sj_base.specs.Tree.{Tree, null, boolean, integer, decimal, string, list, object, Items, no_items, item, Members, no_members, member}
@@ -8,17 +8,17 @@ use Rattle.sj_base.proofs.Fronts.{cons_parts, same_front}
 use Rattle.sj_base.proofs.Cuts.{kind_of, kind_at, no_space, Stops, stops_at, Cuts, padded_cuts, pairs_cuts, then_cuts, comma_cuts, Begins, padded_begins, pairs_begin, no_first}
 use Rattle.sj_base.proofs.Values.{value_opens, string_opens, CutsValue, null_cuts, true_cuts, false_cuts, integer_cuts, decimal_cuts, string_cuts, key_cuts, Before, list_cuts, object_cuts}
 
--- further items stop the value before them
+-- Further items end the value before them.
 items_stop : (ts : Items) (f r : List ℕ) → SpellsMoreItems ts f → Before 0x5d r → Stops (f ++ r)
 items_stop no_items f r h b = subst Stops (sym (ap (λ (ys : List ℕ). ys ++ r) h ∙ b.1)) (stops_at 0x5d b.0 refl)
 items_stop (item t ts) f r h b = subst (λ (ys : List ℕ). Stops (ys ++ r)) (sym h.2) (stops_at 0x2c ((h.0 ++ h.1) ++ r) refl)
 
--- so do further members
+-- So do further members.
 members_stop : (ms : Members) (f r : List ℕ) → SpellsMoreMembers ms f → Before 0x7d r → Stops (f ++ r)
 members_stop no_members f r h b = subst Stops (sym (ap (λ (ys : List ℕ). ys ++ r) h ∙ b.1)) (stops_at 0x7d b.0 refl)
 members_stop (member k t ms) f r h b = subst (λ (ys : List ℕ). Stops (ys ++ r)) (sym h.2) (stops_at 0x2c ((h.0 ++ h.1) ++ r) refl)
 
--- no further element where a comma stands
+-- Where there is a comma, there is a further element.
 no_more : (close : ℕ) (f g r q others : List ℕ) → f ≡ [] → g ≡ 0x2c ∷ others → r ≡ close ∷ q → (rest : List ℕ) → f ++ r ≡ g ++ rest → close ≡ 0x2c
 no_more close f g r q others h k c rest e = (cons_parts (sym (ap (λ (ys : List ℕ). ys ++ r) h ∙ c) ∙ e ∙ ap (λ (ys : List ℕ). ys ++ rest) k)).0
 
@@ -30,11 +30,11 @@ IsItem t bs = Padded (SpellsValue t) bs
 abbrev IsMember : List ℕ × Tree → List ℕ → Type 0
 IsMember p bs = Pairs (SpellsString p.0) (SpellsValue p.1) bs
 
--- an item is cut off in one way
+-- The split after an item is unique.
 item_cuts : (t : Tree) → CutsValue t → Cuts IsItem Stops t
 item_cuts t cuts = padded_cuts SpellsValue t value_opens cuts
 
--- so is a member
+-- So is the split after a member.
 member_cuts : (k : List ℕ) (t : Tree) → CutsValue t → Cuts IsMember Stops (k, t)
 member_cuts k t cuts = pairs_cuts SpellsString SpellsValue k t string_opens value_opens (key_cuts k) cuts
 
@@ -46,7 +46,7 @@ item_begins t = padded_begins SpellsValue t value_opens
 member_begins : (k : List ℕ) (t : Tree) → Begins (Pairs (SpellsString k) (SpellsValue t))
 member_begins k t = pairs_begin SpellsString SpellsValue k t string_opens
 
--- nothing but whitespace before a closing byte
+-- whitespace alone before a closing bracket
 same_rest : (close : ℕ) (f g r q : List ℕ) → kind_of close ≡ 8 → AreSpaces f → AreSpaces g → Before close r → Before close q → f ++ r ≡ g ++ q → r ≡ q
 same_rest close f g r q c h k m n e =
     let left = ap kind_at m.1 ∙ c in
@@ -101,7 +101,7 @@ more_members_cuts l s ss cuts more (member j t ts) f g r q h k m n e =
     let p = comma_cuts IsMember SpellsMoreMembers (Before 0x7d) (l, s) ss members_stop (member_cuts l s cuts) more ((j, t), ts) f g r q h k m n e in
     (ap (λ x. member x.0.0 x.0.1 x.1) p.0, p.1)
 
--- each value is cut off in one way, and means one tree
+-- The split after each value is unique, and the value has one tree.
 mutual
   value_cuts : (t : Tree) → CutsValue t
   value_cuts null = null_cuts
@@ -129,6 +129,6 @@ mutual
   further_members_cuts no_members = no_more_members_cuts
   further_members_cuts (member k t ms) = more_members_cuts k t ms (value_cuts t) (further_members_cuts ms)
 
--- nothing stands behind the whole
+-- The whole text has no rest.
 pub same_tree : OneMeaning
 same_tree bytes s t h k = (item_cuts s (value_cuts s) t bytes bytes [] [] h k (record { no_space = tt; no_number = tt }) (record { no_space = tt; no_number = tt }) refl).0

@@ -1,4 +1,4 @@
--- Numbers: the bytes that stand in them, and that the bytes of an integer mean one integer and are no decimal literal.
+-- The bytes of numbers. No bytes spell two integers, or an integer and a decimal literal.
 use Rattle.std.specs.Prelude.{◌≡◌, ℕ, ℤ, ◌⊎◌, ◌≤◌, Bool, true, false, List, [], ◌∷◌, ◌++◌}
 use Rattle.std.specs.List.{AllByRecursion}
 use Rattle.std.specs.Char.{IsAsciiDigit}
@@ -7,11 +7,11 @@ use Rattle.std.proofs.Common.{refl, sym, ap, ap₂, ◌∙◌, subst, inl, inr, 
 use Rattle.sj_base.specs.Number.{minus, signed, IsWhole, IsFraction, IsExponent, SpellsInteger, IsDecimal}
 use Rattle.sj_base.proofs.Fronts.{cons_parts, NotFirst, all_none, AllByRecursion-append, AllByRecursion-parts, AllByRecursion-weaker}
 
--- a byte that may stand in a number
+-- the bytes that occur in numbers
 abbrev pub IsInNumber : ℕ → Type 0
 IsInNumber b = IsAsciiDigit b ⊎ ((b ≡ 0x2d) ⊎ ((b ≡ 0x2b) ⊎ ((b ≡ 0x2e) ⊎ ((b ≡ 0x65) ⊎ (b ≡ 0x45)))))
 
--- no such byte is below a plus
+-- None of them is below a plus.
 pub number_low : (b : ℕ) → IsInNumber b → 0x2b ≤ b
 number_low b (inl d) = let low : 48 ≤ b = d.0 in omega arith
 number_low b (inr (inl e)) = omega arith
@@ -21,25 +21,25 @@ number_low b (inr (inr (inr (inr (inl e))))) = omega arith
 number_low b (inr (inr (inr (inr (inr e))))) = omega arith
 
 -- a whole number is digits
-whole_digits : (ds : List ℕ) → IsWhole ds → AllByRecursion IsAsciiDigit ds
+pub whole_digits : (ds : List ℕ) → IsWhole ds → AllByRecursion IsAsciiDigit ds
 whole_digits ds (inl e) = subst (λ (ys : List ℕ). AllByRecursion IsAsciiDigit ys) (sym e) ((omega arith, omega arith), tt)
 whole_digits ds (inr h) =
     let low : 0x31 ≤ h.0 = h.3 in
     subst (λ (ys : List ℕ). AllByRecursion IsAsciiDigit ys) (sym h.2) ((omega arith, h.4), h.5)
 
--- of which there is a first
+-- It isn't empty.
 whole_first : (ds : List ℕ) → IsWhole ds → (d : ℕ) × (others : List ℕ) × (ds ≡ d ∷ others) × IsAsciiDigit d
 whole_first ds (inl e) = (0x30, [], e, (omega arith, omega arith))
 whole_first ds (inr h) = let low : 0x31 ≤ h.0 = h.3 in (h.0, h.1, h.2, (omega arith, h.4))
 
 -- so it begins with no minus
-no_minus : (ds rest : List ℕ) → IsWhole ds → NotFirst (λ b. b ≡ 0x2d) (ds ++ rest)
+pub no_minus : (ds rest : List ℕ) → IsWhole ds → NotFirst (λ b. b ≡ 0x2d) (ds ++ rest)
 no_minus ds rest w =
     let p = whole_first ds w in
     let low : 48 ≤ p.0 = p.3.0 in
     subst (λ (ys : List ℕ). NotFirst (λ b. b ≡ 0x2d) (ys ++ rest)) (sym p.2) (λ e. omega arith)
 
--- what begins with no minus has one sign
+-- The sign in front of digits is unique.
 same_sign : (b c : Bool) (xs ys : List ℕ) → NotFirst (λ d. d ≡ 0x2d) xs → NotFirst (λ d. d ≡ 0x2d) ys → minus b ++ xs ≡ minus c ++ ys → (b ≡ c) × (xs ≡ ys)
 same_sign true true xs ys m n e = (refl, (cons_parts e).1)
 same_sign false false xs ys m n e = (refl, e)
@@ -50,7 +50,7 @@ same_sign false true xs ys m n e = absurd ((subst (λ (zs : List ℕ). NotFirst 
 pub integer_parts : (n : ℤ) (bs : List ℕ) (h : SpellsInteger n bs) → bs ≡ minus h.negative ++ (h.whole ++ [])
 integer_parts n bs h = h.parts ∙ ap (λ (ys : List ℕ). minus h.negative ++ ys) (sym (append-nil h.whole))
 
--- bytes spell one integer
+-- No bytes spell two integers.
 pub same_integer : (n m : ℤ) (bs : List ℕ) → SpellsInteger n bs → SpellsInteger m bs → n ≡ m
 same_integer n m bs h k =
     let p = same_sign h.negative k.negative (h.whole ++ []) (k.whole ++ []) (no_minus h.whole [] h.is_whole) (no_minus k.whole [] k.is_whole) (sym (integer_parts n bs h) ∙ integer_parts m bs k) in
@@ -58,12 +58,12 @@ same_integer n m bs h k =
     h.value ∙ ap₂ (λ b ds. signed b (digits_value 10 ds)) p.0 same ∙ sym k.value
 
 -- a point is no digit
-fraction_start : (bs rest : List ℕ) → IsFraction bs → NotFirst IsAsciiDigit rest → NotFirst IsAsciiDigit (bs ++ rest)
+pub fraction_start : (bs rest : List ℕ) → IsFraction bs → NotFirst IsAsciiDigit rest → NotFirst IsAsciiDigit (bs ++ rest)
 fraction_start bs rest (inl e) n = subst (λ (ys : List ℕ). NotFirst IsAsciiDigit (ys ++ rest)) (sym e) n
 fraction_start bs rest (inr h) n = subst (λ (ys : List ℕ). NotFirst IsAsciiDigit (ys ++ rest)) (sym h.1) (λ d. let low : 48 ≤ 0x2e = d.0 in omega arith)
 
 -- nor is `e` or `E`
-exponent_start : (bs : List ℕ) → IsExponent bs → NotFirst IsAsciiDigit bs
+pub exponent_start : (bs : List ℕ) → IsExponent bs → NotFirst IsAsciiDigit bs
 exponent_start bs (inl e) = subst (λ (ys : List ℕ). NotFirst IsAsciiDigit ys) (sym e) tt
 exponent_start bs (inr h) = subst (λ (ys : List ℕ). NotFirst IsAsciiDigit ys) (sym h.3) (λ d. let high : h.0 ≤ 57 = d.1 in letter h.0 high h.4)
   where
@@ -71,7 +71,7 @@ exponent_start bs (inr h) = subst (λ (ys : List ℕ). NotFirst IsAsciiDigit ys)
     letter b high (inl e) = omega arith
     letter b high (inr e) = omega arith
 
--- no bytes spell an integer and are a decimal literal
+-- No bytes both spell an integer and are a decimal literal.
 pub no_decimal : (n : ℤ) (bs : List ℕ) → SpellsInteger n bs → IsDecimal bs → ⊥
 no_decimal n bs h k =
     let more = k.fraction ++ k.exponent in
@@ -111,7 +111,7 @@ exponent_bytes bs (inr h) = subst (λ (ys : List ℕ). AllByRecursion IsInNumber
 pub integer_bytes : (n : ℤ) (bs : List ℕ) → SpellsInteger n bs → AllByRecursion IsInNumber bs
 integer_bytes n bs h = subst (λ (ys : List ℕ). AllByRecursion IsInNumber ys) (sym h.parts) (AllByRecursion-append IsInNumber (minus h.negative) h.whole (minus_bytes h.negative) (digit_bytes h.whole (whole_digits h.whole h.is_whole)))
 
--- and of a decimal literal
+-- the bytes of a decimal literal
 pub decimal_bytes : (bs : List ℕ) → IsDecimal bs → AllByRecursion IsInNumber bs
 decimal_bytes bs h =
     subst (λ (ys : List ℕ). AllByRecursion IsInNumber ys) (sym h.parts)

@@ -1,7 +1,7 @@
--- A text with line breaks spells its tree: they are whitespace before each element, and behind the last one.
+-- An indented text spells its tree: the line breaks are whitespace before each element and after the last one.
 use Rattle.std.specs.Prelude.{◌≡◌, ℕ, zero, suc, ◌*◌, true, false, List, [], ◌∷◌, ◌++◌, replicate, IsUtf8}
 use Rattle.std.proofs.Common.{refl, sym, ap, ◌∙◌, inl, inr, append_assoc, append-nil}
-use Rattle.sj_base.specs.Tree.{Tree, null, boolean, integer, decimal, string, list, object, Items, no_items, item, Members, no_members, member, IsTree, AreTrees, AreMembers}
+use Rattle.sj_base.specs.Tree.{Tree, null, boolean, integer, decimal, string, list, object, Items, no_items, item, Members, no_members, member, IsValidTree, AreValidItems, AreValidMembers}
 use Rattle.sj_base.specs.Spelling.{AreSpaces, Padded, Pairs, Then, SpellsString, SpellsValue, SpellsMoreItems, SpellsMoreMembers}
 use Rattle.sj_base.specs.Text.{quoted, line_break, pretty, pretty_pair, pretty_at, pretty_more_items, pretty_more_members}
 use Rattle.sj_base.specs.Laws.{PrintsBack}
@@ -9,16 +9,16 @@ use Rattle.sj_base.proofs.Quotes.{quoted_spells}
 use Rattle.sj_base.proofs.Decimals.{integer_spells}
 use Rattle.sj_base.proofs.Compact.{bare}
 
--- spaces are whitespace
+-- Spaces are whitespace.
 spaces : (n : ℕ) → AreSpaces (replicate n 0x20)
 spaces zero = tt
 spaces (suc n) = (inl refl, spaces n)
 
--- so is a line break
+-- So is a line break.
 break_spaces : (level : ℕ) → AreSpaces (line_break level)
 break_spaces level = (inr (inr (inl refl)), spaces (2 * level))
 
--- a comma and what stands behind it are cut off
+-- the split before a comma
 cut_comma : (before first next more tail : List ℕ) → before ++ (first ++ ((0x2c ∷ (before ++ (next ++ more))) ++ tail)) ≡ (before ++ (first ++ [])) ++ 0x2c ∷ (before ++ (next ++ (more ++ tail)))
 cut_comma before first next more tail =
     let rest = 0x2c ∷ (before ++ (next ++ (more ++ tail))) in
@@ -26,7 +26,7 @@ cut_comma before first next more tail =
     ∙ sym (append_assoc before first rest)
     ∙ ap (λ (ys : List ℕ). (before ++ ys) ++ rest) (sym (append-nil first))
 
--- so is a closing byte
+-- the split before a closing bracket
 cut_close : (before first more tail last : List ℕ) → before ++ (first ++ (more ++ (tail ++ last))) ≡ (before ++ (first ++ (more ++ tail))) ++ last
 cut_close before first more tail last =
     ap (λ (ys : List ℕ). before ++ (first ++ ys)) (sym (append_assoc more tail last))
@@ -48,9 +48,9 @@ member_within k t before value tail b a key h =
       within t (0x20 ∷ []) value tail (inl refl, tt) a h,
     )
 
--- each part is printed as it is spelled, at each level
+-- The text of each part, at each level, spells it.
 mutual
-  pretty_spells : (level : ℕ) (t : Tree) → IsTree t → SpellsValue t (pretty_at level t)
+  pretty_spells : (level : ℕ) (t : Tree) → IsValidTree t → SpellsValue t (pretty_at level t)
   pretty_spells level null h = refl
   pretty_spells level (boolean true) h = refl
   pretty_spells level (boolean false) h = refl
@@ -70,8 +70,8 @@ mutual
       let more = pretty_more_members (suc level) ms in
       (before ++ (first ++ (more ++ line_break level)), ap (λ (ys : List ℕ). 0x7b ∷ ys) (cut_close before first more (line_break level) (0x7d ∷ [])), members_spell (suc level) (line_break level) (break_spaces level) ms h.2 k h.0 t (pretty_at (suc level) t) (pretty_spells (suc level) t h.1))
 
-  -- an item and those behind it, with whitespace behind the last
-  items_spell : (level : ℕ) (tail : List ℕ) → AreSpaces tail → (ts : Items) → AreTrees ts → (t : Tree) (first : List ℕ) → SpellsValue t first → Then (Padded (SpellsValue t)) (SpellsMoreItems ts) (line_break level ++ (first ++ (pretty_more_items level ts ++ tail)))
+  -- an item and the further items, with whitespace after the last one
+  items_spell : (level : ℕ) (tail : List ℕ) → AreSpaces tail → (ts : Items) → AreValidItems ts → (t : Tree) (first : List ℕ) → SpellsValue t first → Then (Padded (SpellsValue t)) (SpellsMoreItems ts) (line_break level ++ (first ++ (pretty_more_items level ts ++ tail)))
   items_spell level tail a no_items h t first k = (line_break level ++ (first ++ tail), [], sym (append-nil (line_break level ++ (first ++ tail))), within t (line_break level) first tail (break_spaces level) a k, refl)
   items_spell level tail a (item u us) h t first k =
       let next = items_spell level tail a us h.1 u (pretty_at level u) (pretty_spells level u h.0) in (
@@ -82,8 +82,8 @@ mutual
         (next.0, next.1, ap (λ (ys : List ℕ). 0x2c ∷ ys) next.2, next.3, next.4),
       )
 
-  -- a member and those behind it, likewise
-  members_spell : (level : ℕ) (tail : List ℕ) → AreSpaces tail → (ms : Members) → AreMembers ms → (k : List ℕ) → IsUtf8 k → (t : Tree) (value : List ℕ) → SpellsValue t value → Then (Pairs (SpellsString k) (SpellsValue t)) (SpellsMoreMembers ms) (line_break level ++ (pretty_pair k value ++ (pretty_more_members level ms ++ tail)))
+  -- a member and the further members, likewise
+  members_spell : (level : ℕ) (tail : List ℕ) → AreSpaces tail → (ms : Members) → AreValidMembers ms → (k : List ℕ) → IsUtf8 k → (t : Tree) (value : List ℕ) → SpellsValue t value → Then (Pairs (SpellsString k) (SpellsValue t)) (SpellsMoreMembers ms) (line_break level ++ (pretty_pair k value ++ (pretty_more_members level ms ++ tail)))
   members_spell level tail a no_members h k u t value v = (line_break level ++ (pretty_pair k value ++ tail), [], sym (append-nil (line_break level ++ (pretty_pair k value ++ tail))), member_within k t (line_break level) value tail (break_spaces level) a (quoted_spells k u) v, refl)
   members_spell level tail a (member l s ms) h k u t value v =
       let next = members_spell level tail a ms h.2 l h.0 s (pretty_at level s) (pretty_spells level s h.1) in (
@@ -94,6 +94,6 @@ mutual
         (next.0, next.1, ap (λ (ys : List ℕ). 0x2c ∷ ys) next.2, next.3, next.4),
       )
 
--- a text with line breaks spells its tree
+-- An indented text spells its tree.
 pub pretty_back : PrintsBack pretty
 pretty_back t h = bare (SpellsValue t) (pretty t) (pretty_spells 0 t h)

@@ -1,4 +1,4 @@
--- What is printed, piece by piece.
+-- Steps of printing line breaks and strings.
 use Rattle.std.proofs.Common.{◌≡◌, ℕ, ◌+◌, ◌-◌, ◌*◌, ◌<◌, List, [], ◌∷◌, ◌++◌, take, drop, flat_map, replicate, Result, Ok, Err, OnErr, ap, sym, ◌∙◌, arith}
 use Rattle.std.proofs.lemmas.List.{replicate-append-replicate, take-append-drop}
 use Rattle.std.proofs.lemmas.List.Concat.{flat_map-append}
@@ -8,7 +8,7 @@ pub on_err : {T E : Type 0} (r : Result T E) {P : Type 0} → P → OnErr r P
 on_err (Ok x) p = tt
 on_err (Err e) p = p
 
--- two spaces more
+-- the spaces of one more level
 pub level_more : (i : ℕ) → replicate (2 * i) 0x20 ++ 0x20 ∷ 0x20 ∷ [] ≡ replicate {A = ℕ} (2 * (i + 1)) 0x20
 level_more i =
     let count : 2 * i + 2 ≡ 2 * (i + 1) = omega arith in
@@ -17,7 +17,7 @@ level_more i =
 two_first : (n : ℕ) → 0x20 ∷ 0x20 ∷ replicate n 0x20 ≡ replicate {A = ℕ} (2 + n) 0x20
 two_first n = replicate-append-replicate 2 n 0x20
 
--- those so far, two more, and those of the levels behind
+-- the spaces of the levels so far, of the next level, and of the rest
 pub levels_left : (level i : ℕ) → i < level → replicate (2 * i) 0x20 ++ (0x20 ∷ 0x20 ∷ replicate (2 * (level - i - 1)) 0x20) ≡ replicate {A = ℕ} (2 * level) 0x20
 levels_left level i within =
     let count : 2 * i + (2 + 2 * (level - i - 1)) ≡ 2 * level = omega arith in
@@ -25,6 +25,6 @@ levels_left level i within =
     ∙ replicate-append-replicate (2 * i) (2 + 2 * (level - i - 1)) 0x20
     ∙ ap (λ (n : ℕ). replicate n 0x20) count
 
--- the bytes so far, and those behind them
+-- the bytes so far and the rest
 pub body_split : (text : List ℕ) (i : ℕ) → flat_map escaped (take i text) ++ flat_map escaped (drop i text) ≡ flat_map escaped text
 body_split text i = sym (flat_map-append escaped (take i text) (drop i text)) ∙ ap (λ (xs : List ℕ). flat_map escaped xs) (take-append-drop i text)

@@ -1,4 +1,4 @@
--- Steps over a text whose runs without escapes are copied whole.
+-- Steps of the loop that copies runs of bytes without escapes.
 use Rattle.std.proofs.Common.{◌≡◌, ℕ, ◌+◌, ◌-◌, ◌≤◌, ◌<◌, List, [], ◌∷◌, ◌++◌, length, get_or, take, drop, flat_map, ap, sym, ◌∙◌, arith, append_assoc, get_or-drop, length-drop}
 use Rattle.std.specs.Prelude.{slice_range}
 use Rattle.std.proofs.lemmas.List.{take_more, flat_map_more, append-nil}
@@ -26,7 +26,7 @@ plain_more text before out from i d ordered within plain shown =
     ∙ ap (λ xs. (before ++ flat_map escaped (take i text)) ++ xs) (sym plain)
     ∙ shown_more text before i d within
 
--- a byte that is escaped, behind the run that ends before it
+-- a byte that is escaped, after the run before it
 pub escape_more : (text before out : List ℕ) (i d : ℕ) → i < length text → out ≡ before ++ flat_map escaped (take i text) → (out ++ escaped (get_or text i d)) ++ slice_range text (i + 1) (i + 1) ≡ before ++ flat_map escaped (take (i + 1) text)
 escape_more text before out i d within shown =
     let none : i + 1 - (i + 1) ≡ 0 = omega arith in

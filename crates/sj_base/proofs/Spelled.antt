@@ -1,4 +1,4 @@
--- Worked values of the relations: what each holds of, and what it refuses.
+-- Worked values of the relations: texts that each holds of, and texts that it doesn't.
 use Rattle.std.specs.Prelude.{◌≡◌, ℕ, ◌≤◌, ◌<◌, pos, false, true, List, [], ◌∷◌, ◌++◌, codes, flat_map, Bool}
 use Rattle.std.specs.List.{AllByRecursion}
 use Rattle.std.specs.Char.{IsScalar, IsAsciiDigit}
@@ -7,39 +7,39 @@ use Rattle.std.proofs.lemmas.Bool.{false≢true}
 use Rattle.std.proofs.lemmas.Str.{encode_ascii, encode_same}
 use Rattle.sj_base.specs.Tree.{Tree, integer, list, no_items, item}
 use Rattle.sj_base.specs.Number.{minus, IsWhole, IsFraction, IsExponent, SpellsInteger, IsDecimal}
-use Rattle.sj_base.specs.Characters.{Row, raw, short, unit, pair, hex_value, IsRow, row_bytes, Means}
+use Rattle.sj_base.specs.Characters.{CharacterForm, raw, short, unit, pair, hex_value, IsCharacterForm, form_bytes, Means}
 use Rattle.sj_base.specs.Spelling.{AreSpaces, Padded, SpellsValue, Spells}
-use Rattle.sj_base.specs.Document.{Document}
+use Rattle.sj_base.specs.Spelling.{Document}
 use Rattle.sj_base.proofs.Fronts.{cons_parts}
 use Rattle.sj_base.proofs.Cuts.{kind_at, space_low, padded_begins}
 use Rattle.sj_base.proofs.NumberBytes.{no_decimal}
 use Rattle.sj_base.proofs.Values.{value_opens}
 
--- `\u0041` means A
+-- `\u0041` stands for A.
 unit_means : Means (codes "\\u0041") (codes "A")
-unit_means = record { rows = unit (codes "0041") ∷ []; are_rows = (((refl, (omega arith, (omega arith, (omega arith, (omega arith, tt))))), refl), tt); shown = refl; meant = sym (ap (λ (bs : List ℕ). bs ++ []) (encode_ascii 0x41 (omega arith))) }
+unit_means = record { forms = unit (codes "0041") ∷ []; are_forms = (((refl, (omega arith, (omega arith, (omega arith, (omega arith, tt))))), refl), tt); shown = refl; meant = sym (ap (λ (bs : List ℕ). bs ++ []) (encode_ascii 0x41 (omega arith))) }
 
--- `\ud83d` by itself means nothing
-no_lone_surrogate : (rows : List Row) → AllByRecursion IsRow rows → codes "\\ud83d" ≡ flat_map row_bytes rows → ⊥
+-- `\ud83d` alone stands for no text.
+no_lone_surrogate : (forms : List CharacterForm) → AllByRecursion IsCharacterForm forms → codes "\\ud83d" ≡ flat_map form_bytes forms → ⊥
 no_lone_surrogate [] h e = let n = ap length e in omega arith
-no_lone_surrogate (raw c ∷ rows) h e =
-    h.0.3 (encode_same c 0x5c (flat_map row_bytes rows) (codes "ud83d") (sym e ∙ ap (λ (bs : List ℕ). bs ++ codes "ud83d") (sym (encode_ascii 0x5c (omega arith))))).0
-no_lone_surrogate (short letter ∷ rows) h e =
+no_lone_surrogate (raw c ∷ forms) h e =
+    h.0.3 (encode_same c 0x5c (flat_map form_bytes forms) (codes "ud83d") (sym e ∙ ap (λ (bs : List ℕ). bs ++ codes "ud83d") (sym (encode_ascii 0x5c (omega arith))))).0
+no_lone_surrogate (short letter ∷ forms) h e =
     let u : letter ≡ 0x75 = sym (cons_parts ((cons_parts e).1)).0 in
-    let none : IsRow (short 0x75) = subst (λ l. IsRow (short l)) u h.0 in
+    let none : IsCharacterForm (short 0x75) = subst (λ l. IsCharacterForm (short l)) u h.0 in
     false≢true none
-no_lone_surrogate (unit ds ∷ rows) h e =
-    let rest : codes "d83d" ≡ ds ++ flat_map row_bytes rows = (cons_parts ((cons_parts e).1)).1 in
-    let same : codes "d83d" ≡ ds = ap (λ (bs : List ℕ). take 4 bs) rest ∙ take_at ds (flat_map row_bytes rows) 4 h.0.0.0 in
+no_lone_surrogate (unit ds ∷ forms) h e =
+    let rest : codes "d83d" ≡ ds ++ flat_map form_bytes forms = (cons_parts ((cons_parts e).1)).1 in
+    let same : codes "d83d" ≡ ds = ap (λ (bs : List ℕ). take 4 bs) rest ∙ take_at ds (flat_map form_bytes forms) 4 h.0.0.0 in
     let surrogate : IsScalar 0xd83d = subst (λ bs. IsScalar (hex_value bs)) (sym same) h.0.1 in
     false≢true surrogate
-no_lone_surrogate (pair high low ∷ rows) h e =
-    let rest : codes "d83d" ≡ high ++ ((0x5c ∷ 0x75 ∷ low) ++ flat_map row_bytes rows) = (cons_parts ((cons_parts e).1)).1 ∙ append_assoc high (0x5c ∷ 0x75 ∷ low) (flat_map row_bytes rows) in
-    let more = ap (λ (bs : List ℕ). length (drop 4 bs)) rest ∙ ap length (drop_at high ((0x5c ∷ 0x75 ∷ low) ++ flat_map row_bytes rows) 4 h.0.0.0) in
+no_lone_surrogate (pair high low ∷ forms) h e =
+    let rest : codes "d83d" ≡ high ++ ((0x5c ∷ 0x75 ∷ low) ++ flat_map form_bytes forms) = (cons_parts ((cons_parts e).1)).1 ∙ append_assoc high (0x5c ∷ 0x75 ∷ low) (flat_map form_bytes forms) in
+    let more = ap (λ (bs : List ℕ). length (drop 4 bs)) rest ∙ ap length (drop_at high ((0x5c ∷ 0x75 ∷ low) ++ flat_map form_bytes forms) 4 h.0.0.0) in
     omega arith
 
 lone_surrogate : (text : List ℕ) → Means (codes "\\ud83d") text → ⊥
-lone_surrogate text h = no_lone_surrogate h.rows h.are_rows h.shown
+lone_surrogate text h = no_lone_surrogate h.forms h.are_forms h.shown
 
 -- without whitespace around it
 bare : (P : List ℕ → Type 0) (bs : List ℕ) → P bs → Padded P bs
@@ -76,7 +76,7 @@ no_first_byte (b ∷ before) rest e h = let n = ap length e in omega arith
 empty_line : (t : Tree) → Spells [] t → ⊥
 empty_line t h = let p = padded_begins SpellsValue t value_opens [] [] h in no_first_byte p.0 p.1 p.3 p.4
 
--- A closing bracket alone spells none.
+-- A closing bracket alone spells no tree.
 no_opening_byte : (before rest : List ℕ) → AreSpaces before → codes "]" ≡ before ++ rest → kind_at rest < 8 → ⊥
 no_opening_byte [] rest spaces e h = let closing = ap kind_at e in omega arith
 no_opening_byte (b ∷ before) rest spaces e h = let low = space_low b spaces.0 in let same = (cons_parts e).0 in omega arith
@@ -84,11 +84,11 @@ no_opening_byte (b ∷ before) rest spaces e h = let low = space_low b spaces.0 
 closing_bracket : (t : Tree) → Spells (codes "]") t → ⊥
 closing_bracket t h = let p = padded_begins SpellsValue t value_opens (codes "]") [] h in no_opening_byte p.0 p.1 p.2 p.3 p.5
 
--- a scalar within no level
+-- A scalar is within a limit of 0 levels.
 scalar_document : Document (codes "7") 0 (integer (pos 7))
 scalar_document = record { short = omega arith; spells = seven_spelled; shallow = omega arith }
 
--- a list needs one
+-- A list isn't.
 list_too_deep : Document (codes "[]") 0 (list no_items) → ⊥
 list_too_deep h = let shallow : 1 ≤ 0 = h.shallow in omega arith
 
@@ -119,11 +119,11 @@ exponent_with_plus = record {
   has_one = λ e. let n = ap length e in omega arith;
 }
 
--- an integer is none
+-- An integer isn't a decimal literal.
 integer_no_decimal : IsDecimal (codes "-0") → ⊥
 integer_no_decimal h = no_decimal (pos 0) (codes "-0") minus_zero h
 
--- A point wants digits behind it.
+-- A point has to be followed by digits.
 no_point_alone : (before rest : List ℕ) → codes "." ≡ before ++ rest → IsFraction before → IsExponent rest → ⊥
 no_point_alone before rest e (inl none) (inl nothing) = let n = ap length (e ∙ ap (λ (bs : List ℕ). bs ++ rest) none ∙ nothing) in omega arith
 no_point_alone before rest e (inl none) (inr h) =

@@ -1,4 +1,4 @@
--- A value of each kind is cut off in one way, and means one tree.
+-- For each kind of values: the split after a value is unique, and the value has one tree.
 use Rattle.std.specs.Prelude.{◌≡◌, ℕ, ℤ, ◌<◌, ◌⊎◌, true, false, List, [], ◌∷◌, ◌++◌, codes}
 use Rattle.std.specs.Char.{IsAsciiDigit}
 use Rattle.std.proofs.Common.{refl, sym, ap, ◌∙◌, subst, inl, inr, arith, append_assoc}
@@ -11,7 +11,7 @@ use Rattle.sj_base.proofs.NumberBytes.{IsInNumber, integer_parts, same_integer, 
 use Rattle.sj_base.proofs.Bodies.{same_string}
 use Rattle.sj_base.proofs.Cuts.{kind_of, kind_at, kind_of-digit, Cuts, Opens}
 
--- what the first byte of a value tells of it
+-- the class of a value's first byte
 kind : Tree → ℕ
 kind (string s) = 1
 kind (list ts) = 2
@@ -21,7 +21,7 @@ kind null = 5
 kind (integer n) = 7
 kind (decimal literal) = 7
 
--- a number begins with a minus or a digit
+-- A number begins with a minus or a digit.
 number_kind : (f r : List ℕ) → (b : ℕ) × (others : List ℕ) × (f ≡ b ∷ others) × ((b ≡ 0x2d) ⊎ IsAsciiDigit b) → kind_at (f ++ r) ≡ 7
 number_kind f r p = ap (λ (ys : List ℕ). kind_at (ys ++ r)) p.2 ∙ first p.0 p.3
   where
@@ -29,7 +29,7 @@ number_kind f r p = ap (λ (ys : List ℕ). kind_at (ys ++ r)) p.2 ∙ first p.0
     first b (inl e) = ap kind_of e
     first b (inr d) = kind_of-digit b d
 
--- what a value begins with
+-- the first byte of a value
 value_kind : (t : Tree) (f r : List ℕ) → SpellsValue t f → kind_at (f ++ r) ≡ kind t
 unfolding kind
 value_kind null f r h = ap (λ (ys : List ℕ). kind_at (ys ++ r)) h
@@ -41,7 +41,7 @@ value_kind (string s) f r h = ap (λ (ys : List ℕ). kind_at (ys ++ r)) h.parts
 value_kind (list ts) f r h = ap (λ (ys : List ℕ). kind_at (ys ++ r)) h.1
 value_kind (object ms) f r h = ap (λ (ys : List ℕ). kind_at (ys ++ r)) h.1
 
--- kinds of values are neither none nor that of a closing byte
+-- The class of a value is neither 0 nor 8.
 kind_bounds : (t : Tree) → (0 < kind t) × (kind t < 8)
 unfolding kind
 kind_bounds null = (omega arith, omega arith)
@@ -52,37 +52,37 @@ kind_bounds (string s) = (omega arith, omega arith)
 kind_bounds (list ts) = (omega arith, omega arith)
 kind_bounds (object ms) = (omega arith, omega arith)
 
--- so values begin as such
+-- A value begins with a byte of its class.
 pub value_opens : Opens SpellsValue
 value_opens t f r h = let b = kind_bounds t in let e = value_kind t f r h in (omega arith, omega arith)
 
--- and strings
+-- so does a string
 pub string_opens : Opens SpellsString
 string_opens s f r h = value_opens (string s) f r h
 
--- values in front of one rest are of one kind
+-- Two values that begin the same text have the same class.
 same_kind : (s t : Tree) (f g r q : List ℕ) → SpellsValue s f → SpellsValue t g → f ++ r ≡ g ++ q → kind s ≡ kind t
 same_kind s t f g r q h k e = sym (value_kind s f r h) ∙ ap kind_at e ∙ value_kind t g q k
 
--- a word of its own is cut off in one way
+-- The split after a literal name is unique.
 same_word : (word f g r q : List ℕ) → f ≡ word → g ≡ word → f ++ r ≡ g ++ q → r ≡ q
 same_word word f g r q h k e = append_cancel_left word r q (ap (λ (ys : List ℕ). ys ++ r) (sym h) ∙ e ∙ ap (λ (ys : List ℕ). ys ++ q) k)
 
--- what stands between two bytes, and behind the first
+-- a text between two brackets, and the text behind the first bracket
 same_between : (left right : ℕ) (f g i j r q : List ℕ) → f ≡ left ∷ (i ++ right ∷ []) → g ≡ left ∷ (j ++ right ∷ []) → f ++ r ≡ g ++ q → i ++ right ∷ r ≡ j ++ right ∷ q
 same_between left right f g i j r q h k e = sym (append_assoc i (right ∷ []) r) ∙ (cons_parts (ap (λ (ys : List ℕ). ys ++ r) (sym h) ∙ e ∙ ap (λ (ys : List ℕ). ys ++ q) k)).1 ∙ append_assoc j (right ∷ []) q
 
--- a value, cut off before what no number goes on with
+-- a value before a byte that is in no number
 abbrev pub CutsValue : Tree → Type 0
 CutsValue t = Cuts SpellsValue (NotFirst IsInNumber) t
 
--- `null`. The last clause here and below is for a tree of another kind.
+-- `null`. The last clause, here and below, is for a tree of another kind.
 pub null_cuts : CutsValue null
 unfolding kind
 null_cuts null f g r q h k m n e = (refl, same_word (codes "null") f g r q h k e)
 null_cuts t f g r q h k m n e = let d = same_kind null t f g r q h k e in absurd (omega arith)
 
--- the words of the two truth values differ
+-- `true` and `false` differ.
 no_word : (f g r q : List ℕ) → f ≡ codes "true" → g ≡ codes "false" → f ++ r ≡ g ++ q → ⊥
 no_word f g r q h k e = let t = (cons_parts (ap (λ (ys : List ℕ). ys ++ r) (sym h) ∙ e ∙ ap (λ (ys : List ℕ). ys ++ q) k)).0 in omega arith
 
@@ -100,7 +100,7 @@ false_cuts (boolean false) f g r q h k m n e = (refl, same_word (codes "false") 
 false_cuts (boolean true) f g r q h k m n e = absurd (no_word g f q r k h (sym e))
 false_cuts t f g r q h k m n e = let d = same_kind (boolean false) t f g r q h k e in absurd (omega arith)
 
--- An integer: of two numbers in front of one rest the bytes are the same.
+-- An integer: two numbers that begin the same text have the same bytes.
 pub integer_cuts : (z : ℤ) → CutsValue (integer z)
 unfolding kind
 integer_cuts z (integer y) f g r q h k m n e =
@@ -134,11 +134,11 @@ string_cuts s t f g r q h k m n e = let d = same_kind (string s) t f g r q h k e
 pub key_cuts : (s : List ℕ) → Cuts SpellsString (NotFirst IsInNumber) s
 key_cuts s t f g r q h k m n e = same_string s t f g r q h k e
 
--- this byte stands in front
+-- the text with this byte before it
 abbrev pub Before : ℕ → List ℕ → Type 0
 Before b bs = (others : List ℕ) × (bs ≡ b ∷ others)
 
--- a list, where what stands between its brackets is cut off in one way
+-- a list, if the split after its items is unique
 pub list_cuts : (ts : Items) → Cuts SpellsItems (Before 0x5d) ts → CutsValue (list ts)
 unfolding kind
 list_cuts ss cuts (list ts) f g r q h k m n e =

@@ -1,4 +1,4 @@
--- What a container holds, and what a tree holds.
+-- The items of a list and the members of an object.
 use Rattle.std.specs.Prelude.{ℕ, suc, List, [], ◌∷◌, Option, Some, None}
 use Rattle.sj_base.specs.Tree.{Tree, null, boolean, integer, decimal, string, list, object, Items, no_items, item, Members, no_members, member}
 
@@ -37,7 +37,7 @@ members_in (string s) = None
 members_in (list ts) = None
 members_in (object ms) = Some ms
 
--- the tree itself, where it holds no other
+-- the tree itself, unless it is a list or an object
 abbrev pub scalar_in : Tree → Option Tree
 scalar_in null = Some null
 scalar_in (boolean b) = Some (boolean b)

@@ -1,4 +1,5 @@
--- Of a key that comes again in its object only the first member is kept (RFC 8259, section 4, leaves it open).
+-- Trees without repeated keys: of several members with the same key only the first is kept (RFC 8259, section 4, leaves
+-- the meaning of repeated keys open).
 use Rattle.std.specs.Prelude.{ℕ, cond, List, bytes_eq}
 use Rattle.sj_base.specs.Tree.{Tree, null, boolean, integer, decimal, string, list, object, Items, no_items, item, Members, no_members, member}
 
@@ -7,7 +8,7 @@ abbrev pub without : List ℕ → Members → Members
 without key no_members = no_members
 without key (member k t ms) = cond (bytes_eq k key) (without key ms) (member k t (without key ms))
 
--- only the first member of each key, in each object
+-- the first member of each key alone, in each object of the tree
 abbrev mutual
   pub keep : Tree → Tree
   keep null = null

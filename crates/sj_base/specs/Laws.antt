@@ -1,34 +1,43 @@
--- Laws of the definitions: what bytes mean, and what printing keeps.
-use Rattle.std.specs.Prelude.{◌≡◌, ℕ, ◌≤◌, ◌↔◌, List, IsUtf8}
+-- Laws of spelling and printing.
+use Rattle.std.specs.Prelude.{◌≡◌, ℕ, ◌≤◌, ◌↔◌, List, ◌∷◌, IsUtf8}
 use Rattle.std.specs.List.{AllByRecursion}
-use Rattle.sj_base.specs.Tree.{Tree, IsTree}
+use Rattle.sj_base.specs.Tree.{Tree, list, object, Items, Members, IsValidTree}
 use Rattle.sj_base.specs.Spelling.{Spells}
 use Rattle.sj_base.specs.Text.{text}
+use Rattle.sj_base.specs.Layout.{laid_out, inside, opened_list, opened_object, rest_text, item_texts, member_texts}
+use Rattle.sj_base.specs.declared.layout.Layout.{Layout}
 
--- Bytes spell one tree at most.
+-- No bytes spell two trees.
 abbrev pub OneMeaning : Type 0
 OneMeaning = (bytes : List ℕ) (s t : Tree) → Spells bytes s → Spells bytes t → s ≡ t
 
--- What prints a tree, compact or with line breaks, spells it.
+-- A printed text spells the tree that was printed.
 abbrev pub PrintsBack : (Tree → List ℕ) → Type 0
-PrintsBack print = (t : Tree) → IsTree t → Spells (print t) t
+PrintsBack print = (t : Tree) → IsValidTree t → Spells (print t) t
 
--- Trees with one text are one tree, with its members in one order.
+-- Two valid trees have the same text exactly if they are equal.
 abbrev pub OneText : Type 0
-OneText = (s t : Tree) → IsTree s → IsTree t → (text s ≡ text t) ↔ (s ≡ t)
+OneText = (s t : Tree) → IsValidTree s → IsValidTree t → (text s ≡ text t) ↔ (s ≡ t)
 
--- Only trees that there are are spelled.
+-- Every tree that is spelled is valid.
 abbrev pub SpellsTrees : Type 0
-SpellsTrees = (bytes : List ℕ) (t : Tree) → Spells bytes t → IsTree t
+SpellsTrees = (bytes : List ℕ) (t : Tree) → Spells bytes t → IsValidTree t
 
--- Only UTF-8 spells a tree.
+-- Bytes that spell a tree are UTF-8.
 abbrev pub SpelledInUtf8 : Type 0
 SpelledInUtf8 = (bytes : List ℕ) (t : Tree) → Spells bytes t → IsUtf8 bytes
 
--- What prints a tree writes UTF-8.
+-- The printed text of a valid tree is UTF-8.
 abbrev pub PrintsUtf8 : (Tree → List ℕ) → Type 0
-PrintsUtf8 print = (t : Tree) → IsTree t → IsUtf8 (print t)
+PrintsUtf8 print = (t : Tree) → IsValidTree t → IsUtf8 (print t)
 
--- A text has no control character below U+0020, so no line feed.
+-- A compact text has no byte below 0x20, so no line feed.
 abbrev pub OneLine : Type 0
-OneLine = (t : Tree) → IsTree t → AllByRecursion (λ b. 0x20 ≤ b) (text t)
+OneLine = (t : Tree) → IsValidTree t → AllByRecursion (λ b. 0x20 ≤ b) (text t)
+
+-- The pieces that are printed of a list or an object make up its text.
+abbrev pub LaysOutLists : Type 0
+LaysOutLists = (y : Layout) (ts : Items) → laid_out y (list ts) ≡ 0x5b ∷ rest_text (opened_list y) (item_texts (inside y) ts)
+
+abbrev pub LaysOutObjects : Type 0
+LaysOutObjects = (y : Layout) (ms : Members) → laid_out y (object ms) ≡ 0x7b ∷ rest_text (opened_object y) (member_texts (inside y) ms)

@@ -10,7 +10,7 @@ abbrev pub minus : Bool → List ℕ
 minus true = 0x2d ∷ []
 minus false = []
 
--- the number that a minus, or none, and a number without one stand for
+-- the integer of n, with a minus or without
 abbrev pub signed : Bool → ℕ → ℤ
 signed b n = cond b (neg_ℤ (pos n)) (pos n)
 

@@ -34,7 +34,7 @@ abbrev pub at : Tree → List Part → Option Tree
 at t [] = Some t
 at t (part ∷ path) = option_and_then (λ u. at u path) (child t part)
 
--- the first member with that key changed, and the item at that place
+-- the first member with that key, or the item at that place, is changed
 abbrev pub change_member : (Tree → Tree) → Members → List ℕ → Members
 change_member change no_members k = no_members
 change_member change (member name t ms) k = cond (bytes_eq name k) (member name (change t) ms) (member name t (change_member change ms k))

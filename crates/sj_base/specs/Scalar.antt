@@ -1,8 +1,11 @@
--- The tree of a scalar, whichever carrier holds an integer.
-use Rattle.std.specs.Prelude.{ℕ, ℤ, pos, Bool, cond, ◌==◌}
+-- What scalars stand for: trees, types, and how they compare.
+use Rattle.std.specs.Prelude.{ℕ, ℤ, pos, Bool, true, false, cond, ◌==◌, List, string_bytes}
 use Rattle.std.specs.Ordering.{on, int_eq, eq_of_both}
 use Rattle.sj_base.specs.Tree.{Tree, null, boolean, integer, decimal, string}
-use Rattle.sj_base.specs.Literal.{decimal_text}
+use Rattle.sj_base.specs.declared.decimal.Decimal.{Decimal}
+use Rattle.sj_base.specs.declared.decimal.DecimalBuf.{DecimalBuf}
+use Rattle.sj_base.specs.declared.decimal.DecimalCow.{DecimalCow}
+use Rattle.sj_base.specs.declared.decimal.DecimalCow.TheVariants.{Borrowed, Owned}
 use Rattle.sj_base.specs.declared.static_node.ValueType.{ValueType}
 use Rattle.sj_base.specs.declared.static_node.ValueType.TheVariants.{Null as null_type, Bool as boolean_type, I64 as signed_type, U64 as unsigned_type, Decimal as decimal_type, String as string_type}
 use Rattle.sj_base.specs.declared.static_node.StaticNode.{StaticNode}
@@ -10,6 +13,22 @@ use Rattle.sj_base.specs.declared.static_node.StaticNode.TheVariants.{Null, Bool
 use Rattle.sj_base.specs.declared.scalar.Scalar.{Scalar}
 use Rattle.sj_base.specs.declared.scalar.Scalar.TheVariants.{Static, Text, Literal}
 
+-- the text of a decimal literal
+abbrev pub decimal_text : Decimal → List ℕ
+decimal_text d = d.text.now
+
+abbrev pub decimal_buf_text : DecimalBuf → List ℕ
+decimal_buf_text d = string_bytes d.text
+
+abbrev pub decimal_cow_text : DecimalCow → List ℕ
+decimal_cow_text (Borrowed d) = decimal_text d
+decimal_cow_text (Owned d) = decimal_buf_text d
+
+abbrev pub is_borrowed : DecimalCow → Bool
+is_borrowed (Borrowed d) = true
+is_borrowed (Owned d) = false
+
+-- the tree of a scalar
 abbrev pub static_tree : StaticNode → Tree
 static_tree Null = null
 static_tree (Boolean b) = boolean b
@@ -21,7 +40,7 @@ scalar_tree (Static node) = static_tree node
 scalar_tree (Text s) = string s.now
 scalar_tree (Literal d) = decimal (decimal_text d)
 
--- the type tells the carrier
+-- The type of an integer tells its carrier.
 abbrev pub static_type : StaticNode → ValueType
 static_type Null = null_type
 static_type (Boolean b) = boolean_type
@@ -33,14 +52,14 @@ scalar_type (Static node) = static_type node
 scalar_type (Text s) = string_type
 scalar_type (Literal d) = decimal_type
 
--- 0 for null, 1 for a truth value, 2 for an integer
+-- 0 for null, 1 for a boolean, 2 for an integer
 abbrev pub static_rank : StaticNode → ℕ
 static_rank Null = 0
 static_rank (Boolean b) = 1
 static_rank (I64 n) = 2
 static_rank (U64 n) = 2
 
--- the integer, or 1 for true and 0 for what is left
+-- the integer, 1 for true, and 0 for false and null
 abbrev pub static_number : StaticNode → ℤ
 static_number Null = pos 0
 static_number (Boolean b) = cond b (pos 1) (pos 0)

@@ -1,7 +1,7 @@
--- Which bytes spell which tree (RFC 8259, sections 2 to 7).
-use Rattle.std.specs.Prelude.{◌≡◌, ℕ, ◌⊎◌, true, false, List, [], ◌∷◌, ◌++◌, codes}
+-- The bytes that spell a tree (RFC 8259, sections 2 to 7 and 9).
+use Rattle.std.specs.Prelude.{◌≡◌, ℕ, ◌≤◌, ◌⊎◌, true, false, List, [], ◌∷◌, ◌++◌, length, codes}
 use Rattle.std.specs.List.{AllByRecursion}
-use Rattle.sj_base.specs.Tree.{Tree, null, boolean, integer, decimal, string, list, object, Items, no_items, item, Members, no_members, member, IsInRange}
+use Rattle.sj_base.specs.Tree.{Tree, null, boolean, integer, decimal, string, list, object, Items, no_items, item, Members, no_members, member, IsInRange, depth}
 use Rattle.sj_base.specs.Number.{SpellsInteger, IsDecimal}
 use Rattle.sj_base.specs.Characters.{Means}
 
@@ -76,3 +76,13 @@ abbrev mutual
 -- whitespace, one value, whitespace
 abbrev pub Spells : List ℕ → Tree → Type 0
 Spells bs t = Padded (SpellsValue t) bs
+
+-- the longest line that is read, in bytes: `u32::MAX`
+abbrev pub longest : ℕ
+longest = 4294967295
+
+-- A line that spells a tree within a limit of length, and one of depth in levels (section 9 lets a reader set limits).
+pub record Document (line : List ℕ) (limit : ℕ) (t : Tree) : Type 0 where
+  pub short : length line ≤ longest
+  pub spells : Spells line t
+  pub shallow : depth t ≤ limit

@@ -4,7 +4,7 @@ use Rattle.std.specs.Fmt.{signed_decimal}
 use Rattle.std.specs.Char.{digit_char}
 use Rattle.sj_base.specs.Tree.{Tree, null, boolean, integer, decimal, string, list, object, Items, no_items, item, Members, no_members, member}
 
--- A character below U+0020, `"` and `\` are ASCII, so an escape stands in the place of one byte, and all other bytes stand raw.
+-- A byte of a string as it is printed: `"`, `\` and characters below U+0020 are escaped, and they are one byte each.
 abbrev pub escaped : ℕ → List ℕ
 escaped b =
     cond (b == 0x22) (0x5c ∷ 0x22 ∷ [])
@@ -58,7 +58,7 @@ line_break level = 0x0a ∷ replicate (2 * level) 0x20
 abbrev pub pretty_pair : List ℕ → List ℕ → List ℕ
 pretty_pair k value = quoted k ++ 0x3a ∷ 0x20 ∷ value
 
--- at a level, that of the line that the value begins on
+-- The level is that of the line on which the value begins.
 abbrev mutual
   pub pretty_at : ℕ → Tree → List ℕ
   pretty_at level null = codes "null"

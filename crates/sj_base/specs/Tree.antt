@@ -1,9 +1,9 @@
--- What a JSON text means (RFC 8259, sections 3 to 7): a tree of values. It knows no carrier of an
--- integer, no hash and no form of storage, and a key may come twice.
+-- The value of a JSON text (RFC 8259, sections 3 to 7), as a tree. An integer is its number, whichever carrier holds it,
+-- and an object may have several members with the same key.
 use Rattle.std.specs.Prelude.{ℕ, ℤ, pos, negsuc, suc, ◌<◌, ◌^◌, max, Bool, List, ⊤, IsUtf8}
 use Rattle.sj_base.specs.Number.{IsDecimal}
 
--- A text or a key is its bytes in UTF-8, which stand for one list of Unicode scalar values and no other.
+-- Strings, keys and decimal literals are lists of bytes.
 mutual
   pub data Tree : Type 0 where
     null : Tree
@@ -27,24 +27,24 @@ abbrev pub IsInRange : ℤ → Type 0
 IsInRange (pos n) = n < 2 ^ 64
 IsInRange (negsuc n) = n < 2 ^ 63
 
--- The trees that there are: each integer is in range, each decimal literal is one, and each text and key is UTF-8.
+-- Each integer is in range, each decimal literal follows the grammar of numbers, and each string and key is UTF-8.
 abbrev mutual
-  pub IsTree : Tree → Type 0
-  IsTree null = ⊤
-  IsTree (boolean b) = ⊤
-  IsTree (integer n) = IsInRange n
-  IsTree (decimal literal) = IsDecimal literal
-  IsTree (string s) = IsUtf8 s
-  IsTree (list ts) = AreTrees ts
-  IsTree (object ms) = AreMembers ms
+  pub IsValidTree : Tree → Type 0
+  IsValidTree null = ⊤
+  IsValidTree (boolean b) = ⊤
+  IsValidTree (integer n) = IsInRange n
+  IsValidTree (decimal literal) = IsDecimal literal
+  IsValidTree (string s) = IsUtf8 s
+  IsValidTree (list ts) = AreValidItems ts
+  IsValidTree (object ms) = AreValidMembers ms
 
-  pub AreTrees : Items → Type 0
-  AreTrees no_items = ⊤
-  AreTrees (item t ts) = IsTree t × AreTrees ts
+  pub AreValidItems : Items → Type 0
+  AreValidItems no_items = ⊤
+  AreValidItems (item t ts) = IsValidTree t × AreValidItems ts
 
-  pub AreMembers : Members → Type 0
-  AreMembers no_members = ⊤
-  AreMembers (member k t ms) = IsUtf8 k × IsTree t × AreMembers ms
+  pub AreValidMembers : Members → Type 0
+  AreValidMembers no_members = ⊤
+  AreValidMembers (member k t ms) = IsUtf8 k × IsValidTree t × AreValidMembers ms
 
 -- levels of nesting: 0 for a scalar, 1 for an empty container
 abbrev mutual
@@ -57,7 +57,7 @@ abbrev mutual
   depth (list ts) = suc (items_depth ts)
   depth (object ms) = suc (members_depth ms)
 
-  -- that of the deepest item, or of the deepest member
+  -- the depth of the deepest item, or of the deepest member
   pub items_depth : Items → ℕ
   items_depth no_items = 0
   items_depth (item t ts) = max (depth t) (items_depth ts)

@@ -1,12 +1,14 @@
-//! Decimal literals: numbers with a fraction or an exponent, kept as their text.
-ghost use Rattle.std.specs.Prelude.{◌≡◌, ◌↔◌, IsSome, IfSome, IfOk, string_bytes};
+//! Decimal literals: numbers with a fraction or an exponent, kept as text.
+ghost use Rattle.std.specs.Prelude.{◌≡◌, ◌↔◌, IsSome, IfSome, IfOk, string_bytes, List, ℕ, Bool};
 ghost use Rattle.sj_base.specs.Number.{IsDecimal};
 
 use crate::part::is_decimal;
 use crate::try_copy::TryCopy;
 use std::alloc::{AllocError, Global};
 
-/// A number with a fraction or an exponent, as its text. Its value is never computed.
+/// A borrowed decimal literal: the text of a number with a fraction or an exponent.
+///
+/// The number keeps the digits that it was written with, and is never converted to a float.
 #[derive(Clone, Copy, Debug)]
 pub struct Decimal<'a> {
     text: &'a str,
@@ -14,9 +16,11 @@ pub struct Decimal<'a> {
 }
 
 impl<'a> Decimal<'a> {
-    ghost use Rattle.sj_base.specs.Literal.{decimal_text};
+    ghost use Rattle.sj_base.specs.Scalar.{decimal_text};
 
-    /// The literal, or `None` for any other text. Takes no memory.
+    /// Returns `text` as a decimal literal, or `None` if it isn't a JSON number with a fraction or an exponent.
+    ///
+    /// The whole of `text` is tested, so whitespace around a number is refused. No memory is allocated.
     pub fn new(text: &'a str) -> Option<Decimal<'a>>
         ensures accepts { IsSome result ↔ IsDecimal text.now }
         ensures text { IfSome result (λ d. decimal_text d ≡ text.now) }
@@ -28,7 +32,7 @@ impl<'a> Decimal<'a> {
         }
     }
 
-    /// The literal's own text.
+    /// Returns the text of the literal.
     pub fn as_str(&self) -> &'a str
         ensures text { result.now ≡ decimal_text self.now }
         ensures is_decimal { IsDecimal result.now }
@@ -37,7 +41,7 @@ impl<'a> Decimal<'a> {
     }
 }
 
-/// A literal that owns its text.
+/// An owned decimal literal.
 #[derive(Debug, Drop)]
 pub struct DecimalBuf {
     text: String,
@@ -45,9 +49,13 @@ pub struct DecimalBuf {
 }
 
 impl DecimalBuf {
-    ghost use Rattle.sj_base.specs.Literal.{decimal_text, decimal_buf_text};
+    ghost use Rattle.sj_base.specs.Scalar.{decimal_text, decimal_buf_text};
 
-    /// A copy of the literal.
+    /// Copies a literal.
+    ///
+    /// # Errors
+    ///
+    /// `AllocError` if there is no memory for the text.
     pub fn new(alloc: Global, literal: Decimal<'_>) -> Result<DecimalBuf, AllocError>
         ensures { IfOk result (λ d. decimal_buf_text d ≡ decimal_text literal.entry) }
     {
@@ -56,7 +64,7 @@ impl DecimalBuf {
         })
     }
 
-    /// The literal, whose text stays here.
+    /// Borrows the literal.
     pub fn as_decimal(&self) -> Decimal<'_>
         ensures { decimal_text result ≡ decimal_buf_text self.now }
     {
@@ -67,10 +75,14 @@ impl DecimalBuf {
 }
 
 impl TryCopy for DecimalBuf {
-    ghost use Rattle.sj_base.specs.Literal.{decimal_buf_text};
+    ghost use Rattle.sj_base.specs.Scalar.{decimal_buf_text};
     ghost use Rattle.sj_base.specs.Tree.{decimal};
 
-    ghost tree = { λ d. decimal (decimal_buf_text d) };
+    ghost Copied = { List ℕ };
+
+    ghost copied = { decimal_buf_text };
+
+    ghost tree = { decimal };
 
     fn try_clone(&self) -> Result<DecimalBuf, AllocError> {
         Ok(DecimalBuf {
@@ -79,17 +91,19 @@ impl TryCopy for DecimalBuf {
     }
 }
 
-/// A literal that is borrowed or owned.
+/// A decimal literal that is borrowed or owned, as in `std::borrow::Cow`.
 #[derive(Debug, Drop)]
 pub enum DecimalCow<'a> {
+    /// A borrowed literal.
     Borrowed(Decimal<'a>),
+    /// An owned literal.
     Owned(DecimalBuf),
 }
 
 impl DecimalCow<'_> {
-    ghost use Rattle.sj_base.specs.Literal.{decimal_text, decimal_cow_text};
+    ghost use Rattle.sj_base.specs.Scalar.{decimal_text, decimal_cow_text};
 
-    /// The literal, whose text stays where it is.
+    /// Borrows the literal.
     pub fn as_decimal(&self) -> Decimal<'_>
         ensures { decimal_text result ≡ decimal_cow_text self.now }
     {
@@ -100,12 +114,16 @@ impl DecimalCow<'_> {
     }
 }
 
-/// What is borrowed stays borrowed.
+/// A copy of a borrowed literal is borrowed.
 impl TryCopy for DecimalCow<'_> {
-    ghost use Rattle.sj_base.specs.Literal.{decimal_cow_text};
+    ghost use Rattle.sj_base.specs.Scalar.{decimal_cow_text, is_borrowed};
     ghost use Rattle.sj_base.specs.Tree.{decimal};
 
-    ghost tree = { λ d. decimal (decimal_cow_text d) };
+    ghost Copied = { Bool × List ℕ };
+
+    ghost copied = { λ d. (is_borrowed d, decimal_cow_text d) };
+
+    ghost tree = { λ c. decimal c.1 };
 
     fn try_clone(&self) -> Result<Self, AllocError> {
         Ok(match self {

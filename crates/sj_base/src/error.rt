@@ -1,58 +1,80 @@
-//! What is wrong with a text, and where.
+//! Errors of reading: what is wrong with a text, and where.
 ghost use Rattle.std.specs.Prelude.{◌≡◌, ◌≢◌, ◌↔◌, Some, None, IsTrue};
 ghost use Rattle.sj_base.specs.Names.{name_of, error_text};
 ghost use Rattle.sj_base.specs.Classes.{class_of, io_class, eof_class, syntax_class, data_class};
 
 use std::fmt;
 
-/// The kind of an error. It has the names of `simd_json::ErrorType`, without their payloads.
+/// The kind of an [`Error`] (`simd_json::ErrorType` without payloads).
 #[derive(Clone, Copy, Debug, PartialEq, Eq)]
 pub enum ErrorType {
     Unexpected,
+    /// An input longer than `u32::MAX` bytes.
     InputTooLarge,
+    /// A padded input with fewer than 64 bytes behind its text.
     InsufficientPadding,
     BadKeyType,
     ExpectedArray,
+    /// Neither a comma nor `]` behind an item of an array.
     ExpectedArrayComma,
     ExpectedBoolean,
     ExpectedEnum,
     ExpectedFloat,
     ExpectedInteger,
     ExpectedMap,
+    /// No colon behind a key.
     ExpectedObjectColon,
+    /// Neither a comma nor `}` behind a member of an object.
     ExpectedMapComma,
     ExpectedMapEnd,
+    /// A token that begins with `n` and isn't `null`.
     ExpectedNull,
+    /// A token that begins with `t` and isn't `true`.
     ExpectedTrue,
+    /// A token that begins with `f` and isn't `false`.
     ExpectedFalse,
     ExpectedNumber,
     ExpectedSigned,
     ExpectedString,
     ExpectedUnsigned,
+    /// A byte that begins no value, or a token behind the root container.
     InternalError,
+    /// A backslash with an unknown letter behind it.
     InvalidEscape,
     InvalidExponent,
+    /// A token that is no number, or an integer out of range.
     InvalidNumber,
+    /// An input that isn't UTF-8.
     InvalidUtf8,
+    /// `\u` without four hexadecimal digits.
     InvalidUnicodeEscape,
+    /// A surrogate that isn't part of a pair.
     InvalidUnicodeCodepoint,
     KeyMustBeAString,
+    /// An input that is no document within the limits, where no other kind says why.
     NoStructure,
     Parser,
+    /// An input without a token.
     Eof,
     Serde,
+    /// An unclosed string, a control character in a string, an input that ends too early, or too deep nesting.
     Syntax,
+    /// A token behind a root scalar.
     TrailingData,
     UnexpectedCharacter,
     UnterminatedString,
+    /// Neither a value nor `]` behind `[`.
     ExpectedArrayContent,
+    /// Neither a key nor `}` behind `{`.
     ExpectedObjectContent,
+    /// No key behind a comma in an object.
     ExpectedObjectKey,
+    /// An allocation that failed.
     OutOfMemory,
 }
 
 impl ErrorType {
-    /// The variant's name.
+    /// Returns the name of the variant.
     pub fn name(self) -> &'static str
         ensures { result.now ≡ name_of self }
     {
@@ -102,7 +124,7 @@ impl ErrorType {
     }
 }
 
-/// An error of reading: its kind, the byte that it is about, counted from 0, and that byte as a character.
+/// An error of reading: its kind, and the byte of the input that it is about (`simd_json::Error`).
 #[derive(Clone, Copy, Debug, PartialEq, Eq)]
 pub struct Error {
     error: ErrorType,
@@ -111,7 +133,7 @@ pub struct Error {
 }
 
 impl Error {
-    /// An error about no byte: index 0, and no character.
+    /// Creates an error that is about no byte: its index is 0, and it has no character (`simd_json::Error::generic`).
     pub fn generic(error: ErrorType) -> Error
         ensures { result ≡ record { error = error; index = 0; character = None } }
     {
@@ -122,7 +144,10 @@ impl Error {
         }
     }
 
-    /// An error about the byte at that index. The character is the byte itself, from U+0000 to U+00FF.
+    /// Creates an error about `byte`, which stands at `index`.
+    ///
+    /// The index counts bytes from 0. The character is the byte itself, U+0000 to U+00FF, also where the byte is a part
+    /// of a longer UTF-8 sequence.
     pub fn at(error: ErrorType, index: usize, byte: u8) -> Error
         ensures { result ≡ record { error = error; index = index; character = Some byte } }
     {
@@ -133,35 +158,35 @@ impl Error {
         }
     }
 
-    /// The place in the input, in bytes from 0.
+    /// Returns the index of the byte in the input, in bytes from 0 (`simd_json::Error::index`).
     pub fn index(&self) -> usize
         ensures { result ≡ self.now.index }
     {
         self.index
     }
 
-    /// The byte at the place, as a character.
+    /// Returns the byte as a character, or `None` if the error is about no byte (`simd_json::Error::character`).
     pub fn character(&self) -> Option<char>
         ensures { result ≡ self.now.character }
     {
         self.character
     }
 
-    /// The kind.
+    /// Returns the kind of the error (`simd_json::Error::error`).
     pub fn error(&self) -> ErrorType
         ensures { result ≡ self.now.error }
     {
         self.error
     }
 
-    /// Whether reading or writing failed. No kind says so.
+    /// Returns whether a read or a write failed (`simd_json::Error::is_io`). There is no such kind, so it is `false`.
     pub fn is_io(&self) -> bool
         ensures { IsTrue result ↔ (class_of self.now.error ≡ io_class) }
     {
         false
     }
 
-    /// Whether the input ended too early.
+    /// Returns whether the input has no token (`simd_json::Error::is_eof`).
     pub fn is_eof(&self) -> bool
         ensures { IsTrue result ↔ (class_of self.now.error ≡ eof_class) }
     {
@@ -169,7 +194,7 @@ impl Error {
         *error == ErrorType::Eof
     }
 
-    /// Whether the input is no JSON text within the limits.
+    /// Returns whether the input is no JSON text within the limits (`simd_json::Error::is_syntax`).
     pub fn is_syntax(&self) -> bool
         ensures { IsTrue result ↔ (class_of self.now.error ≡ syntax_class) }
     {
@@ -196,10 +221,10 @@ impl Error {
         )
     }
 
-    /// Whether the error is about anything else, as memory or a value of another type.
+    /// Returns whether the error is none of the other three classes, as `OutOfMemory` (`simd_json::Error::is_data`).
     pub fn is_data(&self) -> bool
         ensures class { IsTrue result ↔ (class_of self.now.error ≡ data_class) }
-        // of the four tests exactly one is true
+        // Each error is in exactly one of the four classes.
         ensures exactly_one { let class = class_of self.now.error in
             IsTrue result ↔ ((class ≢ io_class) × (class ≢ eof_class) × (class ≢ syntax_class)) }
     {
@@ -207,6 +232,7 @@ impl Error {
     }
 }
 
+/// The kind, the index, and the character if there is one: `ExpectedTrue at character 5 ('t')`.
 impl fmt::Display for Error {
     ghost output = { λ e. Some (error_text e) };
 

@@ -1,27 +1,34 @@
-//! Why a read of a value, a write to it, or a write to a sink is refused.
+//! Errors of typed reads, of changes to a value, and of writes to a sink.
 use crate::static_node::ValueType;
 use thiserror::Error;
 
-/// A read that asked for another type than it met (`value_trait::TryTypeError`).
+/// A read that asked for another type than the value has (`value_trait::TryTypeError`).
 #[derive(Clone, Copy, Debug, PartialEq, Eq, Error)]
 #[error("TryTypeError")]
 pub struct TryTypeError {
+    /// The type that was asked for.
     pub expected: ValueType,
+    /// The type of the value.
     pub got: ValueType,
 }
 
-/// A write to a value that has no members or items, or for which there is no memory (`value_trait::AccessError`).
+/// A change that was refused (`value_trait::AccessError`).
 #[derive(Clone, Copy, Debug, PartialEq, Eq, Error)]
 pub enum AccessError {
+    /// The value isn't an object.
     #[error("NotAnObject")]
     NotAnObject,
+    /// The value isn't an array.
     #[error("NotAnArray")]
     NotAnArray,
+    /// An allocation failed.
     #[error("Memory")]
     Memory,
 }
 
-/// A sink failed, was interrupted or took no byte. What was written before stays written.
+/// A write to a sink that failed, was interrupted, or took no byte.
+///
+/// The bytes that the sink took before stay written, and the write isn't repeated.
 #[derive(Clone, Copy, Debug, PartialEq, Eq, Error)]
 #[error("WriteFault")]
 pub struct WriteFault;

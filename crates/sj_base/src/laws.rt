@@ -1,32 +1,38 @@
-//! Laws of the definitions that the contracts cite: each function has no code, and its contract is the law.
-ghost use Rattle.sj_base.specs.Laws.{OneMeaning, PrintsBack, OneText, SpellsTrees, SpelledInUtf8, PrintsUtf8, OneLine};
+//! Laws of the definitions that contracts cite. Each function does nothing, and its contract is the law.
+ghost use Rattle.sj_base.specs.Laws.{OneMeaning, PrintsBack, OneText, SpellsTrees, SpelledInUtf8, PrintsUtf8, OneLine, LaysOutLists, LaysOutObjects};
 ghost use Rattle.sj_base.specs.Text.{text, pretty};
 
-/// Bytes spell one tree at most.
+/// No bytes spell two trees.
 pub fn one_meaning()
     ensures { OneMeaning }
 {}
 
-/// What is printed, compact or with line breaks, spells the tree that was printed.
+/// The compact text and the indented text of a tree spell that tree.
 pub fn printing_reads_back()
     ensures compact { PrintsBack text }
     ensures indented { PrintsBack pretty }
 {}
 
-/// Trees have one text just where they are one tree: the order of the members counts.
+/// Two trees have the same compact text exactly if they are equal, members in the same order.
 pub fn one_text()
     ensures { OneText }
 {}
 
-/// What bytes spell is a tree that there is, and those bytes are UTF-8.
+/// A tree that bytes spell is valid, and the bytes are UTF-8.
 pub fn spelled()
     ensures tree { SpellsTrees }
     ensures utf8 { SpelledInUtf8 }
 {}
 
-/// What is printed is UTF-8, and a compact text is one line: it has no byte below 0x20.
+/// Both texts of a tree are UTF-8, and the compact text has no byte below 0x20: it is one line.
 pub fn printed_bytes()
     ensures compact { PrintsUtf8 text }
     ensures indented { PrintsUtf8 pretty }
     ensures one_line { OneLine }
+{}
+
+/// The pieces that a [`Layout`](crate::Layout) prints of a list or an object make up its text.
+pub fn laid_out()
+    ensures lists { LaysOutLists }
+    ensures objects { LaysOutObjects }
 {}

@@ -1,10 +1,14 @@
-//! Shared types and printing: what a JSON text means, and how it is written.
+//! Types that the crates of this project share, and the printing of JSON text.
+//!
+//! The definitions of what a JSON text means, and of what is printed, stand in this crate's `specs`.
 #![tactic(auto)]
 
 mod decimal;
 mod error;
 mod fault;
+mod integer;
 pub mod laws;
+mod layout;
 mod output;
 mod part;
 mod put;
@@ -18,17 +22,17 @@ mod try_copy;
 pub use decimal::{Decimal, DecimalBuf, DecimalCow};
 pub use error::{Error, ErrorType};
 pub use fault::{AccessError, TryTypeError, WriteFault};
+pub use integer::JsonInteger;
+pub use layout::{Container, Layout};
 pub use output::Output;
-pub use put::{
-    print_break, print_string, print_text, put_break, put_int, put_string, put_text, whole_or_none,
-};
+pub use put::{print_text, put_break, put_int, put_string, put_text, whole_or_none};
 pub use scalar::Scalar;
 pub use static_node::{StaticNode, ValueType};
 pub use stream::{Counted, Sink, Source};
 pub use try_copy::TryCopy;
 
-/// The depth of nesting at which reading stops, in levels, where no other limit is given.
+/// The limit of nesting, in levels, of calls that aren't given one. A scalar has level 0.
 pub const DEFAULT_MAX_DEPTH: usize = 1024;
 
-/// The room that a padded input has behind its end, in bytes.
+/// The number of bytes that must follow the text in a padded input (`simd_json::SIMDJSON_PADDING`).
 pub const INPUT_PADDING: usize = 64;

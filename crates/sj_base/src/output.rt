@@ -1,24 +1,28 @@
-//! Where a text is written to: a vector, or a sink.
+//! What text is printed to: a vector, or a sink.
 ghost use Rattle.std.specs.Prelude.{◌≡◌, List, ℕ, ◌++◌, OnOk, OnErr};
 ghost use Rattle.sj_base.specs.Output.{Continues, WritesAll, WritesPrefix};
-ghost use Rattle.sj_base.specs.OutputLaws.{vectors_continue, sinks_continue};
+ghost use Rattle.sj_base.specs.inside.OutputLaws.{vectors_continue, sinks_continue};
 
 use crate::fault::WriteFault;
 use crate::stream::Sink;
 use std::alloc::AllocError;
 
-/// What bytes are appended to.
+/// An output that bytes are appended to: a vector of bytes, or any [`Sink`].
 pub trait Output {
-    /// Why bytes could not be appended.
+    /// The error of an append.
     type Fault;
 
-    // All of the bytes are appended.
+    // The second state is the first with all of the bytes appended.
     ghost appends: { Self → Self → List ℕ → Type 0 };
 
-    // A prefix of them is, before a fault.
+    // The second state is what a fault leaves: a prefix of the bytes is appended.
     ghost begins: { Self → Self → List ℕ → Type 0 };
 
-    /// Appends the bytes. After a fault a prefix of them stands.
+    /// Appends the bytes.
+    ///
+    /// # Errors
+    ///
+    /// The fault of the output. A prefix of the bytes is then appended.
     fn put(&mut self, bytes: &[u8]) -> Result<(), Self::Fault>
         ensures ok { OnOk result (appends self.old self.new bytes.now) }
         ensures err { OnErr result (begins self.old self.new bytes.now) };
@@ -26,6 +30,7 @@ pub trait Output {
     ghost laws: { Continues appends begins };
 }
 
+/// An append fails if there is no memory for the bytes.
 impl Output for Vec<u8> {
     type Fault = AllocError;
 
@@ -40,6 +45,8 @@ impl Output for Vec<u8> {
     }
 }
 
+/// An append calls [`Sink::write`] until all bytes are taken. It fails at the first write that fails, is interrupted or
+/// takes no byte, and doesn't repeat that write.
 impl<W: Sink> Output for W {
     type Fault = WriteFault;
 

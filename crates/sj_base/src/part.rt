@@ -1,9 +1,9 @@
-//! Which texts are decimal literals.
+//! Recognition of decimal literals, byte by byte.
 ghost use Rattle.std.specs.Prelude.{◌≡◌, ◌↔◌, IsTrue};
 ghost use Rattle.sj_base.specs.Number.{IsDecimal};
-ghost use Rattle.sj_base.specs.Parts.{next_part, is_end};
+ghost use Rattle.sj_base.specs.inside.Parts.{next_part, is_end};
 
-// Which part of a number was read last.
+// The part of a number that the byte read last belongs to.
 #[derive(Clone, Copy)]
 enum Part {
     Start,
@@ -42,7 +42,7 @@ impl Part {
     }
 }
 
-/// Reads the bytes from the left, each as a part of a number.
+// Whether the bytes are a decimal literal.
 pub(crate) fn is_decimal(bytes: &[u8]) -> bool
     ensures { IsTrue result ↔ IsDecimal bytes.now }
 {

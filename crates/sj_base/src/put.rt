@@ -1,17 +1,25 @@
-//! Strings, integers and scalars as JSON text: appended to a vector, or printed to any output.
+//! JSON text of strings, integers and scalars.
+//!
+//! The `put_` functions append to a vector, all of the text or nothing. [`print_text`] appends to any [`Output`], and
+//! leaves a prefix of the text if the output fails.
 ghost use Rattle.std.specs.Prelude.{◌≡◌, ◌<◌, [], ◌∷◌, ◌++◌, IsTrue, OnOk, OnErr, take, flat_map};
 ghost use Rattle.std.specs.Char.{digit_char};
+ghost use Rattle.sj_base.specs.Tree.{integer};
 ghost use Rattle.sj_base.specs.Scalar.{static_tree, scalar_tree};
 ghost use Rattle.sj_base.specs.Text.{escaped, quoted, text, line_break};
 
+use crate::integer::JsonInteger;
 use crate::output::Output;
 use crate::scalar::Scalar;
 use crate::static_node::StaticNode;
-use itoa::{Buffer, Integer};
+use itoa::Buffer;
 use std::alloc::AllocError;
 
-/// Appends the text between quotes, with an escape for each quote, backslash and control character.
-/// Without memory it appends nothing.
+/// Appends the string between quotes, with an escape for each quote, backslash and control character.
+///
+/// # Errors
+///
+/// `AllocError` if there is no memory for the text. Nothing is then appended.
 pub fn put_string(out: &mut Vec<u8>, text: &str) -> Result<(), AllocError>
     ensures ok { OnOk result (out.new.items ≡ out.old.items ++ quoted text.now) }
     ensures err { OnErr result (out.new.items ≡ out.old.items) }
@@ -21,9 +29,13 @@ pub fn put_string(out: &mut Vec<u8>, text: &str) -> Result<(), AllocError>
     whole_or_none(out, start, printed)
 }
 
-/// Appends the integer in decimal digits, after a minus where it is below 0. Without memory it appends nothing.
-pub fn put_int<I: Integer>(out: &mut Vec<u8>, n: I) -> Result<(), AllocError>
-    ensures ok { OnOk result (out.new.items ≡ out.old.items ++ I.text n) }
+/// Appends the integer in decimal digits, with a minus if it is negative.
+///
+/// # Errors
+///
+/// `AllocError` if there is no memory for the text. Nothing is then appended.
+pub fn put_int<I: JsonInteger>(out: &mut Vec<u8>, n: I) -> Result<(), AllocError>
+    ensures ok { OnOk result (out.new.items ≡ out.old.items ++ text (integer (I.number n))) }
     ensures err { OnErr result (out.new.items ≡ out.old.items) }
 {
     let start = out.len();
@@ -31,7 +43,11 @@ pub fn put_int<I: Integer>(out: &mut Vec<u8>, n: I) -> Result<(), AllocError>
     whole_or_none(out, start, printed)
 }
 
-/// Appends the scalar's compact text. Without memory it appends nothing.
+/// Appends the text of the scalar.
+///
+/// # Errors
+///
+/// `AllocError` if there is no memory for the text. Nothing is then appended.
 pub fn put_text(out: &mut Vec<u8>, scalar: &Scalar<'_>) -> Result<(), AllocError>
     ensures ok { OnOk result (out.new.items ≡ out.old.items ++ text (scalar_tree scalar.now)) }
     ensures err { OnErr result (out.new.items ≡ out.old.items) }
@@ -41,7 +57,11 @@ pub fn put_text(out: &mut Vec<u8>, scalar: &Scalar<'_>) -> Result<(), AllocError
     whole_or_none(out, start, printed)
 }
 
-/// Appends a line feed and 2 spaces a level. Without memory it appends nothing.
+/// Appends a line feed and two spaces for each level.
+///
+/// # Errors
+///
+/// `AllocError` if there is no memory for the text. Nothing is then appended.
 pub fn put_break(out: &mut Vec<u8>, level: usize) -> Result<(), AllocError>
     ensures ok { OnOk result (out.new.items ≡ out.old.items ++ line_break level) }
     ensures err { OnErr result (out.new.items ≡ out.old.items) }
@@ -51,7 +71,7 @@ pub fn put_break(out: &mut Vec<u8>, level: usize) -> Result<(), AllocError>
     whole_or_none(out, start, printed)
 }
 
-/// Takes back what stands behind the first `start` bytes, where not all was printed.
+/// Truncates `out` to `start` bytes if printing failed, and returns the result of the printing.
 pub fn whole_or_none(
     out: &mut Vec<u8>,
     start: usize,
@@ -67,7 +87,11 @@ pub fn whole_or_none(
     printed
 }
 
-/// Prints the scalar's compact text. After a fault a prefix of it stands.
+/// Prints the text of the scalar.
+///
+/// # Errors
+///
+/// The fault of the output. A prefix of the text is then printed.
 pub fn print_text<O: Output>(out: &mut O, scalar: &Scalar<'_>) -> Result<(), O::Fault>
     ensures ok { OnOk result (O.appends out.old out.new (text (scalar_tree scalar.now))) }
     ensures err { OnErr result (O.begins out.old out.new (text (scalar_tree scalar.now))) }
@@ -79,9 +103,7 @@ pub fn print_text<O: Output>(out: &mut O, scalar: &Scalar<'_>) -> Result<(), O::
     }
 }
 
-/// Prints the text between quotes, with an escape for each quote, backslash and control character.
-/// After a fault a prefix of it stands.
-pub fn print_string<O: Output>(out: &mut O, text: &str) -> Result<(), O::Fault>
+pub(crate) fn print_string<O: Output>(out: &mut O, text: &str) -> Result<(), O::Fault>
     ensures ok { OnOk result (O.appends out.old out.new (quoted text.now)) }
     ensures err { OnErr result (O.begins out.old out.new (quoted text.now)) }
 {
@@ -90,8 +112,7 @@ pub fn print_string<O: Output>(out: &mut O, text: &str) -> Result<(), O::Fault>
     out.put(b"\"")
 }
 
-/// Prints a line feed and 2 spaces a level. After a fault a prefix of them stands.
-pub fn print_break<O: Output>(out: &mut O, level: usize) -> Result<(), O::Fault>
+pub(crate) fn print_break<O: Output>(out: &mut O, level: usize) -> Result<(), O::Fault>
     ensures ok { OnOk result (O.appends out.old out.new (line_break level)) }
     ensures err { OnErr result (O.begins out.old out.new (line_break level)) }
 {
@@ -115,9 +136,9 @@ fn print_static<O: Output>(out: &mut O, node: StaticNode) -> Result<(), O::Fault
     }
 }
 
-fn print_int<O: Output, I: Integer>(out: &mut O, n: I) -> Result<(), O::Fault>
-    ensures ok { OnOk result (O.appends out.old out.new (I.text n)) }
-    ensures err { OnErr result (O.begins out.old out.new (I.text n)) }
+fn print_int<O: Output, I: JsonInteger>(out: &mut O, n: I) -> Result<(), O::Fault>
+    ensures ok { OnOk result (O.appends out.old out.new (text (integer (I.number n)))) }
+    ensures err { OnErr result (O.begins out.old out.new (text (integer (I.number n)))) }
 {
     let mut buffer = Buffer::new();
     out.put(buffer.format(n).as_bytes())
@@ -134,7 +155,7 @@ fn print_body<O: Output>(out: &mut O, text: &[u8]) -> Result<(), O::Fault>
     }
 }
 
-// Copies the runs that need no escape as they are.
+// Bytes that need no escape are copied in runs.
 fn print_runs<O: Output>(out: &mut O, text: &[u8]) -> Result<(), O::Fault>
     ensures ok { OnOk result (O.appends out.old out.new (flat_map escaped text.now)) }
     ensures err { OnErr result (O.begins out.old out.new (flat_map escaped text.now)) }
@@ -150,7 +171,7 @@ fn print_runs<O: Output>(out: &mut O, text: &[u8]) -> Result<(), O::Fault>
     out.put(&text[copied..])
 }
 
-// Whether no byte needs an escape. It looks at every byte in any case, so that many are looked at together.
+// Whether no byte needs an escape. The loop has no early exit, so that it can be vectorized.
 fn is_plain_text(text: &[u8]) -> bool
     ensures { IsTrue result → flat_map escaped text.now ≡ text.now }
 {

@@ -1,37 +1,53 @@
-//! Scalars without a text, and the types of values.
+//! Nulls, booleans and integers, and the types of values.
 ghost use Rattle.std.specs.Prelude.{◌≡◌, ◌↔◌, Some, IsTrue};
 ghost use Rattle.std.proofs.Common.{rules};
 ghost use Rattle.std.specs.Cmp.Rules.{comparing};
 ghost use Rattle.sj_base.specs.Scalar.{static_tree, static_type, static_eq};
 ghost use Rattle.sj_base.specs.Text.{text};
 
+use crate::try_copy::TryCopy;
+use std::alloc::AllocError;
 use std::fmt;
 
-/// The type of a value (`simd_json::ValueType`).
+/// The type of a value (`value_trait::ValueType`).
 #[derive(Clone, Copy, Debug, PartialEq, Eq)]
 pub enum ValueType {
+    /// Null.
     Null,
+    /// A boolean.
     Bool,
+    /// An integer in a signed carrier.
     I64,
+    /// An integer in an unsigned carrier.
     U64,
+    /// A number with a fraction or an exponent. It stands in the place of `F64`.
     Decimal,
+    /// A string.
     String,
+    /// An array.
     Array,
+    /// An object.
     Object,
 }
 
-/// A scalar that holds no text: null, a truth value, or an integer of 64 bits in one of two carriers
-/// (`simd_json::StaticNode` without floats).
+/// Null, a boolean or an integer (`simd_json::StaticNode` without floats).
+///
+/// An integer from 0 to `i64::MAX` can be held by either of two carriers, `I64` and `U64`. Two nodes are equal if they
+/// hold the same number, whichever carrier holds it.
 #[derive(Clone, Copy, Debug)]
 pub enum StaticNode {
+    /// Null.
     Null,
+    /// A boolean.
     Bool(bool),
+    /// An integer in a signed carrier.
     I64(i64),
+    /// An integer in an unsigned carrier.
     U64(u64),
 }
 
 impl StaticNode {
-    /// The type, which tells the carrier of an integer.
+    /// Returns the type of the value. That of an integer tells its carrier.
     pub fn value_type(&self) -> ValueType
         ensures { result ≡ static_type self.now }
     {
@@ -71,7 +87,21 @@ impl Eq for StaticNode {
     ghost laws = { Prim.search (comparing, rules) };
 }
 
-/// The compact text.
+impl TryCopy for StaticNode {
+    ghost use Rattle.sj_base.specs.declared.static_node.StaticNode.{StaticNode};
+
+    ghost Copied = { StaticNode };
+
+    ghost copied = { λ node. node };
+
+    ghost tree = { static_tree };
+
+    fn try_clone(&self) -> Result<StaticNode, AllocError> {
+        Ok(*self)
+    }
+}
+
+/// The JSON text of the value.
 impl fmt::Display for StaticNode {
     ghost output = { λ node. Some (text (static_tree node)) };
 

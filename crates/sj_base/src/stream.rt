@@ -1,4 +1,4 @@
-//! Where bytes come from and where they go to, with a count of the calls.
+//! Readers and writers whose contracts count their calls.
 ghost use Rattle.std.specs.Prelude.{◌≡◌, ℕ, ◌+◌, ◌<◌, List, Option, IfOk, IfErr};
 ghost use Rattle.std.specs.Io.{ReadsAtMost, WritesAtMost};
 ghost use Rattle.std.specs.Io.KnownBytes.{ReadConsumes, WriteAppends};
@@ -9,15 +9,21 @@ use std::io::{ErrorKind, Read, Write};
 use std::marker::Model;
 use std::sync::ledger::{Blank, Book, Ledger, Share};
 
-/// What bytes are read from.
+/// A reader of bytes whose contract also counts the calls that were made, failed, were interrupted or gave no byte.
 pub trait Source {
-    // The bytes that reads will give from here on, where they are known.
+    // The bytes that later reads will give, where they are known.
     ghost remaining: { Self → Option (List ℕ) };
 
     // The calls of `read` so far.
     ghost calls: { Self → Calls };
 
-    /// Reads some bytes to the front of the slice, and tells how many. None, for a slice that is not empty, is the end.
+    /// Reads some bytes into the front of `buf`, and returns their number (`std::io::Read::read`).
+    ///
+    /// If `buf` isn't empty, 0 means the end of the input.
+    ///
+    /// # Errors
+    ///
+    /// The error of the reader. No byte is then read.
     fn read(&mut self, buf: &mut [u8]) -> io::Result<usize>
         ensures bound { ReadsAtMost result buf.new }
         ensures bytes { ReadConsumes (remaining self.old) (remaining self.new) result buf.new }
@@ -26,15 +32,19 @@ pub trait Source {
         ensures err_counts { IfErr result (CountsErr (calls self.old) (calls self.new)) };
 }
 
-/// What bytes are written to.
+/// A writer of bytes whose contract also counts the calls that were made, failed, were interrupted or took no byte.
 pub trait Sink {
-    // The bytes that it holds, where they are known.
+    // The bytes that were written so far, where they are known.
     ghost contents: { Self → Option (List ℕ) };
 
     // The calls of `write` so far.
     ghost calls: { Self → Calls };
 
-    /// Takes some bytes from the front of the slice, and tells how many.
+    /// Writes some bytes from the front of `buf`, and returns their number (`std::io::Write::write`).
+    ///
+    /// # Errors
+    ///
+    /// The error of the writer. No byte is then written.
     fn write(&mut self, buf: &[u8]) -> io::Result<usize>
         ensures bound { WritesAtMost result buf.now }
         ensures bytes { WriteAppends (contents self.old) (contents self.new) result buf.now }
@@ -43,22 +53,22 @@ pub trait Sink {
         ensures err_counts { IfErr result (CountsErr (calls self.old) (calls self.new)) };
 }
 
-// The calls, as tokens that take no bytes: a share for each outcome, and the book for all of them.
+// The counts of calls, as tokens of no size: a share for each outcome, and the book for all of them.
 #[derive(Drop)]
 struct Tally<L: Ledger> {
     book: Book<L>,
     plain: Share<L>,
     failed: Share<L>,
     interrupted: Share<L>,
-    nothing: Share<L>,
+    empty: Share<L>,
 }
 
 impl<L: Ledger> Model for Tally<L> {
     ghost Value = { Calls };
 
-    ghost view = { λ t. record { made = t.book.total; failed = t.failed.amount; interrupted = t.interrupted.amount; nothing = t.nothing.amount } };
+    ghost view = { λ t. record { made = t.book.total; failed = t.failed.amount; interrupted = t.interrupted.amount; empty = t.empty.amount } };
 
-    ghost invariant = { λ t. (0 < t.plain.parts) × (0 < t.failed.parts) × (0 < t.interrupted.parts) × (0 < t.nothing.parts) };
+    ghost invariant = { λ t. (0 < t.plain.parts) × (0 < t.failed.parts) × (0 < t.interrupted.parts) × (0 < t.empty.parts) };
 }
 
 impl<L: Ledger> Tally<L> {
@@ -71,13 +81,13 @@ impl<L: Ledger> Tally<L> {
         let (book, mut plain) = blank.open::<L>();
         let failed = plain.split_off(1, 0);
         let interrupted = plain.split_off(1, 0);
-        let nothing = plain.split_off(1, 0);
+        let empty = plain.split_off(1, 0);
         Tally {
             book,
             plain,
             failed,
             interrupted,
-            nothing,
+            empty,
         }
     }
 
@@ -85,7 +95,7 @@ impl<L: Ledger> Tally<L> {
         ensures { CountsOk self.old self.new buf.now n }
     {
         if n == 0 && !buf.is_empty() {
-            self.book.add(&mut self.nothing, 1);
+            self.book.add(&mut self.empty, 1);
         } else {
             self.book.add(&mut self.plain, 1);
         }
@@ -103,7 +113,7 @@ impl<L: Ledger> Tally<L> {
     }
 }
 
-/// A reader as a `Source` and a writer as a `Sink`, of the same bytes. The count of the calls takes no room.
+/// A reader as a [`Source`], or a writer as a [`Sink`]. The counts take no room at run time.
 #[derive(Drop)]
 pub struct Counted<T, L: Ledger> {
     inner: T,
@@ -111,7 +121,9 @@ pub struct Counted<T, L: Ledger> {
 }
 
 impl<T, L: Ledger> Counted<T, L> {
-    /// The blank has four parts, one for each outcome of a call.
+    /// Wraps a reader or a writer, with no call counted.
+    ///
+    /// The four parts of `blank` count the four outcomes of a call.
     pub fn new(inner: T, blank: Blank) -> Counted<T, L>
         requires name { blank.name ≡ L.name }
         requires parts { blank.parts ≡ L.parts }
@@ -125,7 +137,7 @@ impl<T, L: Ledger> Counted<T, L> {
         }
     }
 
-    /// The reader or the writer, without the count.
+    /// Returns the reader or the writer, and drops the counts.
     pub fn into_inner(self) -> T
         ensures { result ≡ self.inner }
     {

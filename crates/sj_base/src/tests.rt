@@ -1,4 +1,6 @@
-ghost use Rattle.std.specs.Prelude.{◌≡◌, ◌+◌};
+//! Tests of what no contract says: texts from RFC 8259 and the display texts of errors, and each function once.
+ghost use Rattle.std.specs.Prelude.{◌≡◌, ◌+◌, ◌<◌, ◌^◌};
+ghost use Rattle.sj_base.specs.Layout.{level_of};
 
 use super::*;
 use std::alloc::AllocError;
@@ -11,100 +13,187 @@ use std::test::Fail;
 
 #[test]
 fn strings(rt: HostRuntime) -> Result<(), Fail> {
-    let mut out = Vec::from_slice(rt.alloc(), b"is ")?;
-    put_string(&mut out, "\u{1f}/\u{7f}")?;
-    assert_eq!(rt; out.as_slice(), b"is \"\\u001f/\x7f\"".as_slice());
-    out.clear();
-    put_string(&mut out, "a\"b\\\n\u{e9}")?;
-    assert_eq!(rt; out.as_slice(), b"\"a\\\"b\\\\\\n\xc3\xa9\"".as_slice());
+    for (string, text) in [
+        ("", r#""""#),
+        ("a\"b\\\n\u{e9}", r#""a\"b\\\né""#),
+        ("\u{1f}/\u{7f}", "\"\\u001f/\u{7f}\""),
+    ] {
+        let mut out = Vec::new(rt.alloc());
+        put_string(&mut out, string)?;
+        assert_eq!(rt; out.as_slice(), text.as_bytes());
+    }
     Ok(())
 }
 
 #[test]
 fn integers(rt: HostRuntime) -> Result<(), Fail> {
-    let mut out = Vec::new(rt.alloc());
+    let mut out = Vec::from_slice(rt.alloc(), b"from ")?;
     put_int(&mut out, i64::MIN)?;
-    assert_eq!(rt; out.as_slice(), b"-9223372036854775808".as_slice());
-    out.clear();
-    put_int(&mut out, u64::MAX)?;
-    assert_eq!(rt; out.as_slice(), b"18446744073709551615".as_slice());
+    put_string(&mut out, " to ")?;
+    put_int(&mut out, u128::MAX)?;
+    let text = r#"from -9223372036854775808" to "340282366920938463463374607431768211455"#;
+    assert_eq!(rt; out.as_slice(), text.as_bytes());
     Ok(())
 }
 
 #[test]
-fn errors(rt: HostRuntime) {
-    assert_eq!(rt; ErrorType::Eof.name(), "Eof");
-    let error = Error::at(ErrorType::ExpectedObjectKey, 7, 0xe9);
-    assert_eq!(rt; error.error().name(), "ExpectedObjectKey");
-    assert_eq!(rt; (error.index(), error.character()), (7, Some('\u{e9}')));
-    let error = Error::generic(ErrorType::OutOfMemory);
-    assert_eq!(rt; (error.index(), error.character()), (0, None));
+fn scalars(rt: HostRuntime) -> Result<(), Fail> {
+    let literal = Decimal::new("1.50").ok_or("refused")?;
+    for (scalar, text) in [
+        (Scalar::Static(StaticNode::Null), "null"),
+        (Scalar::Static(StaticNode::Bool(true)), "true"),
+        (Scalar::Static(StaticNode::Bool(false)), "false"),
+        (Scalar::Static(StaticNode::I64(-3)), "-3"),
+        (Scalar::Text("a\"b"), r#""a\"b""#),
+        (Scalar::Literal(literal), "1.50"),
+    ] {
+        let mut out = Vec::new(rt.alloc());
+        put_text(&mut out, &scalar)?;
+        print_text(&mut out, &scalar)?;
+        assert_eq!(rt; &out[..text.len()], text.as_bytes());
+        assert_eq!(rt; &out[text.len()..], text.as_bytes());
+    }
+    Ok(())
+}
+
+#[test]
+fn line_breaks(rt: HostRuntime) -> Result<(), Fail> {
+    let mut out = Vec::new(rt.alloc());
+    put_break(&mut out, 0)?;
+    put_break(&mut out, 2)?;
+    out.put(b"1")?;
+    assert_eq!(rt; out.as_slice(), b"\n\n    1".as_slice());
+    Ok(())
+}
+
+// Prints a list of numbers.
+fn print_list(layout: Layout, numbers: &[u64], out: &mut Vec<u8>) -> Result<(), AllocError>
+    requires { level_of layout + 1 < 2 ^ 64 }
+{
+    let mut list = layout.open_list(out)?;
+    for number in numbers {
+        list.next(out)?;
+        put_int(out, *number)?;
+    }
+    list.close(out)
+}
+
+// Prints an object of one list.
+fn print_object(layout: Layout, out: &mut Vec<u8>) -> Result<(), AllocError>
+    requires { level_of layout + 2 < 2 ^ 64 }
+{
+    let mut object = layout.open_object(out)?;
+    object.key("a", out)?;
+    print_list(object.inside(), &[1, 2], out)?;
+    object.key("b", out)?;
+    print_list(object.inside(), &[], out)?;
+    object.close(out)
+}
+
+#[test]
+fn layouts(rt: HostRuntime) -> Result<(), Fail> {
+    let mut out = Vec::new(rt.alloc());
+    print_object(Layout::Compact, &mut out)?;
+    assert_eq!(rt; out.as_slice(), r#"{"a":[1,2],"b":[]}"#.as_bytes());
+    out.clear();
+    print_object(Layout::Indented(0), &mut out)?;
+    let text = r#"{
+  "a": [
+    1,
+    2
+  ],
+  "b": []
+}"#;
+    assert_eq!(rt; out.as_slice(), text.as_bytes());
+    Ok(())
 }
 
 #[test]
 fn error_texts(rt: HostRuntime) -> Result<(), Fail> {
-    let error = Error::at(ErrorType::ExpectedTrue, 5, b't');
-    let text = error.to_string(rt.alloc())?;
-    assert_eq!(rt; text.as_str(), "ExpectedTrue at character 5 ('t')");
-    let text = Error::generic(ErrorType::Eof).to_string(rt.alloc())?;
-    assert_eq!(rt; text.as_str(), "Eof at character 0");
+    for (error, text) in [
+        (
+            Error::at(ErrorType::ExpectedTrue, 5, b't'),
+            "ExpectedTrue at character 5 ('t')",
+        ),
+        (
+            Error::at(ErrorType::InternalError, 7, 0xe9),
+            "InternalError at character 7 ('é')",
+        ),
+        (Error::generic(ErrorType::Eof), "Eof at character 0"),
+    ] {
+        assert_eq!(rt; error.to_string(rt.alloc())?.as_str(), text);
+    }
     let met = TryTypeError {
         expected: ValueType::I64,
         got: ValueType::Bool,
     };
-    let text = met.to_string(rt.alloc())?;
-    assert_eq!(rt; text.as_str(), "TryTypeError");
-    for (fault, name) in [
+    assert_eq!(rt; met.to_string(rt.alloc())?.as_str(), "TryTypeError");
+    for (fault, text) in [
         (AccessError::NotAnObject, "NotAnObject"),
         (AccessError::NotAnArray, "NotAnArray"),
         (AccessError::Memory, "Memory"),
     ] {
-        let text = fault.to_string(rt.alloc())?;
-        assert_eq!(rt; text.as_str(), name);
+        assert_eq!(rt; fault.to_string(rt.alloc())?.as_str(), text);
     }
-    let text = WriteFault.to_string(rt.alloc())?;
-    assert_eq!(rt; text.as_str(), "WriteFault");
+    assert_eq!(rt; WriteFault.to_string(rt.alloc())?.as_str(), "WriteFault");
     Ok(())
 }
 
 #[test]
 fn classes(rt: HostRuntime) {
-    for (kind, is_eof, is_syntax, is_data) in [
-        (ErrorType::Eof, true, false, false),
-        (ErrorType::ExpectedTrue, false, true, false),
-        (ErrorType::InvalidUtf8, false, true, false),
-        (ErrorType::InputTooLarge, false, false, true),
-        (ErrorType::OutOfMemory, false, false, true),
+    for (kind, name, class) in [
+        (ErrorType::Eof, "Eof", [false, true, false, false]),
+        (ErrorType::Syntax, "Syntax", [false, false, true, false]),
+        (
+            ErrorType::InvalidUtf8,
+            "InvalidUtf8",
+            [false, false, true, false],
+        ),
+        (
+            ErrorType::OutOfMemory,
+            "OutOfMemory",
+            [false, false, false, true],
+        ),
     ] {
-        let error = Error::generic(kind);
-        assert!(rt; !error.is_io());
-        assert_eq!(rt; error.is_eof(), is_eof);
-        assert_eq!(rt; error.is_syntax(), is_syntax);
-        assert_eq!(rt; error.is_data(), is_data);
+        let error = Error::at(kind, 3, b'x');
+        assert_eq!(rt; error.error().name(), name);
+        assert_eq!(rt; (error.index(), error.character()), (3, Some('x')));
+        assert_eq!(rt;
+            [
+                error.is_io(),
+                error.is_eof(),
+                error.is_syntax(),
+                error.is_data()
+            ],
+            class
+        );
     }
-}
-
-#[test]
-fn static_nodes(rt: HostRuntime) -> Result<(), Fail> {
-    assert!(rt; StaticNode::I64(5) == StaticNode::U64(5));
-    assert!(rt; StaticNode::I64(-1) != StaticNode::U64(u64::MAX));
-    assert!(rt; StaticNode::Null != StaticNode::Bool(false));
-    assert_eq!(rt; StaticNode::I64(5).value_type(), ValueType::I64);
-    assert_eq!(rt; StaticNode::U64(5).value_type(), ValueType::U64);
-    for (node, want) in [
-        (StaticNode::Null, "null"),
-        (StaticNode::Bool(true), "true"),
-        (StaticNode::I64(-7), "-7"),
-        (StaticNode::U64(u64::MAX), "18446744073709551615"),
-    ] {
-        let text = node.to_string(rt.alloc())?;
-        assert_eq!(rt; text.as_str(), want);
-    }
-    Ok(())
 }
 
 fn copy_of<T: TryCopy>(value: &T) -> Result<T, AllocError> {
     value.try_clone()
+}
+
+#[test]
+fn static_nodes(rt: HostRuntime) -> Result<(), Fail> {
+    for (node, kind, text) in [
+        (StaticNode::Null, ValueType::Null, "null"),
+        (StaticNode::Bool(true), ValueType::Bool, "true"),
+        (StaticNode::I64(-7), ValueType::I64, "-7"),
+        (
+            StaticNode::U64(u64::MAX),
+            ValueType::U64,
+            "18446744073709551615",
+        ),
+    ] {
+        let copy = copy_of(&node)?;
+        assert_eq!(rt; (node == copy, copy.value_type()), (true, kind));
+        assert_eq!(rt; copy.to_string(rt.alloc())?.as_str(), text);
+    }
+    assert!(rt; StaticNode::I64(5) == StaticNode::U64(5));
+    assert!(rt; StaticNode::I64(-1) != StaticNode::U64(u64::MAX));
+    assert!(rt; StaticNode::Null != StaticNode::Bool(false));
+    Ok(())
 }
 
 #[test]
@@ -125,45 +214,6 @@ fn decimals(rt: HostRuntime) -> Result<(), Fail> {
         assert!(rt; Decimal::new(text).is_none(), "at {text}");
     }
     Ok(())
-}
-
-#[test]
-fn scalars(rt: HostRuntime) -> Result<(), Fail> {
-    let mut out = Vec::new(rt.alloc());
-    let literal = Decimal::new("1.50").ok_or("refused")?;
-    for scalar in [
-        Scalar::Static(StaticNode::Null),
-        Scalar::Static(StaticNode::Bool(false)),
-        Scalar::Static(StaticNode::I64(-3)),
-        Scalar::Text("a\"b"),
-        Scalar::Literal(literal),
-    ] {
-        put_text(&mut out, &scalar)?;
-        put_break(&mut out, 2)?;
-    }
-    let want = "null\n    false\n    -3\n    \"a\\\"b\"\n    1.50\n    ";
-    assert_eq!(rt; out.as_slice(), want.as_bytes());
-    out.clear();
-    put_break(&mut out, 0)?;
-    assert_eq!(rt; out.as_slice(), b"\n".as_slice());
-    Ok(())
-}
-
-#[test]
-fn prints_to_a_vector(rt: HostRuntime) -> Result<(), Fail> {
-    let mut out = Vec::new(rt.alloc());
-    print_text(&mut out, &Scalar::Static(StaticNode::U64(7)))?;
-    print_break(&mut out, 1)?;
-    print_string(&mut out, "\t")?;
-    out.put(b" and more")?;
-    let want = "7\n  \"\\t\" and more";
-    assert_eq!(rt; out.as_slice(), want.as_bytes());
-    Ok(())
-}
-
-#[test]
-fn limits(rt: HostRuntime) {
-    assert_eq!(rt; (DEFAULT_MAX_DEPTH, INPUT_PADDING), (1024, 64));
 }
 
 // One byte a call, and every second call is interrupted.

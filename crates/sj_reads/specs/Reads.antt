@@ -1,4 +1,4 @@
--- What a typed read answers on a value. The value is seen as the tree of its scalar, where it holds one.
+-- Results of typed reads. A value is seen as its tree if it is a scalar, and else as nothing.
 use Rattle.std.specs.Prelude.{ℕ, ℤ, pos, negsuc, ◌^◌, Bool, cond, nat_lt, List, Option, Some, None, option_and_then}
 use Rattle.sj_base.specs.Tree.{Tree, null, boolean, integer, decimal, string}
 use Rattle.sj_base.specs.declared.fault.TryTypeError.{TryTypeError}
@@ -24,24 +24,24 @@ abbrev pub decimal_read : Option Tree → Option (List ℕ)
 decimal_read (Some (decimal literal)) = Some literal
 decimal_read _ = None
 
--- the integer, where it lies from -2^k to 2^k - 1; `negsuc n` is -(n + 1)
+-- the integer, if it lies from -2^k to 2^k - 1; `negsuc n` is -(n + 1)
 abbrev pub signed_fit : ℕ → ℤ → Option ℤ
 signed_fit k (pos n) = cond (nat_lt n (2 ^ k)) (Some (pos n)) None
 signed_fit k (negsuc n) = cond (nat_lt n (2 ^ k)) (Some (negsuc n)) None
 
--- the integer, where it lies from 0 to 2^k - 1
+-- the integer, if it lies from 0 to 2^k - 1
 abbrev pub unsigned_fit : ℕ → ℤ → Option ℕ
 unsigned_fit k (pos n) = cond (nat_lt n (2 ^ k)) (Some n) None
 unsigned_fit k (negsuc n) = None
 
--- the integer, where the value is one that fits k bits and a sign
+-- the integer, if the value is one that fits k bits and a sign
 abbrev pub signed_read : ℕ → Option Tree → Option ℤ
 signed_read k s = option_and_then (signed_fit k) (integer_read s)
 
--- the integer, where the value is one that fits k bits
+-- the integer, if the value is one that fits k bits
 abbrev pub unsigned_read : ℕ → Option Tree → Option ℕ
 unsigned_read k s = option_and_then (unsigned_fit k) (integer_read s)
 
--- a read that asked for one type and met another
+-- the error of a read that asked for one type and met another
 abbrev pub mismatch : ValueType → ValueType → TryTypeError
 mismatch expected got = record { expected = expected; got = got }

@@ -1,4 +1,6 @@
-//! Typed reads: of a value, and of an object's members by name.
+//! Typed reads of a JSON value, and of an object's members by key.
+//!
+//! A form of document implements one call of each trait, and gets the reads as every type from it.
 #![tactic(auto)]
 
 mod found;

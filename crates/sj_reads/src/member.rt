@@ -1,8 +1,7 @@
-//! Typed reads of an object's members by name.
+//! Typed reads of an object's members by key.
 ghost use Rattle.std.specs.Prelude.{◌≡◌, ℕ, List, Option, option_map};
-ghost use Rattle.sj_base.specs.Literal.{decimal_text};
-ghost use Rattle.sj_base.specs.Scalar.{scalar_tree};
-ghost use Rattle.sj_reads.specs.Reads.{bool_read, signed_read, unsigned_read, str_read, decimal_read, mismatch};
+ghost use Rattle.sj_base.specs.Scalar.{decimal_text, scalar_tree};
+ghost use Rattle.sj_reads.specs.Reads.{bool_read, signed_read, unsigned_read, str_read, decimal_read};
 ghost use Rattle.sj_reads.specs.Views.{found_text, found_literal};
 ghost use Rattle.sj_reads.specs.Member.{Seen, seen_result, looked_up, found_scalar, try_found};
 
@@ -10,16 +9,6 @@ use crate::found::Member;
 use crate::read::*;
 use crate::scalar::TypedValue;
 use sj_base::{Decimal, Scalar, TryTypeError, ValueType};
-
-// A read that asked for another type than the member's.
-fn mismatch(member: &Member<'_>, expected: ValueType) -> TryTypeError
-    ensures { result ≡ mismatch expected member.now.kind }
-{
-    TryTypeError {
-        expected,
-        got: member.kind,
-    }
-}
 
 fn found_scalar(found: Result<Option<Member<'_>>, TryTypeError>) -> Option<Scalar<'_>>
     ensures { option_map scalar_tree result ≡ found_scalar (seen_result found.entry) }
@@ -30,16 +19,25 @@ fn found_scalar(found: Result<Option<Member<'_>>, TryTypeError>) -> Option<Scala
     }
 }
 
-/// Reads of an object's members by name as one type. Of a key that comes again the first member is read.
+/// Reads of an object's members by key as one type (`value_trait::ValueObjectAccessAsScalar` and
+/// `ValueObjectAccessTryAsScalar`).
+///
+/// If several members have the key, the first one is read.
 pub trait ValueGetScalar: TypedValue {
-    // What stands at a key, where the value is an object.
+    // The member with a key, where the value is an object.
     ghost member: { Self → List ℕ → Option Seen };
 
-    /// The member with that key, or the type met where the value is no object.
+    /// Returns the first member with this key, or `None` if the object has none.
+    ///
+    /// # Errors
+    ///
+    /// `TryTypeError` if the value isn't an object. The expected type is `Object`.
     fn try_get_member(&self, key: &str) -> Result<Option<Member<'_>>, TryTypeError>
         ensures { seen_result result ≡ looked_up (Self.kind self.now) (member self.now key.now) };
 
-    /// The member as a truth value.
+    /// Returns the member with this key as a boolean.
+    ///
+    /// `None` if the value isn't an object, has no such member, or the member isn't a boolean.
     fn get_bool(&self, key: &str) -> Option<bool>
         ensures { let found = looked_up (Self.kind self.now) (member self.now key.now) in
             result ≡ bool_read (found_scalar found) }
@@ -47,7 +45,12 @@ pub trait ValueGetScalar: TypedValue {
         read_bool(found_scalar(self.try_get_member(key)))
     }
 
-    /// The member as a truth value, or the type met; none where the key is not there.
+    /// Returns the member with this key as a boolean, or `None` if the object has no such member.
+    ///
+    /// # Errors
+    ///
+    /// `TryTypeError` if the value isn't an object, or if the member isn't a boolean. The expected type is
+    /// `Object` or `Bool`.
     fn try_get_bool(&self, key: &str) -> Result<Option<bool>, TryTypeError>
         ensures { let found = looked_up (Self.kind self.now) (member self.now key.now) in
             result ≡ try_found bool_read ValueType.Bool found }
@@ -55,13 +58,12 @@ pub trait ValueGetScalar: TypedValue {
         let Some(member) = self.try_get_member(key)? else {
             return Ok(None);
         };
-        match read_bool(member.scalar) {
-            Some(value) => Ok(Some(value)),
-            None => Err(mismatch(&member, ValueType::Bool)),
-        }
+        or_mismatch(read_bool(member.scalar), ValueType::Bool, member.kind).map(Some)
     }
 
-    /// The member as an integer that fits `i8`.
+    /// Returns the member with this key as an `i8`.
+    ///
+    /// `None` if the value isn't an object, has no such member, or the member isn't an integer that fits an `i8`.
     fn get_i8(&self, key: &str) -> Option<i8>
         ensures { let found = looked_up (Self.kind self.now) (member self.now key.now) in
             result ≡ signed_read 7 (found_scalar found) }
@@ -69,7 +71,12 @@ pub trait ValueGetScalar: TypedValue {
         read_i8(found_scalar(self.try_get_member(key)))
     }
 
-    /// The member as an integer that fits `i8`, or the type met; none where the key is not there.
+    /// Returns the member with this key as an `i8`, or `None` if the object has no such member.
+    ///
+    /// # Errors
+    ///
+    /// `TryTypeError` if the value isn't an object, or if the member isn't an integer that fits an `i8`. The
+    /// expected type is `Object` or `I64`.
     fn try_get_i8(&self, key: &str) -> Result<Option<i8>, TryTypeError>
         ensures { let found = looked_up (Self.kind self.now) (member self.now key.now) in
             result ≡ try_found (signed_read 7) ValueType.I64 found }
@@ -77,13 +84,12 @@ pub trait ValueGetScalar: TypedValue {
         let Some(member) = self.try_get_member(key)? else {
             return Ok(None);
         };
-        match read_i8(member.scalar) {
-            Some(value) => Ok(Some(value)),
-            None => Err(mismatch(&member, ValueType::I64)),
-        }
+        or_mismatch(read_i8(member.scalar), ValueType::I64, member.kind).map(Some)
     }
 
-    /// The member as an integer that fits `i16`.
+    /// Returns the member with this key as an `i16`.
+    ///
+    /// `None` if the value isn't an object, has no such member, or the member isn't an integer that fits an `i16`.
     fn get_i16(&self, key: &str) -> Option<i16>
         ensures { let found = looked_up (Self.kind self.now) (member self.now key.now) in
             result ≡ signed_read 15 (found_scalar found) }
@@ -91,7 +97,12 @@ pub trait ValueGetScalar: TypedValue {
         read_i16(found_scalar(self.try_get_member(key)))
     }
 
-    /// The member as an integer that fits `i16`, or the type met; none where the key is not there.
+    /// Returns the member with this key as an `i16`, or `None` if the object has no such member.
+    ///
+    /// # Errors
+    ///
+    /// `TryTypeError` if the value isn't an object, or if the member isn't an integer that fits an `i16`. The
+    /// expected type is `Object` or `I64`.
     fn try_get_i16(&self, key: &str) -> Result<Option<i16>, TryTypeError>
         ensures { let found = looked_up (Self.kind self.now) (member self.now key.now) in
             result ≡ try_found (signed_read 15) ValueType.I64 found }
@@ -99,13 +110,12 @@ pub trait ValueGetScalar: TypedValue {
         let Some(member) = self.try_get_member(key)? else {
             return Ok(None);
         };
-        match read_i16(member.scalar) {
-            Some(value) => Ok(Some(value)),
-            None => Err(mismatch(&member, ValueType::I64)),
-        }
+        or_mismatch(read_i16(member.scalar), ValueType::I64, member.kind).map(Some)
     }
 
-    /// The member as an integer that fits `i32`.
+    /// Returns the member with this key as an `i32`.
+    ///
+    /// `None` if the value isn't an object, has no such member, or the member isn't an integer that fits an `i32`.
     fn get_i32(&self, key: &str) -> Option<i32>
         ensures { let found = looked_up (Self.kind self.now) (member self.now key.now) in
             result ≡ signed_read 31 (found_scalar found) }
@@ -113,7 +123,12 @@ pub trait ValueGetScalar: TypedValue {
         read_i32(found_scalar(self.try_get_member(key)))
     }
 
-    /// The member as an integer that fits `i32`, or the type met; none where the key is not there.
+    /// Returns the member with this key as an `i32`, or `None` if the object has no such member.
+    ///
+    /// # Errors
+    ///
+    /// `TryTypeError` if the value isn't an object, or if the member isn't an integer that fits an `i32`. The
+    /// expected type is `Object` or `I64`.
     fn try_get_i32(&self, key: &str) -> Result<Option<i32>, TryTypeError>
         ensures { let found = looked_up (Self.kind self.now) (member self.now key.now) in
             result ≡ try_found (signed_read 31) ValueType.I64 found }
@@ -121,13 +136,12 @@ pub trait ValueGetScalar: TypedValue {
         let Some(member) = self.try_get_member(key)? else {
             return Ok(None);
         };
-        match read_i32(member.scalar) {
-            Some(value) => Ok(Some(value)),
-            None => Err(mismatch(&member, ValueType::I64)),
-        }
+        or_mismatch(read_i32(member.scalar), ValueType::I64, member.kind).map(Some)
     }
 
-    /// The member as an integer that fits `i64`.
+    /// Returns the member with this key as an `i64`.
+    ///
+    /// `None` if the value isn't an object, has no such member, or the member isn't an integer that fits an `i64`.
     fn get_i64(&self, key: &str) -> Option<i64>
         ensures { let found = looked_up (Self.kind self.now) (member self.now key.now) in
             result ≡ signed_read 63 (found_scalar found) }
@@ -135,7 +149,12 @@ pub trait ValueGetScalar: TypedValue {
         read_i64(found_scalar(self.try_get_member(key)))
     }
 
-    /// The member as an integer that fits `i64`, or the type met; none where the key is not there.
+    /// Returns the member with this key as an `i64`, or `None` if the object has no such member.
+    ///
+    /// # Errors
+    ///
+    /// `TryTypeError` if the value isn't an object, or if the member isn't an integer that fits an `i64`. The
+    /// expected type is `Object` or `I64`.
     fn try_get_i64(&self, key: &str) -> Result<Option<i64>, TryTypeError>
         ensures { let found = looked_up (Self.kind self.now) (member self.now key.now) in
             result ≡ try_found (signed_read 63) ValueType.I64 found }
@@ -143,13 +162,12 @@ pub trait ValueGetScalar: TypedValue {
         let Some(member) = self.try_get_member(key)? else {
             return Ok(None);
         };
-        match read_i64(member.scalar) {
-            Some(value) => Ok(Some(value)),
-            None => Err(mismatch(&member, ValueType::I64)),
-        }
+        or_mismatch(read_i64(member.scalar), ValueType::I64, member.kind).map(Some)
     }
 
-    /// The member as an integer that fits `i128`.
+    /// Returns the member with this key as an `i128`.
+    ///
+    /// `None` if the value isn't an object, has no such member, or the member isn't an integer that fits an `i128`.
     fn get_i128(&self, key: &str) -> Option<i128>
         ensures { let found = looked_up (Self.kind self.now) (member self.now key.now) in
             result ≡ signed_read 127 (found_scalar found) }
@@ -157,7 +175,12 @@ pub trait ValueGetScalar: TypedValue {
         read_i128(found_scalar(self.try_get_member(key)))
     }
 
-    /// The member as an integer that fits `i128`, or the type met; none where the key is not there.
+    /// Returns the member with this key as an `i128`, or `None` if the object has no such member.
+    ///
+    /// # Errors
+    ///
+    /// `TryTypeError` if the value isn't an object, or if the member isn't an integer that fits an `i128`. The
+    /// expected type is `Object` or `I64`.
     fn try_get_i128(&self, key: &str) -> Result<Option<i128>, TryTypeError>
         ensures { let found = looked_up (Self.kind self.now) (member self.now key.now) in
             result ≡ try_found (signed_read 127) ValueType.I64 found }
@@ -165,13 +188,12 @@ pub trait ValueGetScalar: TypedValue {
         let Some(member) = self.try_get_member(key)? else {
             return Ok(None);
         };
-        match read_i128(member.scalar) {
-            Some(value) => Ok(Some(value)),
-            None => Err(mismatch(&member, ValueType::I64)),
-        }
+        or_mismatch(read_i128(member.scalar), ValueType::I64, member.kind).map(Some)
     }
 
-    /// The member as an integer that fits `u8`.
+    /// Returns the member with this key as a `u8`.
+    ///
+    /// `None` if the value isn't an object, has no such member, or the member isn't an integer that fits a `u8`.
     fn get_u8(&self, key: &str) -> Option<u8>
         ensures { let found = looked_up (Self.kind self.now) (member self.now key.now) in
             result ≡ unsigned_read 8 (found_scalar found) }
@@ -179,7 +201,12 @@ pub trait ValueGetScalar: TypedValue {
         read_u8(found_scalar(self.try_get_member(key)))
     }
 
-    /// The member as an integer that fits `u8`, or the type met; none where the key is not there.
+    /// Returns the member with this key as a `u8`, or `None` if the object has no such member.
+    ///
+    /// # Errors
+    ///
+    /// `TryTypeError` if the value isn't an object, or if the member isn't an integer that fits a `u8`. The
+    /// expected type is `Object` or `U64`.
     fn try_get_u8(&self, key: &str) -> Result<Option<u8>, TryTypeError>
         ensures { let found = looked_up (Self.kind self.now) (member self.now key.now) in
             result ≡ try_found (unsigned_read 8) ValueType.U64 found }
@@ -187,13 +214,12 @@ pub trait ValueGetScalar: TypedValue {
         let Some(member) = self.try_get_member(key)? else {
             return Ok(None);
         };
-        match read_u8(member.scalar) {
-            Some(value) => Ok(Some(value)),
-            None => Err(mismatch(&member, ValueType::U64)),
-        }
+        or_mismatch(read_u8(member.scalar), ValueType::U64, member.kind).map(Some)
     }
 
-    /// The member as an integer that fits `u16`.
+    /// Returns the member with this key as a `u16`.
+    ///
+    /// `None` if the value isn't an object, has no such member, or the member isn't an integer that fits a `u16`.
     fn get_u16(&self, key: &str) -> Option<u16>
         ensures { let found = looked_up (Self.kind self.now) (member self.now key.now) in
             result ≡ unsigned_read 16 (found_scalar found) }
@@ -201,7 +227,12 @@ pub trait ValueGetScalar: TypedValue {
         read_u16(found_scalar(self.try_get_member(key)))
     }
 
-    /// The member as an integer that fits `u16`, or the type met; none where the key is not there.
+    /// Returns the member with this key as a `u16`, or `None` if the object has no such member.
+    ///
+    /// # Errors
+    ///
+    /// `TryTypeError` if the value isn't an object, or if the member isn't an integer that fits a `u16`. The
+    /// expected type is `Object` or `U64`.
     fn try_get_u16(&self, key: &str) -> Result<Option<u16>, TryTypeError>
         ensures { let found = looked_up (Self.kind self.now) (member self.now key.now) in
             result ≡ try_found (unsigned_read 16) ValueType.U64 found }
@@ -209,13 +240,12 @@ pub trait ValueGetScalar: TypedValue {
         let Some(member) = self.try_get_member(key)? else {
             return Ok(None);
         };
-        match read_u16(member.scalar) {
-            Some(value) => Ok(Some(value)),
-            None => Err(mismatch(&member, ValueType::U64)),
-        }
+        or_mismatch(read_u16(member.scalar), ValueType::U64, member.kind).map(Some)
     }
 
-    /// The member as an integer that fits `u32`.
+    /// Returns the member with this key as a `u32`.
+    ///
+    /// `None` if the value isn't an object, has no such member, or the member isn't an integer that fits a `u32`.
     fn get_u32(&self, key: &str) -> Option<u32>
         ensures { let found = looked_up (Self.kind self.now) (member self.now key.now) in
             result ≡ unsigned_read 32 (found_scalar found) }
@@ -223,7 +253,12 @@ pub trait ValueGetScalar: TypedValue {
         read_u32(found_scalar(self.try_get_member(key)))
     }
 
-    /// The member as an integer that fits `u32`, or the type met; none where the key is not there.
+    /// Returns the member with this key as a `u32`, or `None` if the object has no such member.
+    ///
+    /// # Errors
+    ///
+    /// `TryTypeError` if the value isn't an object, or if the member isn't an integer that fits a `u32`. The
+    /// expected type is `Object` or `U64`.
     fn try_get_u32(&self, key: &str) -> Result<Option<u32>, TryTypeError>
         ensures { let found = looked_up (Self.kind self.now) (member self.now key.now) in
             result ≡ try_found (unsigned_read 32) ValueType.U64 found }
@@ -231,13 +266,12 @@ pub trait ValueGetScalar: TypedValue {
         let Some(member) = self.try_get_member(key)? else {
             return Ok(None);
         };
-        match read_u32(member.scalar) {
-            Some(value) => Ok(Some(value)),
-            None => Err(mismatch(&member, ValueType::U64)),
-        }
+        or_mismatch(read_u32(member.scalar), ValueType::U64, member.kind).map(Some)
     }
 
-    /// The member as an integer that fits `u64`.
+    /// Returns the member with this key as a `u64`.
+    ///
+    /// `None` if the value isn't an object, has no such member, or the member isn't an integer that fits a `u64`.
     fn get_u64(&self, key: &str) -> Option<u64>
         ensures { let found = looked_up (Self.kind self.now) (member self.now key.now) in
             result ≡ unsigned_read 64 (found_scalar found) }
@@ -245,7 +279,12 @@ pub trait ValueGetScalar: TypedValue {
         read_u64(found_scalar(self.try_get_member(key)))
     }
 
-    /// The member as an integer that fits `u64`, or the type met; none where the key is not there.
+    /// Returns the member with this key as a `u64`, or `None` if the object has no such member.
+    ///
+    /// # Errors
+    ///
+    /// `TryTypeError` if the value isn't an object, or if the member isn't an integer that fits a `u64`. The
+    /// expected type is `Object` or `U64`.
     fn try_get_u64(&self, key: &str) -> Result<Option<u64>, TryTypeError>
         ensures { let found = looked_up (Self.kind self.now) (member self.now key.now) in
             result ≡ try_found (unsigned_read 64) ValueType.U64 found }
@@ -253,13 +292,12 @@ pub trait ValueGetScalar: TypedValue {
         let Some(member) = self.try_get_member(key)? else {
             return Ok(None);
         };
-        match read_u64(member.scalar) {
-            Some(value) => Ok(Some(value)),
-            None => Err(mismatch(&member, ValueType::U64)),
-        }
+        or_mismatch(read_u64(member.scalar), ValueType::U64, member.kind).map(Some)
     }
 
-    /// The member as an integer that fits `u128`.
+    /// Returns the member with this key as a `u128`.
+    ///
+    /// `None` if the value isn't an object, has no such member, or the member isn't an integer that fits a `u128`.
     fn get_u128(&self, key: &str) -> Option<u128>
         ensures { let found = looked_up (Self.kind self.now) (member self.now key.now) in
             result ≡ unsigned_read 128 (found_scalar found) }
@@ -267,7 +305,12 @@ pub trait ValueGetScalar: TypedValue {
         read_u128(found_scalar(self.try_get_member(key)))
     }
 
-    /// The member as an integer that fits `u128`, or the type met; none where the key is not there.
+    /// Returns the member with this key as a `u128`, or `None` if the object has no such member.
+    ///
+    /// # Errors
+    ///
+    /// `TryTypeError` if the value isn't an object, or if the member isn't an integer that fits a `u128`. The
+    /// expected type is `Object` or `U64`.
     fn try_get_u128(&self, key: &str) -> Result<Option<u128>, TryTypeError>
         ensures { let found = looked_up (Self.kind self.now) (member self.now key.now) in
             result ≡ try_found (unsigned_read 128) ValueType.U64 found }
@@ -275,13 +318,12 @@ pub trait ValueGetScalar: TypedValue {
         let Some(member) = self.try_get_member(key)? else {
             return Ok(None);
         };
-        match read_u128(member.scalar) {
-            Some(value) => Ok(Some(value)),
-            None => Err(mismatch(&member, ValueType::U64)),
-        }
+        or_mismatch(read_u128(member.scalar), ValueType::U64, member.kind).map(Some)
     }
 
-    /// The member as an integer that fits `usize`.
+    /// Returns the member with this key as a `usize`.
+    ///
+    /// `None` if the value isn't an object, has no such member, or the member isn't an integer that fits a `usize`.
     fn get_usize(&self, key: &str) -> Option<usize>
         ensures { let found = looked_up (Self.kind self.now) (member self.now key.now) in
             result ≡ unsigned_read 64 (found_scalar found) }
@@ -289,7 +331,12 @@ pub trait ValueGetScalar: TypedValue {
         read_usize(found_scalar(self.try_get_member(key)))
     }
 
-    /// The member as an integer that fits `usize`, or the type met; none where the key is not there.
+    /// Returns the member with this key as a `usize`, or `None` if the object has no such member.
+    ///
+    /// # Errors
+    ///
+    /// `TryTypeError` if the value isn't an object, or if the member isn't an integer that fits a `usize`. The
+    /// expected type is `Object` or `U64`.
     fn try_get_usize(&self, key: &str) -> Result<Option<usize>, TryTypeError>
         ensures { let found = looked_up (Self.kind self.now) (member self.now key.now) in
             result ≡ try_found (unsigned_read 64) ValueType.U64 found }
@@ -297,13 +344,12 @@ pub trait ValueGetScalar: TypedValue {
         let Some(member) = self.try_get_member(key)? else {
             return Ok(None);
         };
-        match read_usize(member.scalar) {
-            Some(value) => Ok(Some(value)),
-            None => Err(mismatch(&member, ValueType::U64)),
-        }
+        or_mismatch(read_usize(member.scalar), ValueType::U64, member.kind).map(Some)
     }
 
-    /// The member as a text.
+    /// Returns the member with this key as a string.
+    ///
+    /// `None` if the value isn't an object, has no such member, or the member isn't a string.
     fn get_str(&self, key: &str) -> Option<&str>
         ensures { let found = looked_up (Self.kind self.now) (member self.now key.now) in
             option_map (λ s. s.now) result ≡ str_read (found_scalar found) }
@@ -311,7 +357,12 @@ pub trait ValueGetScalar: TypedValue {
         read_str(found_scalar(self.try_get_member(key)))
     }
 
-    /// The member as a text, or the type met; none where the key is not there.
+    /// Returns the member with this key as a string, or `None` if the object has no such member.
+    ///
+    /// # Errors
+    ///
+    /// `TryTypeError` if the value isn't an object, or if the member isn't a string. The expected type is
+    /// `Object` or `String`.
     fn try_get_str(&self, key: &str) -> Result<Option<&str>, TryTypeError>
         ensures { let found = looked_up (Self.kind self.now) (member self.now key.now) in
             found_text result ≡ try_found str_read ValueType.String found }
@@ -319,13 +370,12 @@ pub trait ValueGetScalar: TypedValue {
         let Some(member) = self.try_get_member(key)? else {
             return Ok(None);
         };
-        match read_str(member.scalar) {
-            Some(value) => Ok(Some(value)),
-            None => Err(mismatch(&member, ValueType::String)),
-        }
+        or_mismatch(read_str(member.scalar), ValueType::String, member.kind).map(Some)
     }
 
-    /// The member as a decimal literal.
+    /// Returns the member with this key as a decimal literal.
+    ///
+    /// `None` if the value isn't an object, has no such member, or the member isn't a decimal literal.
     fn get_decimal(&self, key: &str) -> Option<Decimal<'_>>
         ensures { let found = looked_up (Self.kind self.now) (member self.now key.now) in
             option_map decimal_text result ≡ decimal_read (found_scalar found) }
@@ -333,7 +383,12 @@ pub trait ValueGetScalar: TypedValue {
         read_decimal(found_scalar(self.try_get_member(key)))
     }
 
-    /// The member as a decimal literal, or the type met; none where the key is not there.
+    /// Returns the member with this key as a decimal literal, or `None` if the object has no such member.
+    ///
+    /// # Errors
+    ///
+    /// `TryTypeError` if the value isn't an object, or if the member isn't a decimal literal. The expected type
+    /// is `Object` or `Decimal`.
     fn try_get_decimal(&self, key: &str) -> Result<Option<Decimal<'_>>, TryTypeError>
         ensures { let found = looked_up (Self.kind self.now) (member self.now key.now) in
             found_literal result ≡ try_found decimal_read ValueType.Decimal found }
@@ -341,9 +396,6 @@ pub trait ValueGetScalar: TypedValue {
         let Some(member) = self.try_get_member(key)? else {
             return Ok(None);
         };
-        match read_decimal(member.scalar) {
-            Some(value) => Ok(Some(value)),
-            None => Err(mismatch(&member, ValueType::Decimal)),
-        }
+        or_mismatch(read_decimal(member.scalar), ValueType::Decimal, member.kind).map(Some)
     }
 }

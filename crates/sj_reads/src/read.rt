@@ -1,10 +1,20 @@
-//! What a scalar answers to a typed read.
-ghost use Rattle.std.specs.Prelude.{◌≡◌, option_map};
-ghost use Rattle.sj_base.specs.Literal.{decimal_text};
-ghost use Rattle.sj_base.specs.Scalar.{scalar_tree};
-ghost use Rattle.sj_reads.specs.Reads.{null_read, bool_read, signed_read, unsigned_read, str_read, decimal_read};
+//! Reads of a scalar as one type, which the traits' reads share.
+ghost use Rattle.std.specs.Prelude.{◌≡◌, ok_or, option_map};
+ghost use Rattle.sj_base.specs.Scalar.{decimal_text, scalar_tree};
+ghost use Rattle.sj_reads.specs.Reads.{null_read, bool_read, signed_read, unsigned_read, str_read, decimal_read, mismatch};
 
-use sj_base::{Decimal, Scalar, StaticNode};
+use sj_base::{Decimal, Scalar, StaticNode, TryTypeError, ValueType};
+
+// The value that a read found, or an error that names the type asked for and the type met.
+pub(crate) fn or_mismatch<T>(
+    found: Option<T>,
+    expected: ValueType,
+    got: ValueType,
+) -> Result<T, TryTypeError>
+    ensures { result ≡ ok_or found (mismatch expected got) }
+{
+    found.ok_or(TryTypeError { expected, got })
+}
 
 pub(crate) fn read_null(scalar: Option<Scalar<'_>>) -> Option<()>
     ensures { result ≡ null_read (option_map scalar_tree scalar.entry) }

@@ -1,4 +1,4 @@
--- The children that the counts find are those of the tree.
+-- The children that the counts find are the children of the tree.
 use Rattle.std.proofs.Common.{◌≡◌, ℕ, zero, suc, ◌-◌, Bool, true, false, cond, List, [], ◌∷◌, ◌++◌, Option, Some, None, option_map, option_and_then, bytes_eq, map, take, drop, length, refl, sym, ◌∙◌, ap, arith}
 use Rattle.std.proofs.lemmas.List.{take-append-drop, length-map}
 use Rattle.sj_base.specs.Tree.{Tree, null, boolean, integer, decimal, string, list, object, Items, no_items, item, Members, no_members, member}
@@ -6,11 +6,12 @@ use Rattle.sj_base.specs.Path.{Part, key, place, child, member_at, item_at}
 use Rattle.sj_base.specs.declared.static_node.StaticNode.TheVariants.{Null, Bool as Boolean, I64, U64}
 use Rattle.sj_reads.specs.Member.{Seen}
 use Rattle.sj_tape.specs.ByName.{seen_nodes}
-use Rattle.sj_tape.specs.ChildLaws.{ChildrenByCounts, SeenMembers}
+use Rattle.sj_tape.specs.Laws.{ChildrenByCounts, SeenMembers}
 use Rattle.sj_tape.specs.Children.{key_text, member_nodes, item_nodes, item_runs, member_runs, array_part, object_part, child_nodes}
 use Rattle.sj_base.specs.Containers.{items_len, members_len, item_trees, member_pairs, scalar_in}
 use Rattle.sj_tape.specs.Listing.{Entry, string_entry, list_entry, object_entry, listing, items_listing, members_listing}
-use Rattle.sj_tape.specs.Listed.{listed_items, listed_members, ListsItems, ListsMembers}
+use Rattle.sj_tape.specs.Listed.{listed_items, listed_members}
+use Rattle.sj_tape.specs.inside.Invariants.{ListsItems, ListsMembers}
 use Rattle.sj_tape.specs.Nodes.{node_entry, entries}
 use Rattle.sj_tape.specs.Views.{value_nodes, nodes_tree, pair_tree}
 use Rattle.sj_tape.specs.declared.node.Node.{Node}
@@ -20,11 +21,12 @@ use Rattle.sj_tape.proofs.Children.{member_nodes-step, item_nodes-step, item_nod
 use Rattle.sj_tape.proofs.Listings.{tree_from, length-item_trees, length-member_pairs}
 use Rattle.sj_tape.proofs.Cutting.{cons_parts, cut_front, cut_back, string_node}
 
--- how many members stand beneath the first entry, where it is an object's
+-- the number of members, if the first entry is that of an object
 abbrev object_len : List Entry → Option ℕ
 object_len (object_entry len count ∷ es) = Some len
 object_len _ = None
 
+-- the number of items, if the first entry is that of an array
 abbrev array_len : List Entry → Option ℕ
 array_len (list_entry len count ∷ es) = Some len
 array_len _ = None
@@ -97,7 +99,7 @@ item_nodes-tree (item t ts) ns (suc i) e =
     let other : suc i - 1 ≡ i = omega arith in
     ap (option_map nodes_tree) (step ∙ (ap (λ (l : ℕ). item_nodes l (drop n ns) (suc i - 1)) one ∙ ap (λ (j : ℕ). item_nodes (items_len ts) (drop n ns) j) other)) ∙ item_nodes-tree ts (drop n ns) i back
 
--- The nodes of all items are those of the trees.
+-- The trees of the nodes of all items.
 runs_trees : (ts : Items) (ns : List Node) → entries ns ≡ items_listing ts → map nodes_tree (item_runs (items_len ts) ns) ≡ item_trees ts
 runs_trees no_items ns e = refl
 runs_trees (item t ts) ns e =
@@ -155,7 +157,7 @@ pair_values ps ts e = sym (same ps) ∙ ap (map (λ p. p.1)) e
     same [] = refl
     same (q ∷ qs) = ap (λ (us : List Tree). nodes_tree q.1 ∷ us) (same qs)
 
--- what stands beneath the first node
+-- the entries beneath the first node
 beneath : (ns : List Node) (e : Entry) (es : List Entry) → entries ns ≡ e ∷ es → entries (drop 1 ns) ≡ es
 beneath [] e es h = absurd (cc)
 beneath (n ∷ ns) e es h = (cons_parts (node_entry n) e (entries ns) es h).1
@@ -174,7 +176,7 @@ by_place ns es i e = ap (option_and_then {T = ℕ × List Node} (λ p. item_node
     then_found None = refl
     then_found (Some len) = refl
 
--- The nodes that the counts find are those of the child in the tree.
+-- The nodes that the counts find are the nodes of the child in the tree.
 child_nodes-tree : (t : Tree) (ns : List Node) (part : Part) → entries ns ≡ listing t → option_map nodes_tree (child_nodes ns part) ≡ child t part
 child_nodes-tree null ns (key k) e = ap (option_map nodes_tree) (by_key ns (listing null) k e)
 child_nodes-tree null ns (place i) e = ap (option_map nodes_tree) (by_place ns (listing null) i e)

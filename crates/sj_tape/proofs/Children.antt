@@ -1,8 +1,8 @@
--- What the counts find in front, and behind it.
+-- The first child that the counts find, and the children after it.
 use Rattle.std.proofs.Common.{◌≡◌, ℕ, zero, suc, ◌+◌, ◌-◌, ◌<◌, Bool, true, false, cond, List, [], ◌∷◌, ◌++◌, Option, Some, None, option_map, drop, bytes_eq, length, refl, sym, ◌∙◌, ap, arith, append-nil}
 use Rattle.std.proofs.lemmas.List.{take_at, drop_at}
 use Rattle.sj_base.specs.Tree.{Tree}
-use Rattle.sj_tape.specs.ChildLaws.{ItemsByPlace, MembersByKey}
+use Rattle.sj_tape.specs.Laws.{ItemsByPlace, MembersByKey}
 use Rattle.sj_tape.specs.Children.{key_text, member_nodes, item_nodes, item_runs, member_runs}
 use Rattle.sj_tape.specs.Listing.{Entry, listing}
 use Rattle.sj_tape.specs.Nodes.{node_count, entries}
@@ -11,7 +11,7 @@ use Rattle.sj_tape.proofs.Tapes.{no_listing}
 use Rattle.sj_tape.proofs.NodeLists.{length-entries}
 use Rattle.sj_tape.proofs.Cutting.{first_count}
 
--- so many nodes stand beneath the first of a tree's
+-- the count of the first node of a tree is the number of nodes beneath
 beneath_count : (n : Node) (ns : List Node) (t : Tree) → entries (n ∷ ns) ≡ listing t → length ns ≡ node_count n
 beneath_count n ns t e =
     let counted : node_count n + 1 ≡ length (listing t) = first_count (n ∷ ns) t [] n (e ∙ sym (append-nil (listing t))) refl in

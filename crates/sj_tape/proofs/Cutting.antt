@@ -1,4 +1,4 @@
--- The first tree of nodes, and what stands behind it.
+-- The first tree of some nodes, and the nodes after it.
 use Rattle.std.proofs.Common.{◌≡◌, ◌≢◌, ℕ, suc, ◌+◌, ◌-◌, ◌<◌, ◌≤◌, List, [], ◌∷◌, ◌++◌, take, drop, get_or, length, refl, sym, ◌∙◌, ap, arith, length-append}
 use Rattle.std.proofs.lemmas.List.{take-map, drop-map, take_at, drop_at}
 use Rattle.sj_base.specs.Tree.{Tree, null, boolean, integer, decimal, string, list, object, Items, no_items, item, Members, no_members, member}
@@ -8,13 +8,14 @@ use Rattle.sj_base.specs.declared.static_node.StaticNode.TheVariants.{Null, Bool
 use Rattle.sj_base.specs.Containers.{items_len, members_len}
 use Rattle.sj_tape.specs.Listing.{Entry, null_entry, boolean_entry, integer_entry, decimal_entry, string_entry, list_entry, object_entry, listing, items_listing, members_listing}
 use Rattle.sj_tape.proofs.Listings.{IsListing}
-use Rattle.sj_tape.specs.Listed.{tree_of, listed_items, listed_members, ListsItems, ListsMembers}
+use Rattle.sj_tape.specs.Listed.{tree_of, listed_items, listed_members}
+use Rattle.sj_tape.specs.inside.Invariants.{ListsItems, ListsMembers}
 use Rattle.sj_tape.specs.Nodes.{static_entry, node_entry, node_count, entries}
 use Rattle.sj_tape.specs.declared.node.Node.{Node}
 use Rattle.sj_tape.specs.declared.node.Node.TheVariants.{String, Object, Array, Static, Decimal}
 use Rattle.sj_tape.proofs.NodeLists.{length-entries}
 
--- how many entries stand beneath
+-- the number of entries beneath
 abbrev entry_count : Entry → ℕ
 entry_count null_entry = 0
 entry_count (boolean_entry b) = 0
@@ -49,7 +50,7 @@ entry_count-listing (string s) x e es h = counted e (string_entry s) 1 (cc) refl
 entry_count-listing (list ts) x e es h = counted e (list_entry (items_len ts) (length (items_listing ts))) (suc (length (items_listing ts))) (cc) (omega arith)
 entry_count-listing (object ms) x e es h = counted e (object_entry (members_len ms) (length (members_listing ms))) (suc (length (members_listing ms))) (cc) (omega arith)
 
--- The first node tells how long its tree is.
+-- The count of the first node gives the length of its tree.
 pub first_count : (ns : List Node) (t : Tree) (x : List Entry) (n : Node) → entries ns ≡ listing t ++ x → n ≡ get_or ns 0 n → node_count n + 1 ≡ length (listing t)
 first_count [] t x n h is = absurd (no_front t x h)
   where
@@ -101,7 +102,7 @@ object_of (string s) len count es h = absurd (cc)
 object_of (list ts) len count es h = absurd (cc)
 object_of (object ms) len count es h = (ms, refl, cc, cc)
 
--- Items, and what is left behind the first.
+-- The first item or member, and the rest.
 pub items_front : (len : ℕ) (es : List Entry) → ListsItems len es → 0 < len → (t : Tree) × (ts : Items) × (listed_items len es ≡ item t ts) × (es ≡ listing t ++ items_listing ts) × (items_len ts ≡ len - 1)
 items_front len es h some = front (listed_items len es) h.0 h.1
   where

@@ -1,12 +1,10 @@
 pub mod Listings
 pub mod Passings
-pub mod AreTrees
+pub mod ValidTrees
 pub mod NodeLists
 pub mod Tapes
 pub mod Cutting
 pub mod Comparing
-pub mod Towards
-pub mod LaidOut
 pub mod Printing
 pub mod Children
 pub mod ChildTrees

@@ -4,7 +4,8 @@ use Rattle.std.proofs.lemmas.List.{append_cancel_left}
 use Rattle.sj_base.specs.Tree.{Tree, null, boolean, integer, decimal, string, list, object, Items, no_items, item, Members, no_members, member}
 use Rattle.sj_base.specs.Containers.{items_len, members_len, item_trees, member_pairs}
 use Rattle.sj_tape.specs.Listing.{Entry, listing, items_listing, members_listing}
-use Rattle.sj_tape.specs.Listed.{items_of, members_of, trees, first_tree, tree_of, listed_items, listed_members, ListsItems, ListsMembers}
+use Rattle.sj_tape.specs.Listed.{items_of, members_of, trees, first_tree, tree_of, listed_items, listed_members}
+use Rattle.sj_tape.specs.inside.Invariants.{ListsItems, ListsMembers}
 
 -- the entries list one tree, and nothing else
 abbrev pub IsListing : List Entry → Type 0

@@ -1,4 +1,4 @@
--- The preorder of a tree: an entry for each value, and one for each key in front of its member.
+-- The preorder of a tree: an entry for each value, and an entry for each key before the value of its member.
 use Rattle.std.specs.Prelude.{ℕ, ℤ, Bool, List, [], ◌∷◌, ◌++◌, length}
 use Rattle.sj_base.specs.Containers.{items_len, members_len}
 use Rattle.sj_base.specs.Tree.{Tree, null, boolean, integer, decimal, string, list, object, Items, no_items, item, Members, no_members, member}
@@ -8,9 +8,9 @@ pub data Entry : Type 0 where
   boolean_entry : Bool → Entry
   integer_entry : ℤ → Entry
   decimal_entry : List ℕ → Entry
-  string_entry : List ℕ → Entry  -- a text or a key
-  list_entry : ℕ → ℕ → Entry  -- how many items, and how many entries beneath
-  object_entry : ℕ → ℕ → Entry  -- how many members, and how many entries beneath
+  string_entry : List ℕ → Entry  -- a string or a key
+  list_entry : ℕ → ℕ → Entry  -- the number of items, and of entries beneath
+  object_entry : ℕ → ℕ → Entry  -- the number of members, and of entries beneath
 
 abbrev mutual
   pub listing : Tree → List Entry

@@ -1,8 +1,6 @@
--- What nodes stand for.
-use Rattle.std.specs.Prelude.{ℕ, pos, List, map, Option, Some, None}
-use Rattle.sj_base.specs.Tree.{Tree, decimal, string}
-use Rattle.sj_base.specs.Literal.{decimal_text}
-use Rattle.sj_base.specs.Scalar.{static_tree, static_type}
+-- The entry that a node stands for, its type, and the number of nodes beneath it.
+use Rattle.std.specs.Prelude.{ℕ, pos, List, map}
+use Rattle.sj_base.specs.Scalar.{decimal_text, static_type}
 use Rattle.sj_base.specs.declared.static_node.ValueType.{ValueType}
 use Rattle.sj_base.specs.declared.static_node.ValueType.TheVariants.{Decimal as decimal_type, String as string_type, Array as array_type, Object as object_type}
 use Rattle.sj_base.specs.declared.static_node.StaticNode.{StaticNode}
@@ -11,7 +9,7 @@ use Rattle.sj_tape.specs.Listing.{Entry, null_entry, boolean_entry, integer_entr
 use Rattle.sj_tape.specs.declared.node.Node.{Node}
 use Rattle.sj_tape.specs.declared.node.Node.TheVariants.{String, Object, Array, Static, Decimal}
 
--- either carrier stands for the integer
+-- `I64` and `U64` stand for the integer alike
 abbrev pub static_entry : StaticNode → Entry
 static_entry Null = null_entry
 static_entry (Boolean b) = boolean_entry b
@@ -28,7 +26,7 @@ node_entry (Decimal d) = decimal_entry (decimal_text d)
 abbrev pub entries : List Node → List Entry
 entries nodes = map node_entry nodes
 
--- the type tells the carrier
+-- the type, which tells `I64` from `U64`
 abbrev pub node_type : Node → ValueType
 node_type (String s) = string_type
 node_type (Object len count) = object_type
@@ -36,15 +34,7 @@ node_type (Array len count) = array_type
 node_type (Static s) = static_type s
 node_type (Decimal d) = decimal_type
 
--- the tree of a node that is a value without others beneath; only a clause of a private function cites it
-abbrev pub leaf_tree : Node → Option Tree
-leaf_tree (String s) = Some (string s.now)
-leaf_tree (Object len count) = None
-leaf_tree (Array len count) = None
-leaf_tree (Static s) = Some (static_tree s)
-leaf_tree (Decimal d) = Some (decimal (decimal_text d))
-
--- how many nodes stand beneath
+-- the number of nodes beneath
 abbrev pub node_count : Node → ℕ
 node_count (String s) = 0
 node_count (Object len count) = count

@@ -2,29 +2,30 @@
 ghost use Rattle.std.specs.Prelude.{◌≡◌, ◌↔◌, ◌-◌, ◌<◌, ℕ, IsTrue, IfSome, MatchOption, Some, None, option_map, [], ◌∷◌, length, map};
 ghost use Rattle.std.specs.Iterator.{YieldsFirstBy, UpTo, item_count};
 ghost use Rattle.std.specs.Iterator.SizeHint.{IsWithinCount};
-ghost use Rattle.sj_base.specs.Tree.{no_items, item, AreTrees};
+ghost use Rattle.sj_base.specs.Tree.{no_items, item, AreValidItems};
 ghost use Rattle.sj_base.specs.Path.{item_at};
 ghost use Rattle.sj_base.specs.Containers.{items_len, item_trees};
-ghost use Rattle.sj_tape.specs.Listed.{ListsItems, listed_items};
+ghost use Rattle.sj_tape.specs.Listed.{listed_items};
+ghost use Rattle.sj_tape.specs.inside.Invariants.{ListsItems};
 ghost use Rattle.sj_tape.specs.Nodes.{entries};
 
 use crate::node::Node;
 use crate::value::Value;
 use std::iter::{ExactSizeIterator, FusedIterator};
 
-/// An array of a tape, which stays where it is.
+/// A view of an array of a tape. Port of `simd_json::tape::Array`.
 #[derive(Clone, Copy, Debug)]
 pub struct Array<'t, 'i> {
     pub(crate) len: usize,
     pub(crate) nodes: &'t [Node<'i>],
     ghost items: { ListsItems len (entries nodes.now) },
-    ghost are_trees: { ∥ AreTrees (listed_items len (entries nodes.now)) ∥₁ },
+    ghost are_valid: { ∥ AreValidItems (listed_items len (entries nodes.now)) ∥₁ },
 }
 
 impl<'t, 'i> Array<'t, 'i> {
     ghost use Rattle.sj_tape.specs.Views.{value_nodes, value_tree, nodes_tree, array_items, array_runs, items_left, array_item};
 
-    // The first item, and an array of those behind it.
+    // Returns the first item, and a view of the items after it.
     pub(crate) fn split_first(&self) -> Option<(Value<'t, 'i>, Array<'t, 'i>)>
         ensures items { MatchOption result (array_items self.now ≡ no_items)
             (λ p. array_items self.now ≡ item (value_tree p.0) (array_items p.1)) }
@@ -45,21 +46,23 @@ impl<'t, 'i> Array<'t, 'i> {
         Some((first, rest))
     }
 
-    /// How many items there are.
+    /// Returns the number of items.
     pub fn len(&self) -> usize
         ensures { result ≡ items_len (array_items self.now) }
     {
         self.len
     }
 
-    /// Whether there are none.
+    /// Returns `true` if the array has no items.
     pub fn is_empty(&self) -> bool
         ensures { IsTrue result ↔ (items_len (array_items self.now) ≡ 0) }
     {
         self.len() == 0
     }
 
-    /// The item at that index.
+    /// Returns the item at this index, or `None` if the array has no more than `index` items.
+    ///
+    /// Skips the items before it one by one.
     pub fn get(&self, index: usize) -> Option<Value<'t, 'i>>
         ensures tree { option_map value_tree result ≡ item_at (array_items self.now) index }
         ensures nodes { option_map value_nodes result ≡ array_item self.now index }
@@ -76,7 +79,7 @@ impl<'t, 'i> Array<'t, 'i> {
         }
     }
 
-    /// The items in order.
+    /// Returns an iterator over the items in document order.
     pub fn iter(&self) -> Iter<'t, 'i>
         ensures nodes { items_left result ≡ array_runs self.now }
         ensures items { map nodes_tree (items_left result) ≡ item_trees (array_items self.now) }
@@ -102,7 +105,7 @@ impl<'t, 'i> IntoIterator for &Array<'t, 'i> {
     }
 }
 
-/// The items of an array in order, and then none.
+/// An iterator over the items of an array in document order. After the last item it returns `None` at each call.
 #[derive(Clone, Debug, Drop)]
 pub struct Iter<'t, 'i> {
     rest: Array<'t, 'i>,

@@ -1,11 +1,11 @@
-//! Which nodes are the preorder of a tree. A level of nesting takes a level of the stack, and nothing is kept.
-ghost use Rattle.std.specs.Prelude.{◌≡◌, ◌≢◌, ◌+◌, ◌-◌, ◌<◌, ◌≤◌, [], ◌∷◌, length, drop, IfSome, option_map, MatchOption};
+//! The test whether nodes are the preorder of a tree. It recurses once for each level of nesting and keeps nothing else.
+ghost use Rattle.std.specs.Prelude.{◌≡◌, ◌≢◌, ◌+◌, ◌-◌, ◌<◌, ◌≤◌, true, false, [], ◌∷◌, length, drop, IfSome, option_map, MatchOption};
 ghost use Rattle.sj_tape.specs.Nodes.{node_entry, entries};
-ghost use Rattle.sj_tape.specs.Passing.{PassesTree, PassesItems, PassesKey, PassesMembers};
+ghost use Rattle.sj_tape.specs.inside.Passing.{PassesTree, PassesContents, PassesPart, PassesKey};
 
 use crate::node::Node;
 
-// Where the tree ends that begins at the index.
+// Returns the index after the tree that begins at `start`.
 #[cycle(check)]
 pub(crate) fn tree_end(nodes: &[Node<'_>], start: usize) -> Option<usize>
     ensures passes { PassesTree (drop start (entries nodes.now))
@@ -13,45 +13,48 @@ pub(crate) fn tree_end(nodes: &[Node<'_>], start: usize) -> Option<usize>
     ensures bounds { IfSome result (λ end. (start < end) × (end ≤ length nodes.now)) }
 {
     match node_at(nodes, start)? {
-        Node::Array { len, count } => counted(start + 1, items_end(nodes, start + 1, len)?, count),
+        Node::Array { len, count } => {
+            let end = contents_end(nodes, start + 1, len, false)?;
+            counted(start + 1, end, count)
+        }
         Node::Object { len, count } => {
-            counted(start + 1, members_end(nodes, start + 1, len)?, count)
+            let end = contents_end(nodes, start + 1, len, true)?;
+            counted(start + 1, end, count)
         }
         leaf => leaf.scalar().and(Some(start + 1)),
     }
 }
 
-// Where so many items end that begin at the index.
+// Returns the index after the `len` items, or members, that begin at `start`.
 #[cycle(check)]
-fn items_end(nodes: &[Node<'_>], start: usize, len: usize) -> Option<usize>
+fn contents_end(nodes: &[Node<'_>], start: usize, len: usize, has_keys: bool) -> Option<usize>
     requires { start ≤ length nodes.now }
-    ensures passes { PassesItems len (drop start (entries nodes.now))
+    ensures passes { PassesContents has_keys len (drop start (entries nodes.now))
         (option_map (λ end. drop end (entries nodes.now)) result) }
     ensures bounds { IfSome result (λ end. (start ≤ end) × (end ≤ length nodes.now)) }
 {
     let mut end = start;
     for _i in 0..len {
-        end = tree_end(nodes, end)?;
+        end = part_end(nodes, end, has_keys)?;
     }
     Some(end)
 }
 
-// Where so many members end that begin at the index.
+// Returns the index after the item, or the member, that begins at `start`.
 #[cycle(check)]
-fn members_end(nodes: &[Node<'_>], start: usize, len: usize) -> Option<usize>
-    requires { start ≤ length nodes.now }
-    ensures passes { PassesMembers len (drop start (entries nodes.now))
+fn part_end(nodes: &[Node<'_>], start: usize, has_keys: bool) -> Option<usize>
+    ensures passes { PassesPart has_keys (drop start (entries nodes.now))
         (option_map (λ end. drop end (entries nodes.now)) result) }
-    ensures bounds { IfSome result (λ end. (start ≤ end) × (end ≤ length nodes.now)) }
+    ensures bounds { IfSome result (λ end. (start < end) × (end ≤ length nodes.now)) }
 {
-    let mut end = start;
-    for _i in 0..len {
-        end = tree_end(nodes, key_end(nodes, end)?)?;
+    if has_keys {
+        tree_end(nodes, key_end(nodes, start)?)
+    } else {
+        tree_end(nodes, start)
     }
-    Some(end)
 }
 
-// Where the key ends that stands at the index.
+// Returns the index after the key at `start`.
 fn key_end(nodes: &[Node<'_>], start: usize) -> Option<usize>
     ensures passes { PassesKey (drop start (entries nodes.now))
         (option_map (λ end. drop end (entries nodes.now)) result) }
@@ -75,7 +78,7 @@ fn node_at<'i>(nodes: &[Node<'i>], at: usize) -> Option<Node<'i>>
     }
 }
 
-// The end, where so many nodes stand before it.
+// Returns `end` if `count` nodes stand between `start` and `end`.
 fn counted(start: usize, end: usize, count: usize) -> Option<usize>
     requires { start ≤ end }
     ensures { MatchOption result (end - start ≢ count) (λ r. (r ≡ end) × (end - start ≡ count)) }

@@ -1,4 +1,4 @@
-//! Comparisons of the values of a tape. None takes memory.
+//! Comparisons of views with views, scalars and maps. They take no memory.
 ghost use Rattle.std.specs.Prelude.{◌≡◌, ◌↔◌, IsTrue};
 ghost use Rattle.sj_base.specs.Tree.{null, boolean, integer, string};
 ghost use Rattle.sj_tape.specs.Nodes.{node_entry, entries};
@@ -15,8 +15,10 @@ impl Value<'_, '_> {
     ghost use Rattle.sj_tape.specs.Views.{value_tree};
     ghost use Rattle.sj_tape.specs.Compare.{IsSameMap, map_trees};
 
-    /// Whether both are the same document, also `==`. The order of members and repeats count; the carrier of an integer
-    /// doesn't, nor whether a null stands in a tape.
+    /// Returns `true` if both values are equal, as `==` does.
+    ///
+    /// Objects are equal if they have the same members in the same order, repeated keys included. An integer in an `I64`
+    /// equals the same integer in a `U64`. [`Value::null`] equals a null of a tape.
     pub fn same(&self, other: &Value<'_, '_>) -> bool
         ensures { IsTrue result ↔ (value_tree self.now ≡ value_tree other.now) }
     {
@@ -27,36 +29,38 @@ impl Value<'_, '_> {
         }
     }
 
-    /// Whether the value is null.
+    /// Returns `true` if the value is null.
     pub fn same_null(&self) -> bool
         ensures { IsTrue result ↔ (value_tree self.now ≡ null) }
     {
         self.is_null()
     }
 
-    /// Whether the value is that truth value.
+    /// Returns `true` if the value is this boolean.
     pub fn same_bool(&self, b: bool) -> bool
         ensures { IsTrue result ↔ (value_tree self.now ≡ boolean b) }
     {
         self.as_bool() == Some(b)
     }
 
-    /// Whether the value is that integer, in either carrier. An `i128` holds each integer of a tape.
+    /// Returns `true` if the value is this integer, in an `I64` or a `U64`.
     pub fn same_int(&self, n: i128) -> bool
         ensures { IsTrue result ↔ (value_tree self.now ≡ integer n) }
     {
         self.as_i128() == Some(n)
     }
 
-    /// Whether the value is that text.
+    /// Returns `true` if the value is this string.
     pub fn same_str(&self, text: &str) -> bool
         ensures { IsTrue result ↔ (value_tree self.now ≡ string text.now) }
     {
         self.as_str() == Some(text)
     }
 
-    /// Whether the value is an object of as many members as the map has keys, where `get` of each of the keys finds an
-    /// equal value. The order of members doesn't count; a repeat counts as a member.
+    /// Returns `true` if the value is an object that is equal to the map.
+    ///
+    /// They are equal if the object has as many members as the map has keys, and `get` of each key finds an equal value.
+    /// The order of members doesn't matter. A repeated key counts as a member, so an object with one never equals a map.
     pub fn same_map(&self, map: &HashMap<String, Value<'_, '_>>) -> bool
         ensures { IsTrue result ↔ IsSameMap (value_tree self.now) (map_trees map.now) }
     {
@@ -100,7 +104,7 @@ impl Eq for Value<'_, '_> {
     ghost laws = { value_eq_equiv };
 }
 
-// Whether the nodes stand for the same entries.
+// Returns `true` if the nodes stand for the same entries.
 fn same_nodes(a: &[Node<'_>], b: &[Node<'_>]) -> bool
     ensures { IsTrue result ↔ (entries a.now ≡ entries b.now) }
 {
@@ -115,7 +119,7 @@ fn same_nodes(a: &[Node<'_>], b: &[Node<'_>]) -> bool
     true
 }
 
-// Whether the nodes stand for the same entry, whichever carrier holds an integer.
+// Returns `true` if the nodes stand for the same entry. An `I64` and a `U64` of one integer do.
 fn same_node(a: &Node<'_>, b: &Node<'_>) -> bool
     ensures { IsTrue result ↔ (node_entry a.now ≡ node_entry b.now) }
 {

@@ -1,5 +1,8 @@
-//! A document as one flat list of nodes, and views that read it where it stands. A tape is empty or the preorder of one
-//! tree, so views answer as on that tree; encoders append its text or nothing.
+//! A JSON document as one flat list of nodes, and views that read it in place.
+//!
+//! A [`Tape`] is empty or holds the preorder of one document. [`Value`], [`Array`] and [`Object`] are views of parts of
+//! a tape: they copy nothing, and each container's count of nodes lets them skip to the next item or member. Contracts
+//! say what a view returns by the tree that its nodes stand for.
 #![tactic(auto)]
 
 pub mod array;

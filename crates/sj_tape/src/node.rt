@@ -1,30 +1,32 @@
 //! The nodes of a tape.
 ghost use Rattle.std.specs.Prelude.{◌≡◌, [], ◌∷◌, IfSome, MatchOption, option_map};
 ghost use Rattle.sj_base.specs.Scalar.{scalar_tree, scalar_type};
-ghost use Rattle.sj_base.specs.Tree.{IsTree};
+ghost use Rattle.sj_base.specs.Tree.{IsValidTree};
 
 use sj_base::{Decimal, Scalar, StaticNode, ValueType};
 
-/// One value, or one key, in the preorder of a document (`simd_json::Node`). `len` is the number of items or members,
-/// `count` the number of nodes beneath.
+/// One value or one key, in the preorder of a document. Port of `simd_json::Node`.
+///
+/// `len` is the number of items or members, and `count` the number of nodes beneath the container, at all levels.
 #[derive(Clone, Copy, Debug)]
 pub enum Node<'i> {
-    /// A text, or the key in front of a member's value.
+    /// A string, or the key before the value of a member.
     String(&'i str),
-    /// Each member is a key's node and the nodes of its value.
+    /// An object. Each of its members is the node of a key, and then the nodes of a value.
     Object { len: usize, count: usize },
-    /// Each item is the nodes of its value.
+    /// An array. The nodes of its items come one after another.
     Array { len: usize, count: usize },
-    /// Null, a truth value or an integer.
+    /// Null, a boolean or an integer.
     Static(StaticNode),
-    /// A number with a fraction or an exponent, as its text.
+    /// A number with a fraction or an exponent, as its literal.
     Decimal(Decimal<'i>),
 }
 
 impl<'i> Node<'i> {
-    ghost use Rattle.sj_tape.specs.Nodes.{leaf_tree, node_type, node_count};
+    ghost use Rattle.sj_tape.specs.Nodes.{node_type, node_count};
+    ghost use Rattle.sj_tape.specs.inside.Leaves.{leaf_tree};
 
-    /// The type, which tells the carrier of an integer.
+    /// Returns the type, which tells an `I64` from a `U64`.
     pub fn value_type(&self) -> ValueType
         ensures { result ≡ node_type self.now }
     {
@@ -37,14 +39,14 @@ impl<'i> Node<'i> {
         }
     }
 
-    // The value, where it holds no other value.
+    // Returns the value of a node that isn't a container.
     pub(crate) fn scalar(&self) -> Option<Scalar<'i>>
         ensures tree { option_map scalar_tree result ≡ leaf_tree self.now }
-        ensures is_tree { IfSome result (λ s. IsTree (scalar_tree s)) }
+        ensures is_valid { IfSome result (λ s. IsValidTree (scalar_tree s)) }
         ensures kind { IfSome result (λ s. scalar_type s ≡ node_type self.now) }
     {
         match self {
-            // Integers are in the range of their carrier.
+            // Each carrier alone, so that the range of its integer is known.
             Node::Static(StaticNode::I64(n)) => Some(Scalar::Static(StaticNode::I64(*n))),
             Node::Static(StaticNode::U64(n)) => Some(Scalar::Static(StaticNode::U64(*n))),
             Node::Static(node) => Some(Scalar::Static(*node)),
@@ -54,7 +56,7 @@ impl<'i> Node<'i> {
         }
     }
 
-    // How many nodes stand beneath.
+    // Returns the number of nodes beneath.
     pub(crate) fn count(&self) -> usize
         ensures { result ≡ node_count self.now }
     {
@@ -65,7 +67,7 @@ impl<'i> Node<'i> {
     }
 }
 
-// The first node, and those behind it.
+// Returns the first node and the nodes after it.
 pub(crate) fn take_node<'t, 'i>(nodes: &'t [Node<'i>]) -> Option<(Node<'i>, &'t [Node<'i>])>
     ensures { MatchOption result (nodes.now ≡ []) (λ p. nodes.now ≡ p.0 ∷ p.1.now) }
 {

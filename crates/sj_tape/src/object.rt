@@ -1,30 +1,33 @@
 //! Views of the objects of a tape.
-ghost use Rattle.std.specs.Prelude.{◌≡◌, ◌↔◌, ℕ, IsTrue, IfSome, MatchOption, Some, None, option_map, List, [], ◌∷◌, length, map, bytes_eq, cond};
+ghost use Rattle.std.specs.Prelude.{◌≡◌, ◌↔◌, ℕ, IsTrue, IfSome, MatchOption, Some, None, option_map, List, [], ◌∷◌, length, map, bytes_eq, if◌then◌else◌};
 ghost use Rattle.std.specs.Iterator.{YieldsFirstBy, UpTo, item_count};
 ghost use Rattle.std.specs.Iterator.SizeHint.{IsWithinCount};
-ghost use Rattle.sj_base.specs.Tree.{no_members, member, AreMembers};
+ghost use Rattle.sj_base.specs.Tree.{no_members, member, AreValidMembers};
 ghost use Rattle.sj_base.specs.Path.{member_at};
 ghost use Rattle.sj_base.specs.Containers.{members_len, member_pairs};
-ghost use Rattle.sj_tape.specs.Listed.{ListsMembers, listed_members};
+ghost use Rattle.sj_tape.specs.Listed.{listed_members};
+ghost use Rattle.sj_tape.specs.inside.Invariants.{ListsMembers};
 ghost use Rattle.sj_tape.specs.Nodes.{entries};
 
 use crate::node::{Node, take_node};
 use crate::value::Value;
 use std::iter::{ExactSizeIterator, FusedIterator};
 
-/// An object of a tape, which stays where it is. Of a key that comes again each member shows.
+/// A view of an object of a tape. Port of `simd_json::tape::Object`.
+///
+/// `get` finds the first member with a key; `len` and the iterators count and show each member, repeated keys too.
 #[derive(Clone, Copy, Debug)]
 pub struct Object<'t, 'i> {
     pub(crate) len: usize,
     pub(crate) nodes: &'t [Node<'i>],
     ghost members: { ListsMembers len (entries nodes.now) },
-    ghost are_members: { ∥ AreMembers (listed_members len (entries nodes.now)) ∥₁ },
+    ghost are_valid: { ∥ AreValidMembers (listed_members len (entries nodes.now)) ∥₁ },
 }
 
 impl<'t, 'i> Object<'t, 'i> {
     ghost use Rattle.sj_tape.specs.Views.{value_nodes, value_tree, nodes_tree, object_members, object_member, object_runs, pair_tree, pairs_left, keys_left, values_left};
 
-    // The first member, and an object of those behind it.
+    // Returns the first member, and a view of the members after it.
     pub(crate) fn split_first(&self) -> Option<(&'i str, Value<'t, 'i>, Object<'t, 'i>)>
         ensures members { MatchOption result (object_members self.now ≡ no_members)
             (λ p. object_members self.now ≡ member p.0.now (value_tree p.1) (object_members p.2)) }
@@ -32,7 +35,7 @@ impl<'t, 'i> Object<'t, 'i> {
             (λ p. object_runs self.now ≡ (p.0.now, value_nodes p.1) ∷ object_runs p.2) }
         ensures found { (k : List ℕ) → MatchOption result (object_member self.now k ≡ None)
             (λ p. object_member self.now k
-            ≡ cond (bytes_eq p.0.now k) (Some (value_nodes p.1)) (object_member p.2 k)) }
+            ≡ (if bytes_eq p.0.now k then Some (value_nodes p.1) else object_member p.2 k)) }
     {
         if self.len == 0 {
             return None;
@@ -49,21 +52,23 @@ impl<'t, 'i> Object<'t, 'i> {
         Some((key, value, rest))
     }
 
-    /// How many members there are.
+    /// Returns the number of members, repeated keys included.
     pub fn len(&self) -> usize
         ensures { result ≡ members_len (object_members self.now) }
     {
         self.len
     }
 
-    /// Whether there are none.
+    /// Returns `true` if the object has no members.
     pub fn is_empty(&self) -> bool
         ensures { IsTrue result ↔ (members_len (object_members self.now) ≡ 0) }
     {
         self.len() == 0
     }
 
-    /// The first member with that key. The members before it are passed by their counts.
+    /// Returns the value of the first member with this key.
+    ///
+    /// Skips the members before it one by one.
     pub fn get(&self, name: &str) -> Option<Value<'t, 'i>>
         ensures tree { option_map value_tree result ≡ member_at (object_members self.now) name.now }
         ensures nodes { option_map value_nodes result ≡ object_member self.now name.now }
@@ -78,7 +83,7 @@ impl<'t, 'i> Object<'t, 'i> {
         }
     }
 
-    /// The members in order.
+    /// Returns an iterator over the members in document order.
     pub fn iter(&self) -> Iter<'t, 'i>
         ensures nodes { pairs_left result ≡ object_runs self.now }
         ensures members { map pair_tree (pairs_left result) ≡ member_pairs (object_members self.now) }
@@ -87,7 +92,7 @@ impl<'t, 'i> Object<'t, 'i> {
         Iter { rest: *self }
     }
 
-    /// The keys in order.
+    /// Returns an iterator over the keys in document order.
     pub fn keys(&self) -> Keys<'t, 'i>
         ensures keys { keys_left result ≡ map (λ p. p.0) (member_pairs (object_members self.now)) }
         ensures count { length (keys_left result) ≡ members_len (object_members self.now) }
@@ -97,7 +102,7 @@ impl<'t, 'i> Object<'t, 'i> {
         }
     }
 
-    /// The values in order.
+    /// Returns an iterator over the values in document order.
     pub fn values(&self) -> Values<'t, 'i>
         ensures nodes { values_left result ≡ map (λ p. p.1) (object_runs self.now) }
         ensures values { map nodes_tree (values_left result) ≡ map (λ p. p.1) (member_pairs (object_members self.now)) }
@@ -125,7 +130,7 @@ impl<'t, 'i> IntoIterator for &Object<'t, 'i> {
     }
 }
 
-/// The members of an object in order, and then none.
+/// An iterator over the members of an object in document order. After the last member it returns `None` at each call.
 #[derive(Clone, Debug, Drop)]
 pub struct Iter<'t, 'i> {
     rest: Object<'t, 'i>,
@@ -164,7 +169,7 @@ impl ExactSizeIterator for Iter<'_, '_> {
 
 impl FusedIterator for Iter<'_, '_> {}
 
-/// The keys of an object in order, and then none.
+/// An iterator over the keys of an object in document order. After the last key it returns `None` at each call.
 #[derive(Clone, Debug, Drop)]
 pub struct Keys<'t, 'i> {
     members: Iter<'t, 'i>,
@@ -201,7 +206,7 @@ impl ExactSizeIterator for Keys<'_, '_> {
 
 impl FusedIterator for Keys<'_, '_> {}
 
-/// The values of an object in order, and then none.
+/// An iterator over the values of an object in document order. After the last value it returns `None` at each call.
 #[derive(Clone, Debug, Drop)]
 pub struct Values<'t, 'i> {
     members: Iter<'t, 'i>,

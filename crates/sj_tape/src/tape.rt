@@ -1,8 +1,8 @@
-//! A whole document as one flat list of nodes.
-ghost use Rattle.std.specs.Prelude.{◌≡◌, ◌≢◌, ◌↔◌, [], ◌∷◌, Some, IsTrue, IsSome, IfSome, IfOk};
-ghost use Rattle.sj_base.specs.Tree.{Tree, null, IsTree};
+//! Tapes: a whole document as one flat list of nodes.
+ghost use Rattle.std.specs.Prelude.{◌≡◌, ◌≢◌, ◌↔◌, ◌⊎◌, [], ◌∷◌, Some, IsTrue, IsSome, IfSome, IfOk};
+ghost use Rattle.sj_base.specs.Tree.{Tree, null, IsValidTree};
 ghost use Rattle.sj_tape.specs.Listing.{listing};
-ghost use Rattle.sj_tape.specs.Listed.{IsTape, tree_of};
+ghost use Rattle.sj_tape.specs.Listed.{IsPreorder, IsTape, option_listing, tree_of};
 ghost use Rattle.sj_tape.specs.Nodes.{entries};
 
 use crate::check::tree_end;
@@ -11,78 +11,104 @@ use crate::value::Value;
 use sj_base::StaticNode;
 use std::alloc::{AllocError, Global};
 
-/// Nodes that are the preorder of one document, or none at all (`simd_json::Tape`).
+/// A document as the list of its nodes in preorder, or no node at all. Port of `simd_json::Tape`.
 #[derive(Debug, Drop)]
 pub struct Tape<'i> {
     nodes: Vec<Node<'i>>,
     ghost listed: { IsTape (entries nodes.items) },
-    ghost is_tree: { ∥ IsTree (tree_of (entries nodes.items)) ∥₁ },
+    ghost is_valid: { ∥ IsValidTree (tree_of (entries nodes.items)) ∥₁ },
 }
 
 impl<'i> Tape<'i> {
     ghost use Rattle.sj_tape.specs.Views.{tape_nodes, tape_tree, value_nodes, value_tree};
 
-    /// The tape of these nodes, or none where they are no document's preorder; then they are dropped. Takes no memory,
-    /// but nests as deep as the document does.
+    /// Creates a tape from nodes, or returns `None` if they aren't the preorder of one document.
+    ///
+    /// Each `len` and each `count` is checked. Takes no memory, and recurses once for each level of nesting.
     pub fn new(nodes: Vec<Node<'i>>) -> Option<Tape<'i>>
         ensures accepts { IsSome result ↔ ((t : Tree) × (entries nodes.entry.items ≡ listing t)) }
         ensures nodes { IfSome result (λ tape. tape_nodes tape ≡ nodes.entry.items) }
+        ensures not_empty { IfSome result (λ tape. tape_nodes tape ≢ []) }
         ensures tree { (t : Tree) → entries nodes.entry.items ≡ listing t
             → IfSome result (λ tape. tape_tree tape ≡ Some t) }
-        ensures is_tree { (t : Tree) → entries nodes.entry.items ≡ listing t → IsTree t }
+        ensures is_valid { (t : Tree) → entries nodes.entry.items ≡ listing t → IsValidTree t }
     {
         if tree_end(&nodes, 0) == Some(nodes.len()) {
-            Some(Tape { nodes })
+            Some(Tape::from_listing(nodes))
         } else {
             None
         }
     }
 
-    /// A tape with no node. Takes no memory.
+    /// Creates a tape from nodes that are already known to be the preorder of one valid document, or from no node.
+    ///
+    /// Checks nothing and takes no memory. To test the condition, call `is_empty` on the vector, or use [`Tape::new`].
+    pub fn from_listing(nodes: Vec<Node<'i>>) -> Tape<'i>
+        requires { (nodes.items ≡ []) ⊎ IsPreorder (entries nodes.items) }
+        ensures nodes { tape_nodes result ≡ nodes.entry.items }
+        ensures tree { (t : Tree) → entries nodes.entry.items ≡ listing t → tape_tree result ≡ Some t }
+    {
+        Tape { nodes }
+    }
+
+    /// Creates an empty tape. Takes no memory.
     pub fn empty(alloc: Global) -> Tape<'i>
         ensures { tape_nodes result ≡ [] }
     {
-        Tape {
-            nodes: Vec::new(alloc),
-        }
+        Tape::from_listing(Vec::new(alloc))
     }
 
-    /// The tape of `null`.
+    /// Creates the tape of the document `null`.
+    ///
+    /// # Errors
+    ///
+    /// `AllocError` if there is no memory for one node.
     pub fn null(alloc: Global) -> Result<Tape<'i>, AllocError>
-        ensures { IfOk result (λ tape. tape_tree tape ≡ Some null) }
+        ensures nodes { IfOk result (λ tape. tape_nodes tape ≡ Node.Static StaticNode.Null ∷ []) }
+        ensures tree { IfOk result (λ tape. tape_tree tape ≡ Some null) }
     {
         let mut nodes = Vec::new(alloc);
         nodes.push(Node::Static(StaticNode::Null))?;
-        Ok(Tape { nodes })
+        Ok(Tape::from_listing(nodes))
     }
 
-    /// A tape with no node, for another input. Takes no memory.
+    /// Drops the nodes and returns an empty tape, whose nodes may borrow from another input. Takes no memory. Port of
+    /// `simd_json::Tape::reset`.
     pub fn reset<'new>(self) -> Tape<'new>
         ensures { tape_nodes result ≡ [] }
     {
         Tape::empty(*self.nodes.allocator())
     }
 
-    /// The nodes in preorder.
+    /// Returns the nodes in preorder.
     pub fn nodes(&self) -> &[Node<'i>]
         ensures { result.now ≡ tape_nodes self.now }
     {
         &self.nodes
     }
 
-    /// Whether the tape has no node.
+    /// Returns the vector of the nodes in preorder. Takes no memory.
+    pub fn into_nodes(self) -> Vec<Node<'i>>
+        ensures nodes { result.items ≡ tape_nodes self.entry }
+        ensures tree { entries result.items ≡ option_listing (tape_tree self.entry) }
+    {
+        self.nodes
+    }
+
+    /// Returns `true` if the tape has no nodes, and so no document.
     pub fn is_empty(&self) -> bool
         ensures { IsTrue result ↔ (tape_nodes self.now ≡ []) }
     {
         self.nodes.is_empty()
     }
 
-    /// The document. `is_empty` tells whether there is one.
+    /// Returns a view of the document. To test the condition, call [`Tape::is_empty`]. Port of
+    /// `simd_json::Tape::as_value`.
     pub fn as_value(&self) -> Value<'_, 'i>
         requires { tape_nodes self.now ≢ [] }
         ensures nodes { value_nodes result ≡ tape_nodes self.now }
         ensures tree { tape_tree self.now ≡ Some (value_tree result) }
-        ensures is_tree { IsTree (value_tree result) }
+        ensures is_valid { IsValidTree (value_tree result) }
     {
         Value {
             nodes: self.nodes(),

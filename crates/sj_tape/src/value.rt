@@ -1,7 +1,7 @@
 //! Views of the values of a tape.
 ghost use Rattle.std.specs.Prelude.{◌≡◌, ◌++◌, List, Some, IfOk, IfSome, is_some, ok_or, option_and_then, option_map};
 ghost use Rattle.sj_base.specs.Containers.{items_in, members_in, scalar_in};
-ghost use Rattle.sj_base.specs.Tree.{Tree, null, IsTree};
+ghost use Rattle.sj_base.specs.Tree.{Tree, null, IsValidTree};
 ghost use Rattle.sj_base.specs.Path.{key, place, member_at, item_at, child};
 ghost use Rattle.sj_base.specs.Scalar.{scalar_tree, scalar_type};
 ghost use Rattle.sj_reads.specs.Reads.{mismatch, str_read};
@@ -15,21 +15,22 @@ use crate::object::Object;
 use sj_base::{Scalar, StaticNode, TryTypeError, ValueType};
 use sj_reads::{Member, TypedValue, ValueAsScalar, ValueGetScalar};
 
-/// A value of a tape, which stays where it is, or a null that stands in no tape (`simd_json::tape::Value`).
+/// A view of a value of a tape, or a null that is in no tape. Port of `simd_json::tape::Value` and of its methods from
+/// the traits of `value_trait`.
 #[derive(Clone, Copy, Debug)]
 pub struct Value<'t, 'i> {
-    // Those of the value; none for the null that stands in no tape.
+    // The nodes of the value. A null that is in no tape has none.
     pub(crate) nodes: &'t [Node<'i>],
     ghost listed: { IsTape (entries nodes.now) },
-    ghost is_tree: { ∥ IsTree (tree_of (entries nodes.now)) ∥₁ },
+    ghost is_valid: { ∥ IsValidTree (tree_of (entries nodes.now)) ∥₁ },
 }
 
 impl<'t, 'i> Value<'t, 'i> {
-    ghost use Rattle.sj_tape.specs.ByName.{try_nodes, try_member, found_nodes, found_items, found_members};
+    ghost use Rattle.sj_tape.specs.ByName.{try_nodes, try_member};
     ghost use Rattle.sj_tape.specs.Children.{array_part, object_part, child_nodes};
-    ghost use Rattle.sj_tape.specs.Views.{value_nodes, value_tree, value_kind, array_part_of, array_items, object_part_of, object_members, ok_items, ok_members, ok_found};
+    ghost use Rattle.sj_tape.specs.Views.{value_nodes, value_tree, value_kind, array_part_of, array_items, object_part_of, object_members, ok_items, ok_members, found_tree, found_nodes, found_items, found_members};
 
-    /// A null that stands in no tape.
+    /// Creates a null that is in no tape.
     #[tactic(auto, unfolding(crate::specs::Listed::tree_of, crate::specs::Listed::listed_tree))]
     pub fn null() -> Value<'t, 'i>
         ensures tree { value_tree result ≡ null }
@@ -38,9 +39,9 @@ impl<'t, 'i> Value<'t, 'i> {
         Value { nodes: &[] }
     }
 
-    // The value that the nodes begin with, and the nodes behind it.
+    // Returns the first value of the nodes, and the nodes after it.
     pub(crate) fn split_from(nodes: &'t [Node<'i>]) -> (Value<'t, 'i>, &'t [Node<'i>])
-        requires { (t : Tree) × (rest : List Entry) × IsTree t × (entries nodes.now ≡ listing t ++ rest) }
+        requires { (t : Tree) × (rest : List Entry) × IsValidTree t × (entries nodes.now ≡ listing t ++ rest) }
         ensures parts { nodes.now ≡ value_nodes result.0 ++ result.1.now }
         ensures tree { (t : Tree) (rest : List Entry) → entries nodes.now ≡ listing t ++ rest
             → (value_tree result.0 ≡ t) × (entries result.1.now ≡ rest) }
@@ -51,7 +52,7 @@ impl<'t, 'i> Value<'t, 'i> {
         (Value { nodes: first }, rest)
     }
 
-    /// The type, which tells the carrier of an integer.
+    /// Returns the type, which tells an `I64` from a `U64`.
     pub fn value_type(&self) -> ValueType
         ensures { result ≡ value_kind self.now }
     {
@@ -61,7 +62,7 @@ impl<'t, 'i> Value<'t, 'i> {
         }
     }
 
-    /// The items, where the value is an array.
+    /// Returns a view of the array, or `None` if the value isn't an array.
     #[tactic(auto, unfolding(crate::specs::Listed::tree_of))]
     pub fn as_array(&self) -> Option<Array<'t, 'i>>
         ensures tree { option_map array_items result ≡ items_in (value_tree self.now) }
@@ -74,7 +75,7 @@ impl<'t, 'i> Value<'t, 'i> {
         }
     }
 
-    /// The members, where the value is an object.
+    /// Returns a view of the object, or `None` if the value isn't an object.
     #[tactic(auto, unfolding(crate::specs::Listed::tree_of))]
     pub fn as_object(&self) -> Option<Object<'t, 'i>>
         ensures tree { option_map object_members result ≡ members_in (value_tree self.now) }
@@ -87,21 +88,25 @@ impl<'t, 'i> Value<'t, 'i> {
         }
     }
 
-    /// Whether the value is an array.
+    /// Returns `true` if the value is an array.
     pub fn is_array(&self) -> bool
         ensures { result ≡ is_some (items_in (value_tree self.now)) }
     {
         self.as_array().is_some()
     }
 
-    /// Whether the value is an object.
+    /// Returns `true` if the value is an object.
     pub fn is_object(&self) -> bool
         ensures { result ≡ is_some (members_in (value_tree self.now)) }
     {
         self.as_object().is_some()
     }
 
-    /// The items, or the type met.
+    /// Returns a view of the array.
+    ///
+    /// # Errors
+    ///
+    /// An error with the expected type and the type of the value, if it isn't an array.
     pub fn try_as_array(&self) -> Result<Array<'t, 'i>, TryTypeError>
         ensures tree { ok_items result ≡ ok_or (items_in (value_tree self.now))
             (mismatch ValueType.Array (value_kind self.now)) }
@@ -113,7 +118,11 @@ impl<'t, 'i> Value<'t, 'i> {
         }
     }
 
-    /// The members, or the type met.
+    /// Returns a view of the object.
+    ///
+    /// # Errors
+    ///
+    /// An error with the expected type and the type of the value, if it isn't an object.
     pub fn try_as_object(&self) -> Result<Object<'t, 'i>, TryTypeError>
         ensures tree { ok_members result ≡ ok_or (members_in (value_tree self.now))
             (mismatch ValueType.Object (value_kind self.now)) }
@@ -125,7 +134,7 @@ impl<'t, 'i> Value<'t, 'i> {
         }
     }
 
-    /// The text, where the value is a string.
+    /// Returns the string, which may outlive the tape, or `None` if the value isn't a string.
     #[tactic(auto, unfolding(crate::specs::Listed::tree_of))]
     pub fn into_string(self) -> Option<&'i str>
         ensures { option_map (λ s. s.now) result ≡ str_read (scalar_in (value_tree self.entry)) }
@@ -137,7 +146,7 @@ impl<'t, 'i> Value<'t, 'i> {
         }
     }
 
-    /// The items, where the value is an array.
+    /// Returns a view of the array, or `None` if the value isn't an array.
     pub fn into_array(self) -> Option<Array<'t, 'i>>
         ensures tree { option_map array_items result ≡ items_in (value_tree self.entry) }
         ensures nodes { option_map array_part_of result ≡ array_part (value_nodes self.entry) }
@@ -145,7 +154,7 @@ impl<'t, 'i> Value<'t, 'i> {
         self.as_array()
     }
 
-    /// The members, where the value is an object.
+    /// Returns a view of the object, or `None` if the value isn't an object.
     pub fn into_object(self) -> Option<Object<'t, 'i>>
         ensures tree { option_map object_members result ≡ members_in (value_tree self.entry) }
         ensures nodes { option_map object_part_of result ≡ object_part (value_nodes self.entry) }
@@ -153,7 +162,7 @@ impl<'t, 'i> Value<'t, 'i> {
         self.as_object()
     }
 
-    /// The first member with that key, where the value is an object.
+    /// Returns the value of the first member with this key, or `None` if there is none or the value isn't an object.
     pub fn get(&self, name: &str) -> Option<Value<'t, 'i>>
         ensures tree { option_map value_tree result ≡ child (value_tree self.now) (key name.now) }
         ensures nodes { option_map value_nodes result
@@ -162,14 +171,14 @@ impl<'t, 'i> Value<'t, 'i> {
         self.as_object()?.get(name)
     }
 
-    /// Whether the value is an object with such a member.
+    /// Returns `true` if the value is an object with a member of this key.
     pub fn contains_key(&self, name: &str) -> bool
         ensures { result ≡ is_some (child (value_tree self.now) (key name.now)) }
     {
         self.get(name).is_some()
     }
 
-    /// The item at that index, where the value is an array.
+    /// Returns the item at this index, or `None` if there is none or the value isn't an array.
     pub fn get_idx(&self, index: usize) -> Option<Value<'t, 'i>>
         ensures tree { option_map value_tree result ≡ child (value_tree self.now) (place index) }
         ensures nodes { option_map value_nodes result
@@ -178,7 +187,7 @@ impl<'t, 'i> Value<'t, 'i> {
         self.as_array()?.get(index)
     }
 
-    /// The items of the first member with that key, where that is an array.
+    /// Returns the array in the first member with this key, or `None` if there is none or it isn't an array.
     pub fn get_array(&self, name: &str) -> Option<Array<'t, 'i>>
         ensures tree { option_map array_items result
             ≡ option_and_then items_in (child (value_tree self.now) (key name.now)) }
@@ -188,7 +197,7 @@ impl<'t, 'i> Value<'t, 'i> {
         self.get(name)?.as_array()
     }
 
-    /// The members of the first member with that key, where that is an object.
+    /// Returns the object in the first member with this key, or `None` if there is none or it isn't an object.
     pub fn get_object(&self, name: &str) -> Option<Object<'t, 'i>>
         ensures tree { option_map object_members result
             ≡ option_and_then members_in (child (value_tree self.now) (key name.now)) }
@@ -198,9 +207,13 @@ impl<'t, 'i> Value<'t, 'i> {
         self.get(name)?.as_object()
     }
 
-    /// The first member with that key, none where the key is not there, or the type met where the value is no object.
+    /// Returns the value of the first member with this key, or `None` if there is none.
+    ///
+    /// # Errors
+    ///
+    /// An error with the expected type and the type of the value, if it isn't an object.
     pub fn try_get(&self, name: &str) -> Result<Option<Value<'t, 'i>>, TryTypeError>
-        ensures tree { ok_found result
+        ensures tree { found_tree result
             ≡ ok_or (option_map (λ ms. member_at ms name.now) (members_in (value_tree self.now)))
             (mismatch ValueType.Object (value_kind self.now)) }
         ensures nodes { found_nodes result ≡ try_nodes self.now name.now }
@@ -211,9 +224,13 @@ impl<'t, 'i> Value<'t, 'i> {
         }
     }
 
-    /// The item at that index, none past the end, or the type met where the value is no array.
+    /// Returns the item at this index, or `None` if there is none.
+    ///
+    /// # Errors
+    ///
+    /// An error with the expected type and the type of the value, if it isn't an array.
     pub fn try_get_idx(&self, index: usize) -> Result<Option<Value<'t, 'i>>, TryTypeError>
-        ensures tree { ok_found result
+        ensures tree { found_tree result
             ≡ ok_or (option_map (λ ts. item_at ts index) (items_in (value_tree self.now)))
             (mismatch ValueType.Array (value_kind self.now)) }
         ensures nodes { IfOk result (λ found. option_map value_nodes found
@@ -225,7 +242,12 @@ impl<'t, 'i> Value<'t, 'i> {
         }
     }
 
-    /// The items of the first member with that key, or the type met; none where the key is not there.
+    /// Returns the array in the first member with this key, or `None` if there is none.
+    ///
+    /// # Errors
+    ///
+    /// An error with the expected type and the type of the value, if the value isn't an object, or with the type of the
+    /// member, if that isn't an array.
     pub fn try_get_array(&self, name: &str) -> Result<Option<Array<'t, 'i>>, TryTypeError>
         ensures tree { found_items result ≡ try_member items_in ValueType.Array self.now name.now }
         ensures nodes { IfOk result (λ found. option_map array_part_of found
@@ -237,7 +259,12 @@ impl<'t, 'i> Value<'t, 'i> {
         }
     }
 
-    /// The members of the first member with that key, or the type met; none where the key is not there.
+    /// Returns the object in the first member with this key, or `None` if there is none.
+    ///
+    /// # Errors
+    ///
+    /// An error with the expected type and the type of the value, if the value isn't an object, or with the type of the
+    /// member, if that isn't an object.
     pub fn try_get_object(&self, name: &str) -> Result<Option<Object<'t, 'i>>, TryTypeError>
         ensures tree { found_members result ≡ try_member members_in ValueType.Object self.now name.now }
         ensures nodes { IfOk result (λ found. option_map object_part_of found
@@ -249,7 +276,7 @@ impl<'t, 'i> Value<'t, 'i> {
         }
     }
 
-    // The value, where it holds no other value.
+    // Returns the value if it isn't a container.
     #[tactic(auto, unfolding(crate::specs::Listed::tree_of))]
     fn scalar(&self) -> Option<Scalar<'i>>
         ensures tree { option_map scalar_tree result ≡ scalar_in (value_tree self.now) }

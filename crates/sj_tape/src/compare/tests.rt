@@ -1,3 +1,6 @@
+//! Grids of comparisons: pairs of documents, values with scalars, objects with maps.
+
+use crate::tests::tape;
 use crate::{Node, Tape, Value};
 use sj_base::{Decimal, StaticNode};
 use std::alloc::Global;
@@ -10,8 +13,12 @@ const ONE: Node<'static> = Node::Static(StaticNode::U64(1));
 
 const SIGNED_ONE: Node<'static> = Node::Static(StaticNode::I64(1));
 
-// The nodes of `[1,[2,3],4]`, with that node for `2`.
-fn nested(two: Node<'_>) -> [Node<'_>; 6] {
+const EMPTY_ARRAY: Node<'static> = Node::Array { len: 0, count: 0 };
+
+const EMPTY_OBJECT: Node<'static> = Node::Object { len: 0, count: 0 };
+
+// The nodes of `[1,[2,3],4]`, with this node for `2`.
+fn nested(two: Node<'static>) -> [Node<'static>; 6] {
     [
         Node::Array { len: 3, count: 5 },
         ONE,
@@ -22,13 +29,18 @@ fn nested(two: Node<'_>) -> [Node<'_>; 6] {
     ]
 }
 
-// The nodes of an object of two members.
-fn object<'i>(
-    key: &'i str,
-    value: Node<'i>,
-    other: &'i str,
-    other_value: Node<'i>,
-) -> [Node<'i>; 5] {
+// The nodes of `{"a":1}`.
+fn once() -> [Node<'static>; 3] {
+    [Node::Object { len: 1, count: 2 }, Node::String("a"), ONE]
+}
+
+// The nodes of an object with two members.
+fn object(
+    key: &'static str,
+    value: Node<'static>,
+    other: &'static str,
+    other_value: Node<'static>,
+) -> [Node<'static>; 5] {
     [
         Node::Object { len: 2, count: 4 },
         Node::String(key),
@@ -38,13 +50,10 @@ fn object<'i>(
     ]
 }
 
-// Whether both lists of nodes are one document, by `same` and by `==`, either way round.
+// Tests `same` and `==`, in both orders.
 fn same(alloc: Global, nodes: &[Node<'_>], other: &[Node<'_>]) -> Result<bool, Fail> {
-    let left = Tape::new(nodes.to_vec(alloc)?).ok_or("no tape")?;
-    let right = Tape::new(other.to_vec(alloc)?).ok_or("no tape")?;
-    if left.is_empty() || right.is_empty() {
-        return Err(Fail::from("no value"));
-    }
+    let left = tape(alloc, nodes)?;
+    let right = tape(alloc, other)?;
     let value = left.as_value();
     let answer = value.same(&right.as_value());
     if right.as_value().same(&value) != answer || (value == right.as_value()) != answer {
@@ -53,39 +62,31 @@ fn same(alloc: Global, nodes: &[Node<'_>], other: &[Node<'_>]) -> Result<bool, F
     Ok(answer)
 }
 
-// Whether the nodes are the same as the maps `{}`, `{"a":1}` and `{"a":1,"b":null}`.
+// Compares a document with the maps `{}`, `{"a":1}` and `{"a":1,"b":null}`.
 fn same_maps(alloc: Global, nodes: &[Node<'_>]) -> Result<[bool; 3], Fail> {
-    let values = [Node::Array { len: 2, count: 2 }, ONE, NULL];
-    let values = Tape::new(values.to_vec(alloc)?).ok_or("no tape")?;
-    let tape = Tape::new(nodes.to_vec(alloc)?).ok_or("no tape")?;
-    if values.is_empty() || tape.is_empty() {
-        return Err(Fail::from("no value"));
-    }
-    same_maps_of(alloc, tape.as_value(), values.as_value())
+    let values = tape(alloc, &[Node::Array { len: 2, count: 2 }, ONE, NULL])?;
+    let document = tape(alloc, nodes)?;
+    same_maps_of(alloc, document.as_value(), values.as_value())
 }
 
-// The same of a value, where the list has the values of the maps.
+// Compares a value with the same maps, whose values are the items of `values`.
 fn same_maps_of(
     alloc: Global,
     value: Value<'_, '_>,
-    list: Value<'_, '_>,
+    values: Value<'_, '_>,
 ) -> Result<[bool; 3], Fail> {
     let mut map = HashMap::new(alloc);
-    let none = value.same_map(&map);
-    map.insert(
-        String::from_str(alloc, "a")?,
-        list.get_idx(0).ok_or("no item")?,
-    )?;
-    let one = value.same_map(&map);
-    map.insert(
-        String::from_str(alloc, "b")?,
-        list.get_idx(1).ok_or("no item")?,
-    )?;
-    Ok([none, one, value.same_map(&map)])
+    let as_empty = value.same_map(&map);
+    let one = values.get_idx(0).ok_or("no item")?;
+    map.insert(String::from_str(alloc, "a")?, one)?;
+    let as_one = value.same_map(&map);
+    let null = values.get_idx(1).ok_or("no item")?;
+    map.insert(String::from_str(alloc, "b")?, null)?;
+    Ok([as_empty, as_one, value.same_map(&map)])
 }
 
-// Whether the value is null, true, false, 7 and "7".
-fn answers(value: &Value<'_, '_>) -> [bool; 5] {
+// Compares a value with null, true, false, 7 and "7".
+fn same_scalars(value: &Value<'_, '_>) -> [bool; 5] {
     [
         value.same_null(),
         value.same_bool(true),
@@ -99,42 +100,43 @@ fn answers(value: &Value<'_, '_>) -> [bool; 5] {
 fn documents(rt: HostRuntime) -> Result<(), Fail> {
     let alloc = rt.alloc();
     let two = Node::Static(StaticNode::U64(2));
-    assert!(rt; same(alloc, &nested(two), &nested(two))?);
-    let signed = Node::Static(StaticNode::I64(2));
-    assert!(rt; same(alloc, &nested(two), &nested(signed))?);
-    assert!(rt; !same(alloc, &nested(two), &nested(ONE))?);
-    assert!(rt; !same(alloc, &nested(two), &nested(Node::String("2")))?);
-    assert!(rt; !same(alloc, &nested(two), &[ONE])?);
-    Ok(())
-}
-
-#[test]
-fn scalars(rt: HostRuntime) -> Result<(), Fail> {
-    let alloc = rt.alloc();
+    let signed_two = Node::Static(StaticNode::I64(2));
     let short = Node::Decimal(Decimal::new("1.0").ok_or("no literal")?);
     let long = Node::Decimal(Decimal::new("1.00").ok_or("no literal")?);
-    assert!(rt; same(alloc, &[short], &[short])?);
-    assert!(rt; !same(alloc, &[short], &[long])?);
-    assert!(rt; !same(alloc, &[short], &[Node::String("1.0")])?);
-    assert!(rt; same(alloc, &[ONE], &[SIGNED_ONE])?);
-    let wrapped = Node::Static(StaticNode::U64(u64::MAX));
-    assert!(rt; !same(alloc, &[wrapped], &[Node::Static(StaticNode::I64(-1))])?);
-    assert!(rt; !same(alloc, &[NULL], &[Node::Static(StaticNode::Bool(false))])?);
-    let list = Node::Array { len: 0, count: 0 };
-    assert!(rt; !same(alloc, &[list], &[Node::Object { len: 0, count: 0 }])?);
-    Ok(())
-}
-
-#[test]
-fn order_and_repeats_count(rt: HostRuntime) -> Result<(), Fail> {
-    let alloc = rt.alloc();
+    let greatest = Node::Static(StaticNode::U64(u64::MAX));
+    let minus_one = Node::Static(StaticNode::I64(-1));
     let members = object("a", ONE, "b", NULL);
-    assert!(rt; same(alloc, &members, &object("a", SIGNED_ONE, "b", NULL))?);
-    assert!(rt; !same(alloc, &members, &object("b", NULL, "a", ONE))?);
-    assert!(rt; !same(alloc, &members, &object("a", ONE, "c", NULL))?);
-    let once = [Node::Object { len: 1, count: 2 }, Node::String("a"), ONE];
-    assert!(rt; same(alloc, &once, &once)?);
-    assert!(rt; !same(alloc, &object("a", ONE, "a", ONE), &once)?);
+    let rows = [
+        (same(alloc, &nested(two), &nested(two))?, true),
+        (same(alloc, &nested(two), &nested(signed_two))?, true),
+        (same(alloc, &nested(two), &nested(ONE))?, false),
+        (
+            same(alloc, &nested(two), &nested(Node::String("2")))?,
+            false,
+        ),
+        (same(alloc, &nested(two), &[ONE])?, false),
+        (same(alloc, &[short], &[short])?, true),
+        (same(alloc, &[short], &[long])?, false),
+        (same(alloc, &[short], &[Node::String("1.0")])?, false),
+        (same(alloc, &[ONE], &[SIGNED_ONE])?, true),
+        (same(alloc, &[greatest], &[minus_one])?, false),
+        (
+            same(alloc, &[NULL], &[Node::Static(StaticNode::Bool(false))])?,
+            false,
+        ),
+        (same(alloc, &[EMPTY_ARRAY], &[EMPTY_OBJECT])?, false),
+        (
+            same(alloc, &members, &object("a", SIGNED_ONE, "b", NULL))?,
+            true,
+        ),
+        (same(alloc, &members, &object("b", NULL, "a", ONE))?, false),
+        (same(alloc, &members, &object("a", ONE, "c", NULL))?, false),
+        (same(alloc, &object("a", ONE, "a", ONE), &once())?, false),
+        (same(alloc, &once(), &once())?, true),
+    ];
+    for (answer, is_same) in rows {
+        assert_eq!(rt; answer, is_same);
+    }
     Ok(())
 }
 
@@ -142,67 +144,63 @@ fn order_and_repeats_count(rt: HostRuntime) -> Result<(), Fail> {
 fn null_of_no_tape(rt: HostRuntime) -> Result<(), Fail> {
     let null = Value::null();
     assert!(rt; null.same(&Value::null()));
-    assert!(rt; null.same_null());
-    let tape = Tape::null(rt.alloc())?;
-    assert!(rt; !tape.is_empty());
-    assert!(rt; null.same(&tape.as_value()));
-    assert!(rt; tape.as_value().same(&null));
-    assert!(rt; tape.as_value().same_null());
-    let list = Tape::new(nested(NULL).to_vec(rt.alloc())?).ok_or("no tape")?;
-    assert!(rt; !list.is_empty());
+    let tape_of_null = Tape::null(rt.alloc())?;
+    assert!(rt; null.same(&tape_of_null.as_value()));
+    assert!(rt; tape_of_null.as_value().same(&null));
+    let list = tape(rt.alloc(), &nested(NULL))?;
     assert!(rt; !null.same(&list.as_value()));
     assert!(rt; !list.as_value().same(&null));
-    assert!(rt; !list.as_value().same_null());
     Ok(())
 }
 
 #[test]
 fn with_scalars(rt: HostRuntime) -> Result<(), Fail> {
-    let nodes = [
-        Node::Array { len: 4, count: 4 },
-        Node::Static(StaticNode::Bool(true)),
-        Node::Static(StaticNode::I64(7)),
-        Node::Static(StaticNode::U64(u64::MAX)),
-        Node::String("7"),
+    let rows = [
+        (NULL, [true, false, false, false, false]),
+        (
+            Node::Static(StaticNode::Bool(true)),
+            [false, true, false, false, false],
+        ),
+        (
+            Node::Static(StaticNode::Bool(false)),
+            [false, false, true, false, false],
+        ),
+        (
+            Node::Static(StaticNode::I64(7)),
+            [false, false, false, true, false],
+        ),
+        (
+            Node::Static(StaticNode::U64(7)),
+            [false, false, false, true, false],
+        ),
+        (Node::Static(StaticNode::I64(-7)), [false; 5]),
+        (Node::String("7"), [false, false, false, false, true]),
+        (EMPTY_ARRAY, [false; 5]),
     ];
-    let tape = Tape::new(nodes.to_vec(rt.alloc())?).ok_or("no tape")?;
-    assert!(rt; !tape.is_empty());
-    let list = tape.as_value();
-    assert_eq!(rt; answers(&list), [false; 5]);
-    let truth = list.get_idx(0).ok_or("no item")?;
-    assert_eq!(rt; answers(&truth), [false, true, false, false, false]);
-    let seven = list.get_idx(1).ok_or("no item")?;
-    assert_eq!(rt; answers(&seven), [false, false, false, true, false]);
-    assert!(rt; !seven.same_int(-7));
-    let greatest = list.get_idx(2).ok_or("no item")?;
-    assert_eq!(rt; answers(&greatest), [false; 5]);
-    assert!(rt; greatest.same_int(18446744073709551615));
-    assert!(rt; !greatest.same_int(-1));
-    let text = list.get_idx(3).ok_or("no item")?;
-    assert_eq!(rt; answers(&text), [false, false, false, false, true]);
-    assert_eq!(rt; answers(&Value::null()), [true, false, false, false, false]);
+    for (node, answers) in rows {
+        let tape = tape(rt.alloc(), &[node])?;
+        assert_eq!(rt; same_scalars(&tape.as_value()), answers);
+    }
+    let greatest = tape(rt.alloc(), &[Node::Static(StaticNode::U64(u64::MAX))])?;
+    assert!(rt; greatest.as_value().same_int(18446744073709551615));
+    assert!(rt; !greatest.as_value().same_int(-1));
     Ok(())
 }
 
 #[test]
 fn with_maps(rt: HostRuntime) -> Result<(), Fail> {
-    let alloc = rt.alloc();
-    let empty = Node::Object { len: 0, count: 0 };
-    assert_eq!(rt; same_maps(alloc, &[empty])?, [true, false, false]);
-    let empty = Node::Array { len: 0, count: 0 };
-    assert_eq!(rt; same_maps(alloc, &[empty])?, [false; 3]);
-    let once = [Node::Object { len: 1, count: 2 }, Node::String("a"), ONE];
-    assert_eq!(rt; same_maps(alloc, &once)?, [false, true, false]);
-    let twice = object("a", ONE, "a", ONE);
-    assert_eq!(rt; same_maps(alloc, &twice)?, [false; 3]);
-    for (nodes, answer) in [
-        (object("a", ONE, "b", NULL), true),
-        (object("b", NULL, "a", SIGNED_ONE), true),
-        (object("a", ONE, "c", NULL), false),
-        (object("a", ONE, "b", ONE), false),
-    ] {
-        assert_eq!(rt; same_maps(alloc, &nodes)?, [false, false, answer]);
+    let rows: [(&[Node<'static>], [bool; 3]); 8] = [
+        (&[EMPTY_OBJECT], [true, false, false]),
+        (&[EMPTY_ARRAY], [false; 3]),
+        (&once(), [false, true, false]),
+        (&object("a", ONE, "a", ONE), [false; 3]),
+        (&object("a", ONE, "b", NULL), [false, false, true]),
+        (&object("b", NULL, "a", SIGNED_ONE), [false, false, true]),
+        (&object("a", ONE, "c", NULL), [false; 3]),
+        (&object("a", ONE, "b", ONE), [false; 3]),
+    ];
+    for (nodes, answers) in rows {
+        assert_eq!(rt; same_maps(rt.alloc(), nodes)?, answers);
     }
-    assert_eq!(rt; same_maps(alloc, &nested(NULL))?, [false; 3]);
     Ok(())
 }

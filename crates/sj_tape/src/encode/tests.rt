@@ -1,6 +1,7 @@
 ghost use Rattle.std.specs.Prelude.{◌≡◌};
 
-use crate::{Node, Tape, Value};
+use crate::tests::tape;
+use crate::{Node, Value};
 use sj_base::{Counted, StaticNode, WriteFault};
 use std::io;
 use std::io::{ErrorKind, Write};
@@ -32,8 +33,7 @@ fn nested() -> [Node<'static>; 7] {
 
 #[test]
 fn compact(rt: HostRuntime) -> Result<(), Fail> {
-    let tape = Tape::new(pair().to_vec(rt.alloc())?).ok_or("no tape")?;
-    assert!(rt; !tape.is_empty());
+    let tape = tape(rt.alloc(), &pair())?;
     let mut out = b"> ".to_vec(rt.alloc())?;
     tape.as_value().encode(&mut out)?;
     assert!(rt; out.as_slice() == b"> {\"a\":null}".as_slice());
@@ -42,8 +42,7 @@ fn compact(rt: HostRuntime) -> Result<(), Fail> {
 
 #[test]
 fn pretty(rt: HostRuntime) -> Result<(), Fail> {
-    let tape = Tape::new(nested().to_vec(rt.alloc())?).ok_or("no tape")?;
-    assert!(rt; !tape.is_empty());
+    let tape = tape(rt.alloc(), &nested())?;
     let mut out = Vec::new(rt.alloc());
     tape.as_value().encode_pp(&mut out)?;
     let text = b"{\n  \"a\": [\n    1,\n    {}\n  ],\n  \"b\": []\n}";
@@ -115,8 +114,7 @@ fn write(value: &Value<'_, '_>, output: &mut Narrow, is_pretty: bool) -> Result<
 
 #[test]
 fn sinks_that_refuse(rt: HostRuntime) -> Result<(), Fail> {
-    let tape = Tape::new(pair().to_vec(rt.alloc())?).ok_or("no tape")?;
-    assert!(rt; !tape.is_empty());
+    let tape = tape(rt.alloc(), &pair())?;
     for refusal in [Some(ErrorKind::Other), Some(ErrorKind::Interrupted), None] {
         let mut output = Narrow {
             taken: Vec::new(rt.alloc()),
@@ -131,8 +129,7 @@ fn sinks_that_refuse(rt: HostRuntime) -> Result<(), Fail> {
 
 #[test]
 fn sinks_that_take_all(rt: HostRuntime) -> Result<(), Fail> {
-    let tape = Tape::new(nested().to_vec(rt.alloc())?).ok_or("no tape")?;
-    assert!(rt; !tape.is_empty());
+    let tape = tape(rt.alloc(), &nested())?;
     let mut output = Narrow {
         taken: Vec::new(rt.alloc()),
         room: 100,

@@ -1,6 +1,6 @@
 use Rattle.std.proofs.Common.{◌≡◌, sym, ◌∙◌}
 use Rattle.std.proofs.lemmas.List.{at_drop_all}
-use Rattle.sj_base.specs.Parts.{accepted}
+use Rattle.sj_base.specs.inside.Parts.{accepted}
 use Rattle.sj_base.specs.declared.part.Part.TheVariants.{Start}
 use Rattle.sj_base.proofs.Literals.{sound, complete}
 use Rattle.sj_base.proofs.part.is_decimal.Goals as goal

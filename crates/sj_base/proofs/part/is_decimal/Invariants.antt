@@ -1,5 +1,5 @@
 use Rattle.std.proofs.Common.{◌≡◌, drop}
-use Rattle.sj_base.specs.Parts.{accepted}
+use Rattle.sj_base.specs.inside.Parts.{accepted}
 use Rattle.sj_base.specs.declared.part.Part.TheVariants.{Start}
 use Rattle.sj_base.proofs.part.is_decimal.Given as goal
 

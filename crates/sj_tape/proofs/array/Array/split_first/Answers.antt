@@ -1,10 +1,10 @@
 use Rattle.std.proofs.Common.{◌-◌, ◌∙◌, arith, sym, subst}
-use Rattle.sj_base.specs.Tree.{Items, item, AreTrees}
+use Rattle.sj_base.specs.Tree.{Items, item, AreValidItems}
 use Rattle.sj_tape.specs.Listing.{items_listing}
 use Rattle.sj_tape.specs.Nodes.{entries}
 use Rattle.sj_tape.proofs.Listings.{items_from, lists_items}
 use Rattle.sj_tape.proofs.Children.{item_nodes-step, item_nodes-first, item_nodes-none, item_runs-step, item_runs-none}
-use Rattle.sj_tape.proofs.AreTrees.{items_found, are_trees}
+use Rattle.sj_tape.proofs.ValidTrees.{items_found, are_valid_items}
 use Rattle.sj_tape.proofs.Cutting.{items_front, no_items_left, item_same}
 use Rattle.sj_tape.proofs.array.Array.split_first.Goals as goal
 
@@ -14,15 +14,15 @@ returns-then-self-eq0-clause-items c = no_items_left c.args.self.now.len (entrie
 pub split_from-requires : goal.split_from-requires
 split_from-requires c =
     let f = items_front c.args.self.now.len (entries c.args.self.now.nodes.now) c.args.self.now.items (omega arith) in
-    let both : AreTrees (item f.0 f.1) = subst (λ (ts : Items). AreTrees ts) f.2 (items_found _ c.args.self.now.are_trees) in
+    let both : AreValidItems (item f.0 f.1) = subst (λ (ts : Items). AreValidItems ts) f.2 (items_found _ c.args.self.now.are_valid) in
     (f.0, items_listing f.1, both.0, f.3)
 
 pub invariant_of-rest : goal.invariant_of-rest
 invariant_of-rest c =
     let f = items_front c.args.self.now.len (entries c.args.self.now.nodes.now) c.args.self.now.items (omega arith) in
     let both = c.split_from.ensures.tree f.0 (items_listing f.1) f.3 in
-    let trees : AreTrees (item f.0 f.1) = subst (λ (ts : Items). AreTrees ts) f.2 (items_found _ c.args.self.now.are_trees) in
-    record { items = lists_items (entries c.split_from.result.1.now) f.1 (c.args.self.now.len - 1) both.1 f.4; are_trees = are_trees (entries c.split_from.result.1.now) f.1 (c.args.self.now.len - 1) both.1 f.4 trees.1 }
+    let trees : AreValidItems (item f.0 f.1) = subst (λ (ts : Items). AreValidItems ts) f.2 (items_found _ c.args.self.now.are_valid) in
+    record { items = lists_items (entries c.split_from.result.1.now) f.1 (c.args.self.now.len - 1) both.1 f.4; are_valid = are_valid_items (entries c.split_from.result.1.now) f.1 (c.args.self.now.len - 1) both.1 f.4 trees.1 }
 
 pub returns-clause-items : goal.returns-clause-items
 returns-clause-items c =

@@ -1,5 +1,5 @@
 use Rattle.sj_base.proofs.Carriers.{IsDecimal-decimal_text}
 use Rattle.sj_tape.proofs.node.Node.scalar.Goals as goal
 
-pub returns-in-Decimal-clause-is_tree : goal.returns-in-Decimal-clause-is_tree
-returns-in-Decimal-clause-is_tree c = IsDecimal-decimal_text c.in-Decimal.literal
+pub returns-in-Decimal-clause-is_valid : goal.returns-in-Decimal-clause-is_valid
+returns-in-Decimal-clause-is_valid c = IsDecimal-decimal_text c.in-Decimal.literal

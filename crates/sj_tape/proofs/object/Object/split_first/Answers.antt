@@ -1,12 +1,12 @@
 use Rattle.std.proofs.Common.{◌≡◌, ℕ, ◌-◌, cond, bytes_eq, Some, List, [], ◌∷◌, ◌++◌, rules, ap, sym, ◌∙◌, arith, subst}
-use Rattle.sj_base.specs.Tree.{Members, member, AreMembers}
+use Rattle.sj_base.specs.Tree.{Members, member, AreValidMembers}
 use Rattle.sj_tape.specs.Listing.{Entry, string_entry, listing, members_listing}
 use Rattle.sj_tape.specs.Nodes.{node_entry, entries}
 use Rattle.sj_tape.proofs.Listings.{members_from, lists_members}
 use Rattle.sj_tape.specs.Children.{key_text, member_nodes, member_runs}
 use Rattle.sj_tape.specs.declared.node.Node.{Node}
 use Rattle.sj_tape.proofs.Children.{member_nodes-step, member_nodes-none, member_runs-step, member_runs-none}
-use Rattle.sj_tape.proofs.AreTrees.{members_found, are_members}
+use Rattle.sj_tape.proofs.ValidTrees.{members_found, are_valid_members}
 use Rattle.sj_tape.proofs.Cutting.{members_front, no_members_left, member_same, cons_parts, string_node}
 use Rattle.sj_tape.proofs.object.Object.split_first.Goals as goal
 
@@ -33,7 +33,7 @@ pub split_from-requires : goal.split_from-requires
 split_from-requires c =
     let f = members_front c.args.self.now.len (entries c.args.self.now.nodes.now) c.args.self.now.members (omega arith) in
     let parts = cons_parts (node_entry c.in_ok-first.first) (string_entry f.0) (entries c.in_ok-first.behind.now) (listing f.1 ++ members_listing f.2) (sym (ap entries c.in_ok-first.ensures) ∙ f.4) in
-    let are : AreMembers (member f.0 f.1 f.2) = subst (λ (ms : Members). AreMembers ms) f.3 (members_found _ c.args.self.now.are_members) in
+    let are : AreValidMembers (member f.0 f.1 f.2) = subst (λ (ms : Members). AreValidMembers ms) f.3 (members_found _ c.args.self.now.are_valid) in
     (f.1, members_listing f.2, are.1, parts.1)
 
 pub invariant_of-rest : goal.invariant_of-rest
@@ -41,8 +41,8 @@ invariant_of-rest c =
     let f = members_front c.args.self.now.len (entries c.args.self.now.nodes.now) c.args.self.now.members (omega arith) in
     let parts = cons_parts (node_entry c.in_ok-first.first) (string_entry f.0) (entries c.in_ok-first.behind.now) (listing f.1 ++ members_listing f.2) (sym (ap entries c.in_ok-first.ensures) ∙ f.4) in
     let both = c.split_from.ensures.tree f.1 (members_listing f.2) parts.1 in
-    let are : AreMembers (member f.0 f.1 f.2) = subst (λ (ms : Members). AreMembers ms) f.3 (members_found _ c.args.self.now.are_members) in
-    record { members = lists_members (entries c.split_from.result.1.now) f.2 (c.args.self.now.len - 1) both.1 f.5; are_members = are_members (entries c.split_from.result.1.now) f.2 (c.args.self.now.len - 1) both.1 f.5 are.2 }
+    let are : AreValidMembers (member f.0 f.1 f.2) = subst (λ (ms : Members). AreValidMembers ms) f.3 (members_found _ c.args.self.now.are_valid) in
+    record { members = lists_members (entries c.split_from.result.1.now) f.2 (c.args.self.now.len - 1) both.1 f.5; are_valid = are_valid_members (entries c.split_from.result.1.now) f.2 (c.args.self.now.len - 1) both.1 f.5 are.2 }
 
 pub returns : goal.returns
 returns c =

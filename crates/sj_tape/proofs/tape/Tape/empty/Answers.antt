@@ -1,8 +1,5 @@
-use Rattle.std.proofs.Common.{ap}
-use Rattle.sj_tape.specs.Nodes.{entries}
-use Rattle.sj_tape.proofs.AreTrees.{is_tree_nil}
-use Rattle.sj_tape.proofs.Tapes.{is_tape_nil}
+use Rattle.std.proofs.Common.{inl}
 use Rattle.sj_tape.proofs.tape.Tape.empty.Goals as goal
 
-pub invariant_of-result : goal.invariant_of-result
-invariant_of-result c = record { listed = is_tape_nil (entries c.new.result.items) (ap entries c.new.ensures.items); is_tree = is_tree_nil (entries c.new.result.items) (ap entries c.new.ensures.items) }
+pub from_listing-requires : goal.from_listing-requires
+from_listing-requires c = inl c.new.ensures.items

@@ -2,7 +2,7 @@ use Rattle.std.proofs.Common.{◌≡◌, ℕ, ◌+◌, length, ap, ◌∙◌, ar
 use Rattle.sj_tape.specs.Listing.{listing}
 use Rattle.sj_tape.specs.Nodes.{entries}
 use Rattle.sj_tape.proofs.Listings.{tree_from}
-use Rattle.sj_tape.proofs.AreTrees.{is_tree}
+use Rattle.sj_tape.proofs.ValidTrees.{is_valid}
 use Rattle.sj_tape.proofs.Tapes.{is_tape}
 use Rattle.sj_tape.proofs.Cutting.{first_count, listing_long, front_fits, cut_front, cut_back}
 use Rattle.sj_tape.proofs.value.Value.split_from.Goals as goal
@@ -24,7 +24,7 @@ pub invariant_of-result : goal.invariant_of-result
 invariant_of-result c =
     let m : c.count.result + 1 ≡ length (listing c.requires.0) = ap (λ (n : ℕ). n + 1) c.count.ensures ∙ first_count c.args.nodes.now c.requires.0 c.requires.1 c.index-nodes-0.result c.requires.3 c.index-nodes-0.is in
     let front : entries c.split_at.result.0.now ≡ listing c.requires.0 = ap entries c.split_at.ensures.front ∙ cut_front c.args.nodes.now c.requires.0 c.requires.1 (c.count.result + 1) c.requires.3 m in
-    record { listed = is_tape (entries c.split_at.result.0.now) c.requires.0 front; is_tree = is_tree (entries c.split_at.result.0.now) c.requires.0 front c.requires.2 }
+    record { listed = is_tape (entries c.split_at.result.0.now) c.requires.0 front; is_valid = is_valid (entries c.split_at.result.0.now) c.requires.0 front c.requires.2 }
 
 pub returns-clause-tree : goal.returns-clause-tree
 returns-clause-tree c = λ t rest h.

@@ -1,0 +1,147 @@
+-- Worked values of the definitions that compute. Those of the relations stand in proofs/Spelled.antt.
+use Rattle.std.specs.Prelude.{◌≡◌, refl, pos, negsuc, true, [], ◌∷◌, ◌++◌, codes, Some, None}
+use Rattle.std.specs.Fmt.{digits}
+use Rattle.std.specs.Str.Parse.{digits_value}
+use Rattle.sj_base.specs.declared.static_node.StaticNode.TheVariants.{I64, U64}
+use Rattle.sj_base.specs.Tree.{Tree, null, integer, decimal, string, list, object, no_items, item, no_members, member, depth}
+use Rattle.sj_base.specs.Number.{signed}
+use Rattle.sj_base.specs.Characters.{short_character, hex_value, pair, form_character}
+use Rattle.sj_base.specs.Scalar.{static_tree}
+use Rattle.sj_base.specs.Keep.{keep}
+use Rattle.sj_base.specs.Path.{key, place, at, put}
+use Rattle.sj_base.specs.Text.{text, pretty}
+
+-- {"a":1,"a":2}
+abbrev repeats : Tree
+repeats = object (member (codes "a") (integer (pos 1)) (member (codes "a") (integer (pos 2)) no_members))
+
+-- {"a":[1,{}],"b":[]}
+abbrev nested : Tree
+nested = object (member (codes "a") (list (item (integer (pos 1)) (item (object no_members) no_items))) (member (codes "b") (list no_items) no_members))
+
+scalar_depth : depth (integer (pos 7)) ≡ 0
+scalar_depth = refl
+
+nested_depth : depth nested ≡ 3
+nested_depth = refl
+
+kept : text (keep repeats) ≡ codes "{\"a\":1}"
+unfolding digits
+kept = refl
+
+kept_within : text (keep (list (item repeats no_items))) ≡ codes "[{\"a\":1}]"
+unfolding digits
+kept_within = refl
+
+first_of_two : at repeats (key (codes "a") ∷ []) ≡ Some (integer (pos 1))
+first_of_two = refl
+
+item_of_list : at nested (key (codes "a") ∷ place 0 ∷ []) ≡ Some (integer (pos 1))
+item_of_list = refl
+
+past_the_end : at nested (key (codes "a") ∷ place 2 ∷ []) ≡ None
+past_the_end = refl
+
+place_in_object : at nested (place 0 ∷ []) ≡ None
+place_in_object = refl
+
+the_whole : at nested [] ≡ Some nested
+the_whole = refl
+
+replaced : text (put nested (key (codes "a") ∷ place 1 ∷ []) null) ≡ codes "{\"a\":[1,null],\"b\":[]}"
+unfolding digits
+replaced = refl
+
+-- one string: the eight characters with a short escape, but for the solidus raw, then U+001F and U+007F
+escapes : text (string (0x22 ∷ 0x5c ∷ 0x2f ∷ 0x08 ∷ 0x0c ∷ 0x0a ∷ 0x0d ∷ 0x09 ∷ 0x1f ∷ 0x7f ∷ [])) ≡ 0x22 ∷ (codes "\\\"\\\\/\\b\\f\\n\\r\\t\\u001f" ++ 0x7f ∷ 0x22 ∷ [])
+escapes = refl
+
+numbers : text (list (item (integer (negsuc 9223372036854775807)) (item (integer (pos 18446744073709551615)) (item (decimal (codes "1.50")) no_items)))) ≡ codes "[-9223372036854775808,18446744073709551615,1.50]"
+unfolding digits
+numbers = refl
+
+pretty_nested : pretty nested ≡ codes "{\n  \"a\": [\n    1,\n    {}\n  ],\n  \"b\": []\n}"
+unfolding digits
+pretty_nested = refl
+
+-- the letters of the short escapes
+quote_letter : short_character 0x22 ≡ Some 0x22
+quote_letter = refl
+
+backslash_letter : short_character 0x5c ≡ Some 0x5c
+backslash_letter = refl
+
+solidus_letter : short_character 0x2f ≡ Some 0x2f
+solidus_letter = refl
+
+backspace_letter : short_character 0x62 ≡ Some 0x08
+backspace_letter = refl
+
+form_feed_letter : short_character 0x66 ≡ Some 0x0c
+form_feed_letter = refl
+
+line_feed_letter : short_character 0x6e ≡ Some 0x0a
+line_feed_letter = refl
+
+carriage_return_letter : short_character 0x72 ≡ Some 0x0d
+carriage_return_letter = refl
+
+tab_letter : short_character 0x74 ≡ Some 0x09
+tab_letter = refl
+
+other_letter : short_character 0x71 ≡ None
+other_letter = refl
+
+hex_of_either_case : hex_value (codes "d83D") ≡ 0xd83d
+hex_of_either_case = refl
+
+surrogate_pair : form_character (pair (codes "d83d") (codes "de00")) ≡ 0x1f600
+surrogate_pair = refl
+
+minus_zero : signed true (digits_value 10 (codes "0")) ≡ pos 0
+minus_zero = refl
+
+nul_text : text (string (0x00 ∷ [])) ≡ codes "\"\\u0000\""
+nul_text = refl
+
+control_text : text (string (0x10 ∷ [])) ≡ codes "\"\\u0010\""
+control_text = refl
+
+pretty_empty_list : pretty (list no_items) ≡ codes "[]"
+pretty_empty_list = refl
+
+pretty_empty_object : pretty (object no_members) ≡ codes "{}"
+pretty_empty_object = refl
+
+pretty_scalar : pretty (integer (pos 7)) ≡ codes "7"
+unfolding digits
+pretty_scalar = refl
+
+empty_list_depth : depth (list no_items) ≡ 1
+empty_list_depth = refl
+
+-- {"a":1,"b":2,"a":3}
+abbrev late_repeat : Tree
+late_repeat = object (member (codes "a") (integer (pos 1)) (member (codes "b") (integer (pos 2)) (member (codes "a") (integer (pos 3)) no_members)))
+
+kept_in_order : text (keep late_repeat) ≡ codes "{\"a\":1,\"b\":2}"
+unfolding digits
+kept_in_order = refl
+
+-- {"x":{"a":1,"a":2}}
+kept_in_a_member : text (keep (object (member (codes "x") repeats no_members))) ≡ codes "{\"x\":{\"a\":1}}"
+unfolding digits
+kept_in_a_member = refl
+
+key_in_list : at (list (item null no_items)) (key (codes "a") ∷ []) ≡ None
+key_in_list = refl
+
+put_at_nothing : put nested (key (codes "c") ∷ []) null ≡ nested
+put_at_nothing = refl
+
+put_at_first_of_two : text (put repeats (key (codes "a") ∷ []) null) ≡ codes "{\"a\":null,\"a\":2}"
+unfolding digits
+put_at_first_of_two = refl
+
+same_scalar : static_tree (I64 (pos 5)) ≡ static_tree (U64 5)
+same_scalar = refl

@@ -1,0 +1,3 @@
+-- Definitions that only contracts of private functions and laws of traits cite.
+pub mod Parts
+pub mod OutputLaws

@@ -1,0 +1,190 @@
+//! Layouts of JSON text: what stands around the items of a list and the members of an object.
+//!
+//! An encoder opens a container, asks it for what stands before each item or key, and closes it:
+//!
+//! ```text
+//! let mut list = layout.open_list(out)?;
+//! for item in items {
+//!     list.next(out)?;
+//!     print_value(item, list.inside(), out)?;
+//! }
+//! list.close(out)
+//! ```
+ghost use Rattle.std.specs.Prelude.{◌≡◌, ◌+◌, ◌<◌, ◌^◌, [], ◌∷◌, ◌++◌, IfOk, OnOk, OnErr, if◌then◌else◌};
+ghost use Rattle.sj_base.specs.Text.{quoted};
+ghost use Rattle.sj_base.specs.Layout.{level_of, inside, line_start, colon, opened_list, opened_object, filled, before_next, end_text};
+
+use crate::output::Output;
+use crate::put::{print_break, print_string};
+
+/// A layout of JSON text.
+#[derive(Clone, Copy, Debug)]
+pub enum Layout {
+    /// The whole text on one line, without spaces.
+    Compact,
+    /// Each item and each member on a line of its own, with two spaces a level before it. The field is the level of the
+    /// line that the value begins on.
+    Indented(usize),
+}
+
+impl Layout {
+    /// Prints the opening bracket of a list.
+    ///
+    /// # Errors
+    ///
+    /// The fault of the output.
+    pub fn open_list<O: Output>(self, out: &mut O) -> Result<Container, O::Fault>
+        requires { level_of self + 1 < 2 ^ 64 }
+        ensures container { IfOk result (λ c. c ≡ opened_list self) }
+        ensures ok { OnOk result (O.appends out.old out.new (0x5b ∷ [])) }
+        ensures err { OnErr result (O.begins out.old out.new (0x5b ∷ [])) }
+    {
+        out.put(b"[")?;
+        Ok(Container {
+            layout: self,
+            inside: self.inside(),
+            closing: b']',
+            is_empty: true,
+        })
+    }
+
+    /// Prints the opening bracket of an object.
+    ///
+    /// # Errors
+    ///
+    /// The fault of the output.
+    pub fn open_object<O: Output>(self, out: &mut O) -> Result<Container, O::Fault>
+        requires { level_of self + 1 < 2 ^ 64 }
+        ensures container { IfOk result (λ c. c ≡ opened_object self) }
+        ensures ok { OnOk result (O.appends out.old out.new (0x7b ∷ [])) }
+        ensures err { OnErr result (O.begins out.old out.new (0x7b ∷ [])) }
+    {
+        out.put(b"{")?;
+        Ok(Container {
+            layout: self,
+            inside: self.inside(),
+            closing: b'}',
+            is_empty: true,
+        })
+    }
+
+    fn inside(self) -> Layout
+        requires { level_of self + 1 < 2 ^ 64 }
+        ensures { result ≡ inside self }
+    {
+        match self {
+            Layout::Compact => Layout::Compact,
+            Layout::Indented(level) => Layout::Indented(level + 1),
+        }
+    }
+
+    fn print_line_start<O: Output>(self, out: &mut O) -> Result<(), O::Fault>
+        ensures ok { OnOk result (O.appends out.old out.new (line_start self)) }
+        ensures err { OnErr result (O.begins out.old out.new (line_start self)) }
+    {
+        match self {
+            Layout::Compact => Ok(()),
+            Layout::Indented(level) => print_break(out, level),
+        }
+    }
+
+    fn print_key<O: Output>(self, key: &str, out: &mut O) -> Result<(), O::Fault>
+        ensures ok { OnOk result (O.appends out.old out.new (quoted key.now ++ colon self)) }
+        ensures err { OnErr result (O.begins out.old out.new (quoted key.now ++ colon self)) }
+    {
+        print_string(out, key)?;
+        out.put(self.colon())
+    }
+
+    fn colon(self) -> &'static [u8]
+        ensures { result.now ≡ colon self }
+    {
+        match self {
+            Layout::Compact => b":",
+            Layout::Indented(_) => b": ",
+        }
+    }
+}
+
+/// A list or an object whose opening bracket is printed.
+#[derive(Clone, Copy, Debug)]
+pub struct Container {
+    layout: Layout,
+    inside: Layout,
+    closing: u8,
+    is_empty: bool,
+}
+
+impl Container {
+    /// Returns the layout of the items and of the members' values.
+    pub fn inside(&self) -> Layout
+        ensures { result ≡ self.now.inside }
+    {
+        self.inside
+    }
+
+    /// Prints what stands before the next item of a list: the comma behind an earlier item, and the start of its line.
+    ///
+    /// # Errors
+    ///
+    /// The fault of the output. Only a prefix is then printed.
+    pub fn next<O: Output>(&mut self, out: &mut O) -> Result<(), O::Fault>
+        ensures container { self.new ≡ filled self.old }
+        ensures ok { OnOk result (O.appends out.old out.new (before_next self.old)) }
+        ensures err { OnErr result (O.begins out.old out.new (before_next self.old)) }
+    {
+        let separator = self.separator();
+        self.is_empty = false;
+        out.put(separator)?;
+        self.inside.print_line_start(out)
+    }
+
+    /// Prints what stands before the value of an object's next member: the comma behind an earlier member, the start of
+    /// the line, the key and the colon.
+    ///
+    /// # Errors
+    ///
+    /// The fault of the output. Only a prefix is then printed.
+    pub fn key<O: Output>(&mut self, key: &str, out: &mut O) -> Result<(), O::Fault>
+        ensures container { self.new ≡ filled self.old }
+        ensures ok { OnOk result (O.appends out.old out.new
+            (before_next self.old ++ (quoted key.now ++ colon self.old.inside))) }
+        ensures err { OnErr result (O.begins out.old out.new
+            (before_next self.old ++ (quoted key.now ++ colon self.old.inside))) }
+    {
+        self.next(out)?;
+        self.inside.print_key(key, out)
+    }
+
+    /// Prints the closing bracket, on a line of its own unless the container is empty or the layout is compact.
+    ///
+    /// # Errors
+    ///
+    /// The fault of the output. Only a prefix is then printed.
+    pub fn close<O: Output>(self, out: &mut O) -> Result<(), O::Fault>
+        ensures ok { OnOk result (O.appends out.old out.new (end_text self)) }
+        ensures err { OnErr result (O.begins out.old out.new (end_text self)) }
+    {
+        self.print_last_line_start(out)?;
+        out.put(&[self.closing])
+    }
+
+    fn separator(&self) -> &'static [u8]
+        ensures { result.now ≡ (if self.now.is_empty then [] else 0x2c ∷ []) }
+    {
+        if self.is_empty { b"" } else { b"," }
+    }
+
+    fn print_last_line_start<O: Output>(&self, out: &mut O) -> Result<(), O::Fault>
+        ensures ok { OnOk result (O.appends out.old out.new
+            (if self.now.is_empty then [] else line_start self.now.layout)) }
+        ensures err { OnErr result (O.begins out.old out.new
+            (if self.now.is_empty then [] else line_start self.now.layout)) }
+    {
+        if self.is_empty {
+            Ok(())
+        } else {
+            self.layout.print_line_start(out)
+        }
+    }
+}

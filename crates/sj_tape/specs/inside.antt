@@ -1,0 +1,4 @@
+-- Definitions that only invariants and contracts of private functions cite.
+pub mod Invariants
+pub mod Leaves
+pub mod Passing
