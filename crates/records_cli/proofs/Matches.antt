@@ -1,12 +1,12 @@
--- The script that a parse of the program's words gives.
+-- The script that a parse of the program's words gives, and the kind of its error.
 use Rattle.std.proofs.Common.{◌≡◌, ℕ, Bool, true, false, cond, List, [], ◌∷◌, Option, Some, codes, map, option_map, refl, sym, ap, ◌∙◌}
 use Rattle.std.specs.Prelude.{option_and_then, find, slice_get, bytes_eq}
 use Rattle.std.proofs.lemmas.Option.{slice_get-map}
 use Rattle.clap.specs.Facts.{Entry}
-use Rattle.clap.specs.Words.{App, first_value, found_of, takes, HasMatchesOf}
+use Rattle.clap.specs.Words.{App, first_value, found_of, fault_of, is_simple_and_free, HasMatchesOf}
 use Rattle.clap.specs.Walk.{Row, row_of}
 use Rattle.clap.specs.declared.parser.matches.ArgMatches.{ArgMatches}
-use Rattle.records_cli.specs.Words.{app, script_in, script_of, NamesScript}
+use Rattle.records_cli.specs.Arguments.{app, script_in, script_of, kinds_of}
 
 abbrev is_script : Entry → Bool
 is_script e = bytes_eq e.0.now (codes "SCRIPT")
@@ -32,6 +32,9 @@ pub script_of-parse : (a : App) (words : List (List ℕ)) (m : ArgMatches) → a
 unfolding script_of
 script_of-parse a words m e h = script_in-rows (found_of m).entries.items ∙ ap script_in ((rw e at h) refl).0
 
-pub NamesScript-takes : (a : App) (words : List (List ℕ)) → a ≡ app → NamesScript words → takes a words ≡ true
-unfolding NamesScript
-NamesScript-takes a words e h = rw e h
+pub app-free : (a : App) → a ≡ app → is_simple_and_free a ≡ true
+app-free a e = rw e refl
+
+pub kinds_of-app : (a : App) (words : List (List ℕ)) → a ≡ app → fault_of a words ≡ kinds_of words
+unfolding kinds_of
+kinds_of-app a words e = rw e refl

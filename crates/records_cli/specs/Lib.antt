@@ -1,4 +1,4 @@
+pub mod Arguments
 pub mod Fault
 pub mod Program
-pub mod Rows
-pub mod Words
+pub mod Examples

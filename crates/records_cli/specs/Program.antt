@@ -1,79 +1,113 @@
--- What the program has written when it ends.
-use Rattle.std.specs.Prelude.{◌≡◌, ℕ, List, Option, Some, Result, Ok, Err, OnOk, Vec, ⊤}
-use Rattle.std.specs.Io.KnownBytes.{IsAtEnd}
+-- What stands when the program ends: on its output, and on `faults`.
+use Rattle.std.specs.Prelude.{◌≡◌, ◌≢◌, ◌⊎◌, ℕ, List, [], Option, Some, Result, Ok, Err, OnOk, Vec, ⊤}
+use Rattle.std.specs.Io.KnownBytes.{Appends, IsAtEnd, Keeps}
 use Rattle.std.specs.declared.alloc.Global.{Global}
+use Rattle.sj_base.specs.Calls.{Calls}
+use Rattle.sj_base.specs.Output.{AppendsPrefix, WritesAll, WritesPrefix}
 use Rattle.sj_records.specs.Command.{Step}
-use Rattle.sj_records.specs.Record.{IsReadAs}
-use Rattle.sj_records.specs.Run.{Transfers, Leaves, RecordsOfAll, RecordsOfSome, RecordsOfEnded, RecordsPrefix}
+use Rattle.sj_records.specs.Step.{Job}
+use Rattle.sj_records.specs.Record.{IsReadAs, IsOutput}
+use Rattle.sj_records.specs.Run.{Transfers, Leaves, RecordsOfSome, RecordsOfEnded, RecordsPrefix}
+use Rattle.sj_records.specs.Script.{IsRefusedAs}
 use Rattle.sj_records.specs.declared.form.Form.TheVariants.{Owned}
 use Rattle.sj_records.specs.declared.run_error.RunError.{RunError}
-use Rattle.sj_records.specs.Command.{json, not_an_array, command}
 use Rattle.sj_records.specs.declared.script.ScriptFault.{ScriptFault}
-use Rattle.sj_records.specs.declared.script.ScriptFault.TheVariants.{Json, NotAnArray, Command, Memory}
-use Rattle.records_cli.specs.Words.{NamesScript, script_of}
-use Rattle.records_cli.specs.Fault.{refusal_line}
+use Rattle.sj_records.specs.declared.script.ScriptFault.TheVariants.{Memory as NoMemory}
+use Rattle.records_cli.specs.Arguments.{AreArguments, AskForHelp, AreRefused, script_of}
+use Rattle.records_cli.specs.Fault.{line_of, refusal_line}
 use Rattle.records_cli.specs.declared.load.LoadFault.TheVariants.{Unreadable as NoFile}
 use Rattle.records_cli.specs.declared.load.LoadFault.{LoadFault}
 use Rattle.records_cli.specs.declared.fault.Fault.{Fault}
-use Rattle.records_cli.specs.declared.fault.Fault.TheVariants.{Memory as NoRoom, Read, Write, Words, Unreadable, Script}
+use Rattle.records_cli.specs.declared.fault.Fault.TheVariants.{Memory, Read, Write, Arguments, Unreadable, Script}
 
--- how many levels of nesting a document may have
+-- the most levels that a document nests
 abbrev pub allowed_depth : ℕ
 allowed_depth = 1024
 
--- The input is read, to its end where it answers `Ok`, and P holds of the bytes that were read and of those that were written.
+-- the script on documents that own their texts
+abbrev pub owned : List Step → Job
+owned script = record { script = script; limit = allowed_depth; form = Owned }
+
+-- ---- a run
+
+-- Bytes of the input were read, all of them where the result is `Ok`, bytes were written, and P holds of the two.
 abbrev pub ReadsAndWrites : Option (List ℕ) → Option (List ℕ) → Option (List ℕ) → {E : Type 0} → Result Unit E → (List ℕ → List ℕ → Type 0) → Type 0
 ReadsAndWrites unread held_old held_new result P =
     (left : Option (List ℕ)) × Transfers unread left held_old held_new P × OnOk result (IsAtEnd left)
 
--- A run over that input and output.
+-- What a run of the script leaves.
 abbrev pub RunLeaves : Option (List ℕ) → Option (List ℕ) → Option (List ℕ) → List Step → Result Unit RunError → Type 0
-RunLeaves unread held_old held_new script result = ReadsAndWrites unread held_old held_new result (Leaves result script allowed_depth Owned)
+RunLeaves unread held_old held_new script result = ReadsAndWrites unread held_old held_new result (Leaves result (owned script))
 
--- What stands written where the program ends so. A flush that fails is a failed write.
+-- What a run leaves, by the fault that it ends the program with. A flush that fails is a failed write.
 abbrev pub WrittenBy : Result Unit Fault → List Step → List ℕ → List ℕ → Type 0
-WrittenBy (Ok done) script input output = RecordsOfAll script allowed_depth Owned input output
-WrittenBy (Err NoRoom) script input output = RecordsOfSome script allowed_depth Owned input output
-WrittenBy (Err Read) script input output = RecordsOfEnded script allowed_depth Owned input output
-WrittenBy (Err Write) script input output = RecordsPrefix script allowed_depth Owned input output
-WrittenBy (Err (Words text)) script input output = ⊥
+WrittenBy (Ok done) script input output = IsOutput (owned script) input output
+WrittenBy (Err Memory) script input output = RecordsOfSome (owned script) input output
+WrittenBy (Err Read) script input output = RecordsOfEnded (owned script) input output
+WrittenBy (Err Write) script input output = RecordsPrefix (owned script) input output
+WrittenBy (Err (Arguments text)) script input output = ⊥
 WrittenBy (Err Unreadable) script input output = ⊥
 WrittenBy (Err (Script line)) script input output = ⊥
 
-abbrev pub ProgramLeaves : Option (List ℕ) → Option (List ℕ) → Option (List ℕ) → List Step → Result Unit Fault → Type 0
-ProgramLeaves unread held_old held_new script result = ReadsAndWrites unread held_old held_new result (WrittenBy result script)
+abbrev pub RunEnds : Option (List ℕ) → Option (List ℕ) → Option (List ℕ) → List Step → Result Unit Fault → Type 0
+RunEnds unread held_old held_new script ended = ReadsAndWrites unread held_old held_new ended (WrittenBy ended script)
 
--- The script that the words name was loaded, and ran. `loads` says what a load of a name may give.
-pub record Ran (loads : List ℕ → Result (Vec ℕ Global) LoadFault → Type 0) (words : List (List ℕ)) (unread held_old held_new : Option (List ℕ)) : Type 0 where
-  pub name : List ℕ
-  pub is_named : script_of words ≡ Some name
-  pub bytes : Vec ℕ Global
-  pub is_loaded : loads name (Ok bytes)
-  pub script : List Step
-  pub is_read : IsReadAs bytes.items (Ok script)
-  pub ends : ProgramLeaves unread held_old held_new script (Ok tt)
+-- ---- the script; `loads` says what loading the file of a name gives
 
--- The bytes are no script, for that reason.
-abbrev pub IsNoScript : List ℕ → ScriptFault → Type 0
-IsNoScript bytes (Json e) = IsReadAs bytes (Err (json e))
-IsNoScript bytes NotAnArray = IsReadAs bytes (Err not_an_array)
-IsNoScript bytes (Command place fault) = IsReadAs bytes (Err (command place fault))
-IsNoScript bytes Memory = ⊥
+abbrev pub Loads : Type 1
+Loads = List ℕ → Result (Vec ℕ Global) LoadFault → Type 0
 
--- What is wrong with a script, and the line that tells it. Memory may always be refused.
-abbrev pub RefusesScript : List ℕ → Fault → Type 0
-RefusesScript bytes (Script line) = (fault : ScriptFault) × IsNoScript bytes fault × (line.items ≡ refusal_line fault)
-RefusesScript bytes NoRoom = ⊤
-RefusesScript bytes Read = ⊥
-RefusesScript bytes Write = ⊥
-RefusesScript bytes (Words text) = ⊥
-RefusesScript bytes Unreadable = ⊥
+-- The words name a script, and loading it gave that.
+abbrev pub GivesScript : Loads → List (List ℕ) → Result (Vec ℕ Global) LoadFault → Type 0
+GivesScript loads words loaded = AreArguments words × ((name : List ℕ) × (script_of words ≡ Some name) × loads name loaded)
 
--- What may be wrong before a script runs: the words name none, or its file can't be loaded, or its bytes are none.
-abbrev pub Refuses : (List ℕ → Result (Vec ℕ Global) LoadFault → Type 0) → List (List ℕ) → Fault → Type 0
-Refuses loads words (Words text) = NamesScript words → ⊥
-Refuses loads words Unreadable = (name : List ℕ) × (script_of words ≡ Some name) × loads name (Err NoFile)
-Refuses loads words (Script line) = (name : List ℕ) × (bytes : Vec ℕ Global) × (script_of words ≡ Some name) × loads name (Ok bytes) × RefusesScript bytes.items (Script line)
-Refuses loads words NoRoom = ⊤
-Refuses loads words Read = ⊤
-Refuses loads words Write = ⊤
+-- The script that the words name has these commands.
+abbrev pub HasCommands : Loads → List (List ℕ) → List Step → Type 0
+HasCommands loads words script = (bytes : Vec ℕ Global) × GivesScript loads words (Ok bytes) × IsReadAs bytes.items (Ok script)
+
+-- The bytes are refused as a script with this line.
+abbrev pub IsRefusedWith : List ℕ → List ℕ → Type 0
+IsRefusedWith line bytes = (fault : ScriptFault) × (fault ≢ NoMemory) × IsRefusedAs fault bytes × (line ≡ refusal_line fault)
+
+-- The fault of such bytes, where memory suffices.
+abbrev pub RefusesBytes : List ℕ → Fault → Type 0
+RefusesBytes bytes (Script line) = IsRefusedWith line.items bytes
+RefusesBytes bytes Memory = ⊤
+RefusesBytes bytes Read = ⊥
+RefusesBytes bytes Write = ⊥
+RefusesBytes bytes (Arguments text) = ⊥
+RefusesBytes bytes Unreadable = ⊥
+
+-- The script that the words name is refused with this line.
+abbrev pub HasRefusal : Loads → List (List ℕ) → List ℕ → Type 0
+HasRefusal loads words line = (bytes : Vec ℕ Global) × GivesScript loads words (Ok bytes) × IsRefusedWith line bytes.items
+
+-- ---- the program
+
+-- The script that the words name ran, and ended so.
+abbrev pub Ran : Loads → List (List ℕ) → Option (List ℕ) → Option (List ℕ) → Option (List ℕ) → Result Unit Fault → Type 0
+Ran loads words unread held_old held_new ended = (script : List Step) × HasCommands loads words script × RunEnds unread held_old held_new script ended
+
+-- The words ask for the help, and it was written, or a prefix of it. Its text is that of `clap`.
+abbrev pub HelpWritten : List (List ℕ) → Option (List ℕ) → Option (List ℕ) → Type 0
+HelpWritten words held_old held_new = AskForHelp words × ((help : List ℕ) × Appends held_old held_new help)
+
+abbrev pub HelpBegun : List (List ℕ) → Option (List ℕ) → Option (List ℕ) → Type 0
+HelpBegun words held_old held_new = AskForHelp words × ((help : List ℕ) × AppendsPrefix held_old held_new help)
+
+-- What the program leaves on its output, by its end, and why it ended so. Any allocation may fail.
+abbrev pub ProgramLeaves : Loads → List (List ℕ) → Option (List ℕ) → Option (List ℕ) → Option (List ℕ) → Result Unit Fault → Type 0
+ProgramLeaves loads words unread held_old held_new (Ok done) = Ran loads words unread held_old held_new (Ok done) ⊎ HelpWritten words held_old held_new
+ProgramLeaves loads words unread held_old held_new (Err Memory) = Ran loads words unread held_old held_new (Err Memory) ⊎ Keeps held_old held_new
+ProgramLeaves loads words unread held_old held_new (Err Read) = Ran loads words unread held_old held_new (Err Read)
+ProgramLeaves loads words unread held_old held_new (Err Write) = Ran loads words unread held_old held_new (Err Write) ⊎ HelpBegun words held_old held_new
+ProgramLeaves loads words unread held_old held_new (Err (Arguments text)) = AreRefused words × Keeps held_old held_new
+ProgramLeaves loads words unread held_old held_new (Err Unreadable) = GivesScript loads words (Err NoFile) × Keeps held_old held_new
+ProgramLeaves loads words unread held_old held_new (Err (Script line)) = HasRefusal loads words line.items × Keeps held_old held_new
+
+-- What the program leaves on `faults`, by its end: the line of the fault, or a prefix of it before a write that failed,
+-- was interrupted or took no byte.
+abbrev pub Reports : Result Unit Fault → Option (List ℕ) → Option (List ℕ) → Calls → Calls → Type 0
+Reports (Ok done) told_old told_new calls_old calls_new = WritesAll told_old told_new calls_old calls_new []
+Reports (Err fault) told_old told_new calls_old calls_new =
+    WritesAll told_old told_new calls_old calls_new (line_of fault) ⊎ WritesPrefix told_old told_new calls_old calls_new (line_of fault)

@@ -1,62 +1,52 @@
-//! What keeps the program from its end, with the line and the status that tell of it.
-ghost use Rattle.std.specs.Prelude.{◌≡◌, OnOk};
-ghost use Rattle.std.specs.Io.KnownBytes.{Appends};
+//! Why the program fails, with its line on standard error and its exit status.
+ghost use Rattle.std.specs.Prelude.{◌≡◌};
 ghost use Rattle.records_cli.specs.Fault.{line_of, status_of, of_load, of_run};
 ghost use Rattle.records_cli.specs.declared.fault.Fault.TheVariants.{Memory};
 
 use crate::load::LoadFault;
 use sj_records::RunError;
 use std::alloc::{AllocError, AllocFailed};
-use std::io;
-use std::io::Write;
 
-/// The first thing that went wrong.
+/// Why the program fails.
 #[derive(Debug, Drop)]
 pub enum Fault {
-    /// Memory was refused.
+    /// An allocation failed.
     Memory,
     /// Standard input could not be read to its end.
     Read,
-    /// Standard output could not be written.
+    /// Standard output could not be written or flushed.
     Write,
-    /// The words were refused, with this text.
-    Words(String),
+    /// The arguments are refused, with this text.
+    Arguments(String),
     /// The file with the script could not be read.
     Unreadable,
-    /// The script was refused, with this line.
+    /// The script is refused, with this line.
     Script(Vec<u8>),
 }
 
 impl Fault {
-    /// The exit status.
+    /// Returns the exit status.
     pub fn status(&self) -> u8
         ensures { result ≡ status_of self.now }
     {
         match self {
             Fault::Memory | Fault::Read | Fault::Write => 1,
-            Fault::Words(_) | Fault::Unreadable | Fault::Script(_) => 2,
+            Fault::Arguments(_) | Fault::Unreadable | Fault::Script(_) => 2,
         }
     }
 
-    /// What is written of it, with the line feed at its end.
-    fn line(&self) -> &[u8]
+    /// Returns the text for standard error, with a line feed at its end.
+    pub fn line(&self) -> &[u8]
         ensures { result.now ≡ line_of self.now }
     {
         match self {
             Fault::Memory => b"records: memory\n",
             Fault::Read => b"records: read\n",
             Fault::Write => b"records: write\n",
-            Fault::Words(text) => text.as_bytes(),
+            Fault::Arguments(text) => text.as_bytes(),
             Fault::Unreadable => b"records: cannot read script\n",
             Fault::Script(line) => line,
         }
-    }
-
-    /// Writes its line.
-    pub fn write<W: Write>(&self, out: &mut W) -> io::Result<()>
-        ensures { OnOk result (Appends (W.contents out.old) (W.contents out.new) (line_of self.now)) }
-    {
-        out.write_all(self.line())
     }
 }
 

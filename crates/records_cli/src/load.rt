@@ -7,21 +7,22 @@ use std::io::{ErrorKind, Read};
 use std::rt::Files;
 use std::{fs, io};
 
-/// Why a file's bytes are not at hand.
+/// Why a file could not be loaded.
 #[derive(Clone, Copy, Debug, PartialEq, Eq)]
 pub enum LoadFault {
-    /// Memory was refused.
+    /// An allocation failed.
     Memory,
-    /// It could not be opened or read, or gave no end within `MAX_READS` reads.
+    /// The file could not be opened or read, or gave no end within `MAX_READS` reads.
     Unreadable,
 }
 
-/// So often a file is read at most.
+/// The most reads of one file.
 pub const MAX_READS: u64 = 1 << 62;
 
-const PIECE: usize = 4096;
+/// The most bytes that one read gives.
+const PIECE_LEN: usize = 4096;
 
-/// The bytes of the file of that name.
+/// Returns the bytes of the file of this name.
 pub fn read_file<R: Files + AllocGlobal>(rt: &R, name: &str) -> Result<Vec<u8>, LoadFault> {
     match fs::open(rt, name) {
         Ok(mut file) => {
@@ -33,7 +34,7 @@ pub fn read_file<R: Files + AllocGlobal>(rt: &R, name: &str) -> Result<Vec<u8>, 
     }
 }
 
-/// What an error of the system says.
+/// The fault for an error of the system.
 fn load_fault(error: &io::Error) -> LoadFault
     ensures memory { error_kind error.now ≡ ErrorKind.OutOfMemory → result ≡ LoadFault.Memory }
     ensures other { error_kind error.now ≢ ErrorKind.OutOfMemory → result ≡ LoadFault.Unreadable }
@@ -45,12 +46,16 @@ fn load_fault(error: &io::Error) -> LoadFault
     }
 }
 
-/// Appends all that the reader gives up to its end, by at most so many reads. An interrupted read is tried again.
+/// Appends all bytes up to the reader's end, by at most `reads` reads. An interrupted read is tried again.
+///
+/// # Errors
+///
+/// Returns why the bytes could not be read to the end.
 pub fn read_rest<R: Read>(reader: &mut R, bytes: &mut Vec<u8>, reads: u64) -> Result<(), LoadFault>
     ensures bytes { OnOk result (IfSome (R.remaining reader.old) (λ xs. bytes.new.items ≡ bytes.old.items ++ xs)) }
     ensures end { OnOk result (IsAtEnd (R.remaining reader.new)) }
 {
-    let mut piece = [0; PIECE];
+    let mut piece = [0; PIECE_LEN];
     for _ in 0..reads {
         match reader.read(&mut piece) {
             Ok(0) => return Ok(()),

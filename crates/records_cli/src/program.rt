@@ -1,18 +1,19 @@
 //! The program, over the words, the file, the input and the outputs that it is given.
-ghost use Rattle.std.specs.Prelude.{◌≡◌, ℕ, ◌≤◌, Ok, IfOk, IfErr, OnOk, map};
-ghost use Rattle.std.specs.Io.KnownBytes.{Appends, Keeps};
-ghost use Rattle.records_cli.specs.Fault.{status_of, refusal_line};
-ghost use Rattle.records_cli.specs.Program.{ProgramLeaves, Ran, Refuses, RefusesScript};
-ghost use Rattle.records_cli.specs.Words.{NamesScript};
-ghost use Rattle.records_cli.specs.declared.fault.Fault.{Fault};
+ghost use Rattle.std.specs.Prelude.{◌≡◌, ℕ, List, Ok, Err, Result, IfOk, IfErr, OnOk, OnErr, map};
 ghost use Rattle.std.specs.Fn.{FnOnceReturnsAt};
+ghost use Rattle.std.specs.Io.KnownBytes.{Appends, Keeps};
+ghost use Rattle.sj_base.specs.Output.{AppendsPrefix};
 ghost use Rattle.sj_records.specs.Record.{IsReadAs};
-ghost use Rattle.sj_records.specs.ScriptView.{steps_of};
+ghost use Rattle.sj_records.specs.Script.{steps_of};
+ghost use Rattle.records_cli.specs.Fault.{exit_status, refusal_line, status_of};
+ghost use Rattle.records_cli.specs.Program.{ProgramLeaves, Reports, RunEnds, RefusesBytes};
+ghost use Rattle.records_cli.specs.declared.fault.Fault.{Fault};
 
-use crate::counted_run::run_counted;
+use crate::arguments::{Arguments, parse_arguments};
+use crate::counted::{put_counted, run_counted};
 use crate::fault::Fault;
 use crate::load::LoadFault;
-use crate::words::{Words, read_words};
+use sj_base::{Output, Sink};
 use sj_records::{Script, ScriptFault};
 use std::alloc::{AllocError, Global};
 use std::convert::AsStr;
@@ -20,42 +21,44 @@ use std::io::{Read, Write};
 use std::marker::Brand;
 use std::sync::ledger::Blank;
 
-/// Does what the words ask for, and answers the exit status. What is wrong is written to `faults`.
+/// Does what the words ask for, and returns the exit status. The line of a fault is written to `faults`.
 pub fn program<S, L, I, O, E>(
     alloc: Global,
     words: &[S],
     load: L,
     input: I,
     output: &mut O,
-    faults: E,
+    faults: &mut E,
 ) -> u8
 where
     S: AsStr,
     L: FnOnce(&str) -> Result<Vec<u8>, LoadFault>,
     I: Read + Drop,
     O: Write,
-    E: Write + Drop,
+    E: Sink,
     requires { L.IsAlwaysCallable load }
-    ensures status { result ≤ 2 }
-    ensures refused { result ≡ 2 → (fault : Fault) × (status_of fault ≡ 2) × Refuses (FnOnceReturnsAt L.FnOnce load) (map S.text words.now) fault }
-    ensures ran { result ≡ 0 → NamesScript (map S.text words.now) → Ran (FnOnceReturnsAt L.FnOnce load) (map S.text words.now) (I.remaining input) (O.contents output.old) (O.contents output.new) }
+    // The end of the program: its status, what it leaves on the output, and what it reports.
+    ensures { (ended : Result Unit Fault) × (result ≡ exit_status ended)
+        × ProgramLeaves (FnOnceReturnsAt L.FnOnce load) (map S.text words.now) (I.remaining input) (O.contents output.old) (O.contents output.new) ended
+        × Reports ended (E.contents faults.old) (E.contents faults.new) (E.calls faults.old) (E.calls faults.new) }
 {
-    match answer(alloc, words, load, input, output) {
+    match try_program(alloc, words, load, input, output) {
         Ok(()) => 0,
-        Err(fault) => fail(&fault, faults),
+        Err(fault) => report_fault(&fault, faults),
     }
 }
 
-/// Writes what is wrong, and answers the status. A failed write changes no status.
-pub fn fail<E: Write + Drop>(fault: &Fault, mut faults: E) -> u8
-    ensures { result ≡ status_of fault.now }
+/// Writes the line of the fault, and returns its status. A failed write doesn't change the status.
+pub fn report_fault<E: Sink>(fault: &Fault, faults: &mut E) -> u8
+    ensures status { result ≡ status_of fault.now }
+    ensures told { Reports (Err fault.now) (E.contents faults.old) (E.contents faults.new) (E.calls faults.old) (E.calls faults.new) }
 {
-    let _ = fault.write(&mut faults);
+    let _ = faults.put(fault.line());
     fault.status()
 }
 
 /// Does what the words ask for.
-fn answer<S, L, I, O>(
+fn try_program<S, L, I, O>(
     alloc: Global,
     words: &[S],
     load: L,
@@ -68,32 +71,31 @@ where
     I: Read + Drop,
     O: Write,
     requires { L.IsAlwaysCallable load }
-    ensures refused { IfErr result (λ fault. Refuses (FnOnceReturnsAt L.FnOnce load) (map S.text words.now) fault) }
-    ensures ran { OnOk result (NamesScript (map S.text words.now) → Ran (FnOnceReturnsAt L.FnOnce load) (map S.text words.now) (I.remaining input) (O.contents output.old) (O.contents output.new)) }
+    ensures { ProgramLeaves (FnOnceReturnsAt L.FnOnce load) (map S.text words.now) (I.remaining input) (O.contents output.old) (O.contents output.new) result }
 {
-    let name = match read_words(alloc, words) {
-        Words::Run(name) => name,
-        Words::Help(text) => return show(output, text.as_str()),
-        Words::Refused(text) => return Err(Fault::Words(text)),
-        Words::Memory => return Err(Fault::Memory),
+    let name = match parse_arguments(alloc, words)? {
+        Arguments::Run(name) => name,
+        Arguments::Help(help) => return print_help(output, help.as_str()),
     };
     let mut bytes = load(name)?;
     let script = read_script(alloc, &mut bytes)?;
     run_script(alloc, input, output, &script)
 }
 
-/// Writes the text, and flushes.
-fn show<O: Write>(output: &mut O, text: &str) -> Result<(), Fault>
-    ensures ok { OnOk result (Appends (O.contents output.old) (O.contents output.new) text.now) }
+/// Writes the help, and flushes the output. A prefix of the help is written before an error.
+fn print_help<O: Write>(output: &mut O, help: &str) -> Result<(), Fault>
+    ensures ok { OnOk result (Appends (O.contents output.old) (O.contents output.new) help.now) }
+    ensures err { OnErr result (AppendsPrefix (O.contents output.old) (O.contents output.new) help.now) }
     ensures only { IfErr result (λ f. f ≡ Fault.Write) }
 {
-    match output.write_all(text.as_bytes()) {
+    let (put, output) = put_counted::<O, Brand, Brand>(output, help.as_bytes(), Blank::new(4));
+    match put {
         Ok(()) => flush(output),
         Err(_) => Err(Fault::Write),
     }
 }
 
-/// A failed flush is a failed write.
+/// Flushes the output. A failed flush is a failed write.
 fn flush<O: Write>(output: &mut O) -> Result<(), Fault>
     ensures bytes { Keeps (O.contents output.old) (O.contents output.new) }
     ensures only { IfErr result (λ f. f ≡ Fault.Write) }
@@ -104,10 +106,10 @@ fn flush<O: Write>(output: &mut O) -> Result<(), Fault>
     }
 }
 
-/// The script that the bytes spell.
+/// Reads the script.
 fn read_script(alloc: Global, bytes: &mut [u8]) -> Result<Script, Fault>
     ensures ok { IfOk result (λ script. IsReadAs bytes.old (Ok (steps_of script))) }
-    ensures refused { IfErr result (λ fault. RefusesScript bytes.old fault) }
+    ensures refused { IfErr result (RefusesBytes bytes.old) }
 {
     match Script::read(alloc, bytes) {
         Ok(script) => Ok(script),
@@ -116,7 +118,7 @@ fn read_script(alloc: Global, bytes: &mut [u8]) -> Result<Script, Fault>
     }
 }
 
-/// The line that tells why a script is refused.
+/// Returns the line of a script that is refused.
 fn refusal(alloc: Global, fault: &ScriptFault) -> Result<Vec<u8>, AllocError>
     ensures { IfOk result (λ line. line.items ≡ refusal_line fault.now) }
 {
@@ -134,7 +136,7 @@ fn run_script<I: Read + Drop, O: Write>(
     script: &Script,
 ) -> Result<(), Fault>
     ensures status { IfErr result (λ f. status_of f ≡ 1) }
-    ensures stands { ProgramLeaves (I.remaining input) (O.contents output.old) (O.contents output.new) (steps_of script.now) result }
+    ensures stands { RunEnds (I.remaining input) (O.contents output.old) (O.contents output.new) (steps_of script.now) result }
 {
     let (ran, output) = run_counted::<I, O, Brand, Brand, Brand>(
         alloc,

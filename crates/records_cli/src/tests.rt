@@ -1,10 +1,16 @@
+//! What no clause says: the texts of `clap`, that a run with enough memory ends well, which fault comes first, and that
+//! the output is flushed.
+ghost use Rattle.std.specs.Prelude.{◌≡◌};
+
 use crate::load::{LoadFault, read_rest};
 use crate::program::program;
-use crate::words::{Words, read_words};
+use sj_base::Counted;
 use std::alloc::Global;
 use std::io;
 use std::io::{ErrorKind, Read, Write};
+use std::marker::Brand;
 use std::process::Abort;
+use std::sync::ledger::{Blank, Ledger};
 use std::test::Fail;
 
 const HELP: &str = "\
@@ -28,11 +34,11 @@ Usage: records <SCRIPT>
 For more information, try '--help'.
 ";
 
-const LINE: &[u8] = b"{\"key\": \"value\", \"snot\": 42}\n";
+const LINE: &str = "{\"key\": \"value\", \"snot\": 42}\n";
 
-const SCRIPT: &[u8] = b"[[\"get\",[\"key\"]]]";
+const SCRIPT: &str = r#"[["get",["key"]]]"#;
 
-const RECORD: &[u8] = b"{\"replies\":[[\"value\"]],\"document\":{\"key\":\"value\",\"snot\":42}}\n";
+const RECORD: &str = "{\"replies\":[[\"value\"]],\"document\":{\"key\":\"value\",\"snot\":42}}\n";
 
 // Gives its bytes, one a read where `is_slow`, then an error of the kind, and then its end.
 #[derive(Drop)]
@@ -98,50 +104,72 @@ impl Write for Narrow {
     }
 }
 
-fn copied(alloc: Global, bytes: &[u8]) -> Result<Vec<u8>, LoadFault> {
-    Vec::from_slice(alloc, bytes).map_err(|_| LoadFault::Memory)
+// What the program is given. Each file has the same script.
+#[derive(Clone, Copy)]
+struct Given<'a> {
+    words: &'a [&'a str],
+    script: Result<&'a str, LoadFault>,
 }
 
-// What the program answers to these words, with that script in each file and no input.
-fn answered(
-    alloc: Global,
-    words: &[&str],
-    script: Result<&[u8], LoadFault>,
-) -> (u8, Vec<u8>, Vec<u8>) {
-    let mut output = Vec::new(alloc);
-    let mut faults = Vec::new(alloc);
-    let load = |_name: &str| match script {
-        Ok(bytes) => copied(alloc, bytes),
-        Err(fault) => Err(fault),
-    };
-    let input: &[u8] = b"";
-    let status = program(alloc, words, load, input, &mut output, &mut faults);
-    (status, output, faults)
-}
+impl<'a> Given<'a> {
+    fn new(words: &'a [&'a str]) -> Given<'a> {
+        Given {
+            words,
+            script: Ok(SCRIPT),
+        }
+    }
 
-// The files of a folder that has `get.json` alone.
-fn stored(alloc: Global, name: &str) -> Result<Vec<u8>, LoadFault> {
-    if name == "get.json" {
-        copied(alloc, SCRIPT)
-    } else {
-        Err(LoadFault::Unreadable)
+    fn load(&self, alloc: Global) -> Result<Vec<u8>, LoadFault> {
+        let script = self.script?;
+        Vec::from_slice(alloc, script.as_bytes()).map_err(|_| LoadFault::Memory)
     }
 }
 
-// What the program answers with the script `SCRIPT`.
-fn runs<I: Read + Drop>(alloc: Global, input: I, output: &mut Narrow, faults: &mut Narrow) -> u8 {
-    let load = |name: &str| stored(alloc, name);
-    let words = ["records", "get.json"];
-    program(alloc, &words, load, input, output, faults)
+const RUN: &[&str] = &["records", "get.json"];
+
+// The status of the program, and what it writes to `faults`.
+fn run_program<I: Read + Drop>(
+    alloc: Global,
+    given: Given<'_>,
+    input: I,
+    output: &mut Narrow,
+) -> (u8, Vec<u8>) {
+    run_counted::<I, Brand>(alloc, given, input, output, Blank::new(4))
 }
 
-// Refused before it asks for memory.
-fn unloaded() -> Result<&'static [u8], LoadFault> {
-    Err(LoadFault::Memory)
+fn run_counted<I: Read + Drop, L: Ledger>(
+    alloc: Global,
+    given: Given<'_>,
+    input: I,
+    output: &mut Narrow,
+    writes: Blank,
+) -> (u8, Vec<u8>)
+    requires { (writes.name ≡ L.name) × (writes.parts ≡ L.parts) × (writes.parts ≡ 4) }
+{
+    let mut faults = Counted::<Vec<u8>, L>::new(Vec::new(alloc), writes);
+    let load = |_name: &str| given.load(alloc);
+    let status = program(alloc, given.words, load, input, output, &mut faults);
+    (status, faults.into_inner())
+}
+
+// Runs the program, and looks for this status, output and line.
+fn expect<I: Read + Drop>(
+    rt: &impl Abort,
+    alloc: Global,
+    given: Given<'_>,
+    input: I,
+    output: &mut Narrow,
+    want: (u8, &[u8], &str),
+) {
+    let (status, written, line) = want;
+    let (found, faults) = run_program(alloc, given, input, output);
+    assert_eq!(rt; found, status);
+    assert_eq!(rt; output.taken.as_slice(), written);
+    assert_eq!(rt; faults.as_slice(), line.as_bytes());
 }
 
 #[test]
-fn refuses_words(rt: HostRuntime) {
+fn refuses_arguments(rt: HostRuntime) {
     let words: [&[&str]; 4] = [
         &["records"],
         &["records", "a.json", "b.json"],
@@ -149,14 +177,26 @@ fn refuses_words(rt: HostRuntime) {
         &["records", "--version"],
     ];
     for words in &words {
-        let (status, output, faults) = answered(rt.alloc(), words, unloaded());
-        assert_eq!(rt; (status, output.len()), (2, 0));
+        let mut output = Narrow::new(rt.alloc(), usize::MAX, false);
+        let input: &[u8] = b"";
+        let (status, faults) = run_program(rt.alloc(), Given::new(words), input, &mut output);
+        assert_eq!(rt; status, 2);
         assert!(rt; faults.starts_with(b"error: "));
         assert!(rt; faults.ends_with(b"\n"));
     }
     for name in ["records", "records_cli"] {
-        let (_, _, faults) = answered(rt.alloc(), &[name], unloaded());
-        assert_eq!(rt; faults.as_slice(), NO_SCRIPT.as_bytes());
+        let mut output = Narrow::new(rt.alloc(), usize::MAX, false);
+        let words = [name];
+        let given = Given::new(&words);
+        let input: &[u8] = b"";
+        expect(
+            &rt,
+            rt.alloc(),
+            given,
+            input,
+            &mut output,
+            (2, b"", NO_SCRIPT),
+        );
     }
 }
 
@@ -167,132 +207,101 @@ fn helps(rt: HostRuntime) {
         ["records", "-h"],
         ["out/records_cli", "--help"],
     ] {
-        let (status, output, faults) = answered(rt.alloc(), &words, unloaded());
-        assert_eq!(rt; (status, faults.len()), (0, 0));
-        assert_eq!(rt; output.as_slice(), HELP.as_bytes());
+        let mut input = Failing {
+            bytes: LINE.as_bytes(),
+            kind: Some(ErrorKind::Other),
+            is_slow: false,
+        };
+        let mut output = Narrow::new(rt.alloc(), usize::MAX, false);
+        let given = Given {
+            words: &words,
+            script: Err(LoadFault::Memory),
+        };
+        expect(
+            &rt,
+            rt.alloc(),
+            given,
+            &mut input,
+            &mut output,
+            (0, HELP.as_bytes(), ""),
+        );
+        assert_eq!(rt; (input.bytes.len(), output.is_flushed), (LINE.len(), true));
     }
 }
 
 #[test]
-fn help_reads_nothing(rt: HostRuntime) {
-    let mut input = Failing {
-        bytes: LINE,
-        kind: Some(ErrorKind::Other),
-        is_slow: false,
-    };
-    let mut output = Narrow::new(rt.alloc(), usize::MAX, false);
-    let load = |_name: &str| Err(LoadFault::Memory);
-    let words = ["records", "--help"];
-    let faults = Vec::new(rt.alloc());
-    let status = program(rt.alloc(), &words, load, &mut input, &mut output, faults);
-    assert_eq!(rt;
-        (status, input.bytes.len(), output.is_flushed),
-        (0, LINE.len(), true)
-    );
-}
-
-#[test]
-fn help_that_cannot_be_written(rt: HostRuntime) {
-    for (room, is_stuck) in [(5, false), (usize::MAX, true)] {
+fn help_cannot_be_written(rt: HostRuntime) {
+    for (room, is_stuck) in [(5, false), (HELP.len(), true)] {
         let mut output = Narrow::new(rt.alloc(), room, is_stuck);
-        let mut faults = Vec::new(rt.alloc());
-        let load = |_name: &str| Err(LoadFault::Memory);
-        let words = ["records", "--help"];
+        let given = Given::new(&["records", "--help"]);
         let input: &[u8] = b"";
-        let status = program(rt.alloc(), &words, load, input, &mut output, &mut faults);
-        assert_eq!(rt; status, 1);
-        assert_eq!(rt; faults.as_slice(), b"records: write\n".as_slice());
-    }
-}
-
-#[test]
-fn names_the_script(rt: HostRuntime) {
-    for (words, want) in [
-        (["records", "a.json", "--"], "a.json"),
-        (["records", "--", "--help"], "--help"),
-        (["records", "--", "-"], "-"),
-    ] {
-        match read_words(rt.alloc(), &words) {
-            Words::Run(name) => assert!(rt; name == want),
-            _ => assert!(rt; false),
-        }
-    }
-}
-
-#[test]
-fn refuses_files(rt: HostRuntime) {
-    for (fault, want, line) in [
-        (LoadFault::Memory, 1, "records: memory\n"),
-        (LoadFault::Unreadable, 2, "records: cannot read script\n"),
-    ] {
-        let (status, output, faults) = answered(rt.alloc(), &["records", "a.json"], Err(fault));
-        assert_eq!(rt; (status, output.len()), (want, 0));
-        assert_eq!(rt; faults.as_slice(), line.as_bytes());
+        let want = (1, &HELP.as_bytes()[..room], "records: write\n");
+        expect(&rt, rt.alloc(), given, input, &mut output, want);
     }
 }
 
 #[test]
 fn refuses_scripts(rt: HostRuntime) {
-    for (script, line) in [
-        ("{}", "records: script: NotAnArray\n"),
-        ("[[\"frob\"]]", "records: script: command 0: UnknownName\n"),
-        ("[[\"get\"]]", "records: script: command 0: WrongCount\n"),
-        ("x", "records: script: NoStructure at 0\n"),
+    for (script, status, line) in [
+        (Err(LoadFault::Memory), 1, "records: memory\n"),
+        (
+            Err(LoadFault::Unreadable),
+            2,
+            "records: cannot read script\n",
+        ),
+        (Ok("{}"), 2, "records: script: NotAnArray\n"),
+        (
+            Ok(r#"[["frob"]]"#),
+            2,
+            "records: script: command 0: UnknownName\n",
+        ),
+        (
+            Ok(r#"[["get"]]"#),
+            2,
+            "records: script: command 0: WrongCount\n",
+        ),
+        (Ok("x"), 2, "records: script: NoStructure at 0\n"),
     ] {
-        let script = script.as_bytes();
-        let (status, output, faults) = answered(rt.alloc(), &["records", "a.json"], Ok(script));
-        assert_eq!(rt; (status, output.len()), (2, 0), "{script:?}");
-        assert_eq!(rt; faults.as_slice(), line.as_bytes());
+        let mut output = Narrow::new(rt.alloc(), usize::MAX, false);
+        let given = Given { words: RUN, script };
+        expect(
+            &rt,
+            rt.alloc(),
+            given,
+            LINE.as_bytes(),
+            &mut output,
+            (status, b"", line),
+        );
     }
 }
 
-// Runs on the input, with ample room for the faults, and looks for this answer.
-fn expect<I: Read + Drop>(
-    rt: &impl Abort,
-    alloc: Global,
-    input: I,
-    output: &mut Narrow,
-    want: (u8, &[u8], &str),
-) {
-    let mut faults = Narrow::new(alloc, usize::MAX, false);
-    let (status, written, line) = want;
-    assert_eq!(rt; runs(alloc, input, output, &mut faults), status);
-    assert_eq!(rt; output.taken.as_slice(), written);
-    assert_eq!(rt; faults.taken.as_slice(), line.as_bytes());
-}
-
 #[test]
-fn writes_a_record_for_each_line(rt: HostRuntime) -> Result<(), Fail> {
+fn writes_records(rt: HostRuntime) -> Result<(), Fail> {
     let alloc = rt.alloc();
-    let mut output = Narrow::new(alloc, usize::MAX, false);
-    expect(&rt, alloc, LINE, &mut output, (0, RECORD, ""));
-    assert!(rt; output.is_flushed);
-    let mut lines = Vec::from_slice(alloc, LINE)?;
-    lines.extend_from_slice(LINE)?;
-    let mut records = Vec::from_slice(alloc, RECORD)?;
-    records.extend_from_slice(RECORD)?;
-    let mut output = Narrow::new(alloc, usize::MAX, false);
-    expect(
-        &rt,
-        alloc,
-        lines.as_slice(),
-        &mut output,
-        (0, records.as_slice(), ""),
-    );
-    let empty: &[u8] = b"";
-    let mut output = Narrow::new(alloc, usize::MAX, false);
-    expect(&rt, alloc, empty, &mut output, (0, b"", ""));
+    let lines = format!(in alloc; "{LINE}{LINE}")?;
+    let records = format!(in alloc; "{RECORD}{RECORD}")?;
+    for (input, written) in [("", ""), (LINE, RECORD), (lines.as_str(), records.as_str())] {
+        let mut output = Narrow::new(alloc, usize::MAX, false);
+        expect(
+            &rt,
+            alloc,
+            Given::new(RUN),
+            input.as_bytes(),
+            &mut output,
+            (0, written.as_bytes(), ""),
+        );
+        assert!(rt; output.is_flushed);
+    }
     Ok(())
 }
 
 #[test]
 fn input_fails_in_mid_stream(rt: HostRuntime) -> Result<(), Fail> {
     let alloc = rt.alloc();
-    let mut bytes = Vec::from_slice(alloc, LINE)?;
-    bytes.extend_from_slice(b"{\"key\": 1}")?;
+    let bytes = format!(in alloc; "{LINE}[1")?;
     for (is_slow, is_stuck) in [(false, false), (true, false), (false, true)] {
         let input = Failing {
-            bytes: bytes.as_slice(),
+            bytes: bytes.as_bytes(),
             kind: Some(ErrorKind::Other),
             is_slow,
         };
@@ -300,9 +309,10 @@ fn input_fails_in_mid_stream(rt: HostRuntime) -> Result<(), Fail> {
         expect(
             &rt,
             alloc,
+            Given::new(RUN),
             input,
             &mut output,
-            (1, RECORD, "records: read\n"),
+            (1, RECORD.as_bytes(), "records: read\n"),
         );
         assert!(rt; output.is_flushed == !is_stuck);
     }
@@ -312,60 +322,36 @@ fn input_fails_in_mid_stream(rt: HostRuntime) -> Result<(), Fail> {
 #[test]
 fn output_fails(rt: HostRuntime) {
     let alloc = rt.alloc();
-    for room in 0..RECORD.len() {
-        let mut output = Narrow::new(alloc, room, false);
-        let written = &RECORD[..room];
+    for room in 0..RECORD.len() + 1 {
+        let mut output = Narrow::new(alloc, room, true);
+        let want = (1, &RECORD.as_bytes()[..room], "records: write\n");
         expect(
             &rt,
             alloc,
-            LINE,
+            Given::new(RUN),
+            LINE.as_bytes(),
             &mut output,
-            (1, written, "records: write\n"),
+            want,
         );
-    }
-    let mut output = Narrow::new(alloc, usize::MAX, true);
-    expect(
-        &rt,
-        alloc,
-        LINE,
-        &mut output,
-        (1, RECORD, "records: write\n"),
-    );
-}
-
-#[test]
-fn faults_that_cannot_be_written(rt: HostRuntime) {
-    let alloc = rt.alloc();
-    for room in [0, 3] {
-        let mut faults = Narrow::new(alloc, room, true);
-        let mut output = Narrow::new(alloc, 0, false);
-        assert_eq!(rt; runs(alloc, LINE, &mut output, &mut faults), 1);
-        let mut faults = Narrow::new(alloc, room, true);
-        let load = |_name: &str| Err(LoadFault::Unreadable);
-        let words = ["records", "a.json"];
-        let status = program(alloc, &words, load, LINE, &mut output, &mut faults);
-        assert_eq!(rt; (status, faults.taken.len()), (2, room));
     }
 }
 
 #[test]
 fn reads_to_the_end(rt: HostRuntime) {
     let alloc = rt.alloc();
-    let mut bytes = Vec::new(alloc);
-    let mut whole: &[u8] = b"abc";
-    assert_eq!(rt; read_rest(&mut whole, &mut bytes, 2), Ok(()));
-    assert_eq!(rt; bytes.as_slice(), b"abc".as_slice());
     for (kind, reads, want) in [
-        (ErrorKind::Other, 9, Err(LoadFault::Unreadable)),
-        (ErrorKind::OutOfMemory, 9, Err(LoadFault::Memory)),
-        (ErrorKind::OutOfMemory, 3, Err(LoadFault::Unreadable)),
-        (ErrorKind::Interrupted, 5, Ok(())),
-        (ErrorKind::Interrupted, 4, Err(LoadFault::Unreadable)),
+        (None, 4, Ok(())),
+        (None, 3, Err(LoadFault::Unreadable)),
+        (Some(ErrorKind::Other), 9, Err(LoadFault::Unreadable)),
+        (Some(ErrorKind::OutOfMemory), 9, Err(LoadFault::Memory)),
+        (Some(ErrorKind::OutOfMemory), 3, Err(LoadFault::Unreadable)),
+        (Some(ErrorKind::Interrupted), 5, Ok(())),
+        (Some(ErrorKind::Interrupted), 4, Err(LoadFault::Unreadable)),
     ] {
         let mut bytes = Vec::new(alloc);
         let mut slow = Failing {
             bytes: b"abc",
-            kind: Some(kind),
+            kind,
             is_slow: true,
         };
         assert_eq!(rt; read_rest(&mut slow, &mut bytes, reads), want);

@@ -1,11 +1,11 @@
--- A line's document is read from it; so it is the only one, and a line from which nothing is read has none.
+-- A line's document is read from it, and a line from which nothing is read has none.
 use Rattle.std.specs.Prelude.{◌≡◌, ℕ, List, [], ◌++◌, Some, None, option_and_then}
 use Rattle.std.proofs.Common.{refl, sym, ap, ◌∙◌}
 use Rattle.std.proofs.lemmas.List.{append-nil}
-use Rattle.std.proofs.lemmas.Option.{same_Some, none-some}
+use Rattle.std.proofs.lemmas.Option.{none-some}
 use Rattle.sj_base.specs.Tree.{Tree}
 use Rattle.sj_records.specs.Record.{PlainDocument, IsNoPlainDocument}
-use Rattle.sj_records.specs.Reading.{padded_at, value_at, if_last, line_at}
+use Rattle.sj_records.specs.inside.Reading.{padded_at, value_at, if_last, line_at}
 use Rattle.sj_records.proofs.Spaces.{padded_at-complete}
 use Rattle.sj_records.proofs.Values.{IsValue}
 use Rattle.sj_records.proofs.Items.{item_from_parts}
@@ -21,7 +21,3 @@ line_at-complete limit line t h =
 -- a line from which nothing is read has no document
 pub IsNoPlainDocument-from_none : (limit : ℕ) (line : List ℕ) → line_at limit line ≡ None → IsNoPlainDocument line limit
 IsNoPlainDocument-from_none limit line e t h = none-some t (sym e ∙ line_at-complete limit line t h)
-
--- a line has one document at most
-pub PlainDocument-unique : (line : List ℕ) (limit : ℕ) (s t : Tree) → PlainDocument line limit s → PlainDocument line limit t → s ≡ t
-PlainDocument-unique line limit s t h k = same_Some s t (sym (line_at-complete limit line s h) ∙ line_at-complete limit line t k)

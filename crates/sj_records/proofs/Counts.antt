@@ -8,11 +8,11 @@ pub GoesOn-some : (old new : Calls) (buf : List ℕ) (n : ℕ) → 0 < n → Cou
 GoesOn-some old new buf n some h =
     let busy : eqb n 0 ≡ false = grind arith in
     let is = rw busy at h in
-    (ap (λ (c : Calls). c.failed) is, ap (λ (c : Calls). c.nothing) is)
+    (ap (λ (c : Calls). c.failed) is, ap (λ (c : Calls). c.empty) is)
 
 -- one that was interrupted
 pub GoesOn-interrupted : (old new : Calls) → new ≡ one_interrupted old → GoesOn old new
-GoesOn-interrupted old new is = (ap (λ (c : Calls). c.failed) is, ap (λ (c : Calls). c.nothing) is)
+GoesOn-interrupted old new is = (ap (λ (c : Calls). c.failed) is, ap (λ (c : Calls). c.empty) is)
 
 -- several
 pub GoesOn-then : (a b c : Calls) → GoesOn a b → GoesOn b c → GoesOn a c

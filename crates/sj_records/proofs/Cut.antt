@@ -2,7 +2,7 @@
 use Rattle.std.proofs.Common.{◌≡◌, ℕ, Bool, true, false, cond, eqb, List, [], ◌∷◌, ◌++◌, refl, ap, ap₂, ◌∙◌, arith}
 use Rattle.std.proofs.lemmas.Bool.{eqb-false}
 use Rattle.sj_records.specs.Lines.{ended, unended, onto_first, onto_last}
-use Rattle.sj_records.specs.Progress.{HasNoLineFeed}
+use Rattle.sj_records.specs.inside.Progress.{HasNoLineFeed}
 
 -- a test that fails
 not_line_feed : (b : ℕ) → (b ≡ 0x0a → ⊥) → eqb b 0x0a ≡ false

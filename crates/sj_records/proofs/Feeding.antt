@@ -1,25 +1,26 @@
 -- A stream of which a part has been cut into lines, each of them answered.
-use Rattle.std.proofs.Common.{◌≡◌, ℕ, List, [], ◌∷◌, ◌++◌, Option, refl, sym, ap, ◌∙◌, append_assoc}
+use Rattle.std.proofs.Common.{◌≡◌, ℕ, List, [], ◌∷◌, ◌++◌, Option, Err, refl, sym, ap, ◌∙◌, append_assoc}
 use Rattle.std.proofs.lemmas.List.{append-nil}
 use Rattle.sj_records.specs.Lines.{ended, unended}
-use Rattle.sj_records.specs.declared.task.Task.{Task}
-use Rattle.sj_records.specs.ScriptView.{steps_of}
-use Rattle.sj_records.specs.Progress.{HasNoLineFeed, Wrote, WroteSome, WrotePrefix}
+use Rattle.sj_records.specs.declared.run_error.RunError.{RunError}
+use Rattle.sj_records.specs.declared.run_error.RunError.TheVariants.{Memory, Write, Read, TooManyReads}
+use Rattle.sj_records.specs.Step.{Job}
+use Rattle.sj_records.specs.inside.Progress.{HasNoLineFeed, Wrote, WroteSome, WrotePrefix, LeavesLines}
 use Rattle.sj_records.proofs.Cut.{ended-none, unended-none, ended-cut, unended-cut, HasNoLineFeed-append}
-use Rattle.sj_records.proofs.Written.{Wrote-nothing, Wrote-then, WroteSome-front, WrotePrefix-then, AreRecords-append}
+use Rattle.sj_records.proofs.Written.{Wrote-nothing, Wrote-then, WroteSome-front, WroteSome-none, WrotePrefix-then, AreRecords-append}
 use Rattle.sj_records.proofs.Total.{AreRecords-exist}
 
 -- Since the writer held `first`, the lines `done` of the stream were answered, and `line ++ rest` is left.
-pub record Feeding (task : Task) (first now : Option (List ℕ)) (stream line rest : List ℕ) : Type 0 where
+pub record Feeding (job : Job) (first now : Option (List ℕ)) (stream line rest : List ℕ) : Type 0 where
   pub done : List (List ℕ)
-  pub wrote : Wrote task first now done
+  pub wrote : Wrote job first now done
   pub ended_is : ended stream ≡ done ++ ended (line ++ rest)
   pub unended_is : unended stream ≡ unended (line ++ rest)
   pub clean : HasNoLineFeed line
 
-module _ (task : Task) where
-  pub Feeding-begin : (a : Option (List ℕ)) (line piece : List ℕ) → HasNoLineFeed line → Feeding task a a (line ++ piece) line piece
-  Feeding-begin a line piece clean = record { done = []; wrote = Wrote-nothing task a; ended_is = refl; unended_is = refl; clean = clean }
+module _ (job : Job) where
+  pub Feeding-begin : (a : Option (List ℕ)) (line piece : List ℕ) → HasNoLineFeed line → Feeding job a a (line ++ piece) line piece
+  Feeding-begin a line piece clean = record { done = []; wrote = Wrote-nothing job a; ended_is = refl; unended_is = refl; clean = clean }
 
   -- what is left, where a line feed comes
   cut : (line rest end more : List ℕ) → HasNoLineFeed line → rest ≡ end ++ 0x0a ∷ more → HasNoLineFeed end → ended (line ++ rest) ≡ (line ++ end) ∷ ended more
@@ -31,37 +32,45 @@ module _ (task : Task) where
       ap (λ l. unended (line ++ l)) is ∙ ap unended (sym (append_assoc line end (0x0a ∷ more))) ∙ unended-cut (line ++ end) more (HasNoLineFeed-append line end clean free)
 
   -- one more line is answered
-  pub Feeding-line : (a b c : Option (List ℕ)) (stream line rest end more new : List ℕ) → Feeding task a b stream line rest → rest ≡ end ++ 0x0a ∷ more → HasNoLineFeed end
-      → Wrote task b c ((line ++ end) ∷ []) → new ≡ [] → Feeding task a c stream new more
+  pub Feeding-line : (a b c : Option (List ℕ)) (stream line rest end more new : List ℕ) → Feeding job a b stream line rest → rest ≡ end ++ 0x0a ∷ more → HasNoLineFeed end
+      → Wrote job b c ((line ++ end) ∷ []) → new ≡ [] → Feeding job a c stream new more
   Feeding-line a b c stream line rest end more new f is free wrote none =
       record {
         done = f.done ++ (line ++ end) ∷ [];
-        wrote = Wrote-then task a b c f.done ((line ++ end) ∷ []) f.wrote wrote;
+        wrote = Wrote-then job a b c f.done ((line ++ end) ∷ []) f.wrote wrote;
         ended_is = f.ended_is ∙ ap (λ ls. f.done ++ ls) (cut line rest end more f.clean is free) ∙ sym (append_assoc f.done ((line ++ end) ∷ []) (ended more)) ∙ ap (λ l. (f.done ++ (line ++ end) ∷ []) ++ ended (l ++ more)) (sym none);
         unended_is = f.unended_is ∙ uncut line rest end more f.clean is free ∙ ap (λ l. unended (l ++ more)) (sym none);
         clean = rw none tt;
       }
 
   -- nothing more was written
-  pub Feeding-stopped : (a b c : Option (List ℕ)) (stream line rest : List ℕ) → Feeding task a b stream line rest → Wrote task b c [] → WroteSome task a c (ended stream)
+  pub Feeding-stopped : (a b c : Option (List ℕ)) (stream line rest : List ℕ) → Feeding job a b stream line rest → Wrote job b c [] → WroteSome job a c (ended stream)
   Feeding-stopped a b c stream line rest f nothing =
-      let both : Wrote task a c f.done = rw (← append-nil f.done) (Wrote-then task a b c f.done [] f.wrote nothing) in
-      rw f.ended_is (WroteSome-front task a c f.done (ended (line ++ rest)) both)
+      let both : Wrote job a c f.done = rw (← append-nil f.done) (Wrote-then job a b c f.done [] f.wrote nothing) in
+      rw f.ended_is (WroteSome-front job a c f.done (ended (line ++ rest)) both)
 
   -- a part of the next record was written
-  pub Feeding-prefix : (a b c : Option (List ℕ)) (stream line rest end more : List ℕ) → Feeding task a b stream line rest → rest ≡ end ++ 0x0a ∷ more → HasNoLineFeed end
-      → WrotePrefix task b c ((line ++ end) ∷ []) → WrotePrefix task a c (ended stream)
+  Feeding-prefix : (a b c : Option (List ℕ)) (stream line rest end more : List ℕ) → Feeding job a b stream line rest → rest ≡ end ++ 0x0a ∷ more → HasNoLineFeed end
+      → WrotePrefix job b c ((line ++ end) ∷ []) → WrotePrefix job a c (ended stream)
   Feeding-prefix a b c stream line rest end more f is free part =
-      let others = AreRecords-exist (ended more) (steps_of task.script.now) task.depth task.form in
-      let all = AreRecords-append (steps_of task.script.now) task.depth task.form ((line ++ end) ∷ []) (ended more) (part.0 ++ part.1) others.0 part.3 others.1 in
-      let next : WrotePrefix task b c (ended (line ++ rest)) = (part.0, part.1 ++ others.0, part.2, rw (cut line rest end more f.clean is free, ← append_assoc part.0 part.1 others.0) all) in
-      rw f.ended_is (WrotePrefix-then task a b c f.done (ended (line ++ rest)) f.wrote next)
+      let others = AreRecords-exist job (ended more) in
+      let all = AreRecords-append job ((line ++ end) ∷ []) (ended more) (part.0 ++ part.1) others.0 part.3 others.1 in
+      let next : WrotePrefix job b c (ended (line ++ rest)) = (part.0, part.1 ++ others.0, part.2, rw (cut line rest end more f.clean is free, ← append_assoc part.0 part.1 others.0) all) in
+      rw f.ended_is (WrotePrefix-then job a b c f.done (ended (line ++ rest)) f.wrote next)
+
+  -- the record of the next line was not written whole
+  pub Feeding-failed : (a b c : Option (List ℕ)) (stream line rest end more : List ℕ) (e : RunError) → Feeding job a b stream line rest → rest ≡ end ++ 0x0a ∷ more → HasNoLineFeed end
+      → LeavesLines (Err e) job b c [] ((line ++ end) ∷ []) → LeavesLines (Err e) job a c (ended stream) (ended stream)
+  Feeding-failed a b c stream line rest end more Memory f is free h = Feeding-stopped a b c stream line rest f (WroteSome-none job b c h)
+  Feeding-failed a b c stream line rest end more Write f is free h = Feeding-prefix a b c stream line rest end more f is free h
+  Feeding-failed a b c stream line rest end more Read f is free h = absurd h
+  Feeding-failed a b c stream line rest end more TooManyReads f is free h = absurd h
 
   -- no line feed is left
-  pub Feeding-end : (a b : Option (List ℕ)) (stream line rest : List ℕ) → Feeding task a b stream line rest → HasNoLineFeed rest → Wrote task a b (ended stream)
+  pub Feeding-end : (a b : Option (List ℕ)) (stream line rest : List ℕ) → Feeding job a b stream line rest → HasNoLineFeed rest → Wrote job a b (ended stream)
   Feeding-end a b stream line rest f free =
       let none = ended-none (line ++ rest) (HasNoLineFeed-append line rest f.clean free) in
       rw (f.ended_is, none, append-nil f.done) f.wrote
 
-  pub Feeding-kept : (a b : Option (List ℕ)) (stream line rest : List ℕ) → Feeding task a b stream line rest → HasNoLineFeed rest → line ++ rest ≡ unended stream
+  pub Feeding-kept : (a b : Option (List ℕ)) (stream line rest : List ℕ) → Feeding job a b stream line rest → HasNoLineFeed rest → line ++ rest ≡ unended stream
   Feeding-kept a b stream line rest f free = sym (f.unended_is ∙ unended-none (line ++ rest) (HasNoLineFeed-append line rest f.clean free))

@@ -4,7 +4,7 @@ use Rattle.std.proofs.Common.{refl, sym, ap, subst, arith}
 use Rattle.sj_base.specs.Tree.{Tree, Items, no_items, item, depth, items_depth}
 use Rattle.sj_base.specs.Spelling.{Padded, SpellsValue, SpellsItems, SpellsMoreItems}
 use Rattle.sj_records.specs.Record.{HasNoDecimal, HaveNoDecimal}
-use Rattle.sj_records.specs.Reading.{Reader, padded_at, items_of}
+use Rattle.sj_records.specs.inside.Reading.{Reader, padded_at, items_of}
 use Rattle.sj_records.proofs.Steps.{Sound, Complete, Plain, AllByRecursion-append, AllByRecursion-parts}
 use Rattle.sj_records.proofs.Spaces.{NoDigitFirst, NoneAtSpace, Padded-map, Padded-absorbs, Padded-plain, Plain-Padded, Plain-spaces, padded_at-sound, padded_at-complete, padded_at-skips}
 use Rattle.sj_records.proofs.Sequences.{MoreOf, ListOf, IsElement}

@@ -5,8 +5,8 @@ use Rattle.std.specs.Str.{bytes_eq}
 use Rattle.sj_base.specs.Tree.{Tree, Members, no_members, member}
 use Rattle.sj_base.specs.Path.{member_at}
 use Rattle.sj_base.specs.Keep.{keep, keep_members, without}
-use Rattle.sj_records.specs.Reading.{members_of}
-use Rattle.sj_records.specs.Kept.{has_key, with_last, add_member}
+use Rattle.sj_records.specs.inside.Reading.{members_of}
+use Rattle.sj_records.specs.inside.Kept.{has_key, with_last, add_member}
 
 -- ks, and each of these members added to them
 abbrev pub kept_onto : Members → Members → Members

@@ -3,7 +3,7 @@ use Rattle.std.specs.Prelude.{◌≡◌, ◌≢◌, ℕ, zero, suc, List, [], �
 use Rattle.std.proofs.Common.{refl, sym, ap, ◌∙◌, subst, inl, arith, append_assoc}
 use Rattle.sj_base.specs.Tree.{Tree, list, object, Items, Members}
 use Rattle.sj_base.specs.Spelling.{SpellsItems, SpellsMembers}
-use Rattle.sj_records.specs.Reading.{mapped, after_spaces, padded_at, sequence_at, pair_at, value_with, value_at, items_of, members_of}
+use Rattle.sj_records.specs.inside.Reading.{mapped, after_spaces, padded_at, sequence_at, pair_at, value_with, value_at, items_of, members_of}
 use Rattle.sj_records.proofs.Steps.{Takes, Sound, Complete, Plain, AllByRecursion-append, AllByRecursion-parts}
 use Rattle.sj_records.proofs.Spaces.{NoDigitFirst, NoneAtSpace}
 use Rattle.sj_records.proofs.Sequences.{ListOf, sequence_at-sound, sequence_at-complete}

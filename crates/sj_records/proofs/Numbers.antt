@@ -8,7 +8,7 @@ use Rattle.std.proofs.lemmas.Bool.{cases_eq, and_parts, and_from, eqb-true, ne_e
 use Rattle.std.proofs.lemmas.Option.{same_Some}
 use Rattle.sj_base.specs.Tree.{IsInRange}
 use Rattle.sj_base.specs.Number.{minus, signed, IsWhole, SpellsInteger}
-use Rattle.sj_records.specs.Reading.{digits, after_digits, is_whole, in_range, whole_at, integer_at}
+use Rattle.sj_records.specs.inside.Reading.{digits, after_digits, is_whole, in_range, whole_at, integer_at}
 use Rattle.sj_records.proofs.Steps.{Sound, Complete, Plain, cond_parts, guard_parts, map_parts, AllByRecursion-append, AllByRecursion-weaker}
 use Rattle.sj_records.proofs.Spaces.{NoDigitFirst}
 

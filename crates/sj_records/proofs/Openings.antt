@@ -4,8 +4,8 @@ use Rattle.std.specs.Prelude.{codes}
 use Rattle.std.proofs.lemmas.Bool.{eqb-true}
 use Rattle.sj_base.specs.Tree.{Tree, null, boolean, integer, string, list, object, item}
 use Rattle.sj_base.specs.Keep.{keep, keep_items}
-use Rattle.sj_records.specs.Reading.{mapped, padded_at, after_spaces, sequence_at, value_at, pair_at, scalar_at, string_at, word_at, after_word, integer_at, items_of, members_of}
-use Rattle.sj_records.specs.Building.{kept_value, kept_items, kept_members, after_byte}
+use Rattle.sj_records.specs.inside.Reading.{mapped, padded_at, after_spaces, sequence_at, value_at, pair_at, scalar_at, string_at, word_at, after_word, integer_at, items_of, members_of}
+use Rattle.sj_records.specs.inside.Building.{kept_value, kept_items, kept_members, after_byte}
 
 -- ---- openings
 

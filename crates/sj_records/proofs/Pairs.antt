@@ -5,7 +5,7 @@ use Rattle.std.proofs.lemmas.Bool.{eqb-true}
 use Rattle.sj_base.specs.Tree.{Tree, Members, no_members, member, depth, members_depth}
 use Rattle.sj_base.specs.Spelling.{Padded, Pairs, SpellsString, SpellsValue, SpellsMembers, SpellsMoreMembers}
 use Rattle.sj_records.specs.Record.{HasNoDecimal, MembersHaveNoDecimal}
-use Rattle.sj_records.specs.Reading.{Reader, mapped, padded_at, string_at, after_colon, pair_at, members_of}
+use Rattle.sj_records.specs.inside.Reading.{Reader, mapped, padded_at, string_at, after_colon, pair_at, members_of}
 use Rattle.sj_records.proofs.Steps.{Sound, Complete, Plain, guard_parts, chain_parts, mapped_parts, AllByRecursion-append, AllByRecursion-parts}
 use Rattle.sj_records.proofs.Spaces.{Stops, NoDigitFirst, NoneAtSpace, Padded-map, Padded-absorbs, Padded-plain, Plain-Padded, Plain-spaces, padded_at-sound, padded_at-complete, padded_at-skips}
 use Rattle.sj_records.proofs.Sequences.{MoreOf, ListOf, IsElement}

@@ -2,7 +2,7 @@
 use Rattle.std.proofs.Common.{ℕ, List, [], ◌∷◌, ◌++◌}
 use Rattle.sj_base.specs.Tree.{Items, no_items, item, Members, no_members, member}
 use Rattle.sj_base.specs.Text.{text, quoted, more_items_text, more_members_text}
-use Rattle.sj_records.specs.Separators.{comma}
+use Rattle.sj_records.specs.inside.Documents.{comma}
 
 -- the text of the items from that place on
 abbrev pub items_from : ℕ → Items → List ℕ

@@ -10,7 +10,7 @@ use Rattle.std.proofs.lemmas.Str.{IsUtf8-from_is_utf8, is_utf8-from_IsUtf8}
 use Rattle.std.proofs.lemmas.Str.Parse.{parse_digits, numerals_by_value, tells_digits}
 use Rattle.std.proofs.lemmas.Bool.{false≢true, le-ltb, cases_lt}
 use Rattle.std.proofs.lemmas.Bool.Decides.{nat_tests}
-use Rattle.sj_records.specs.Reading.{after_word, string_at, body_at, digits, after_digits, is_whole, whole_at}
+use Rattle.sj_records.specs.inside.Reading.{after_word, string_at, body_at, digits, after_digits, is_whole, whole_at}
 
 -- ---- words
 

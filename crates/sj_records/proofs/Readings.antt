@@ -3,7 +3,7 @@ use Rattle.std.specs.Prelude.{◌≡◌, ℕ, List, [], ◌++◌}
 use Rattle.std.proofs.Common.{sym, ap, ◌∙◌, subst}
 use Rattle.std.proofs.lemmas.List.{append-nil}
 use Rattle.sj_base.specs.Spelling.{AreSpaces}
-use Rattle.sj_records.specs.Reading.{after_spaces}
+use Rattle.sj_records.specs.inside.Reading.{after_spaces}
 use Rattle.sj_records.proofs.Spaces.{after_spaces-takes, after_spaces-append}
 
 -- a line is whitespace if nothing is behind that

@@ -7,12 +7,12 @@ use Rattle.sj_base.specs.Tree.{Tree, null, boolean, integer, decimal, string, li
 use Rattle.sj_base.specs.Keep.{keep, keep_items}
 use Rattle.sj_base.specs.Path.{Part}
 use Rattle.sj_records.specs.declared.script.CommandFault.{CommandFault}
-use Rattle.sj_records.specs.declared.commands.CommandStop.{CommandStop}
-use Rattle.sj_records.specs.declared.commands.CommandStop.TheVariants as stops
+use Rattle.sj_records.specs.declared.read_error.ReadError.{ReadError}
+use Rattle.sj_records.specs.declared.read_error.ReadError.TheVariants as errors
 use Rattle.sj_records.specs.declared.document.Document.{Document}
 use Rattle.sj_records.specs.Command.{Step, Refusal, command, ◌>>=◌, part_of, parts_of, path_of, get_of, named, command_of, commands_from, commands_of}
-use Rattle.sj_records.specs.Refused.{IsFaultOf}
-use Rattle.sj_records.specs.View.{tree_of, items_view}
+use Rattle.sj_records.specs.inside.ReadErrors.{IsErrorOf}
+use Rattle.sj_records.specs.inside.Documents.{document_tree, items_view}
 
 -- what is read behind a front
 abbrev pub read_after : {A F : Type 0} → List A → Result (List A) F → Result (List A) F
@@ -23,21 +23,21 @@ regroup front x (Ok xs) = ap (λ ys. Ok ys) (sym (append_assoc front (x ∷ []) 
 regroup front x (Err f) = refl
 
 -- the items from that place on, where one is left
-items_left : (ds : List Document) (i : ℕ) (d : Document) → i < length ds → d ≡ get_or ds i d → items_view (drop i ds) ≡ item (tree_of d) (items_view (drop (i + 1) ds))
-items_left ds i d lt is = ap items_view (drop_more ds i d lt) ∙ ap (λ e. item (tree_of e) (items_view (drop (i + 1) ds))) (sym is)
+items_left : (ds : List Document) (i : ℕ) (d : Document) → i < length ds → d ≡ get_or ds i d → items_view (drop i ds) ≡ item (document_tree d) (items_view (drop (i + 1) ds))
+items_left ds i d lt is = ap items_view (drop_more ds i d lt) ∙ ap (λ e. item (document_tree e) (items_view (drop (i + 1) ds))) (sym is)
 
 -- ---- the parts of a path
 
-pub parts-more : (ds : List Document) (i : ℕ) (d : Document) (front : List Part) (part : Part) (total : Result (List Part) CommandFault) → i < length ds → d ≡ get_or ds i d → part_of (tree_of d) ≡ Ok part
+pub parts-more : (ds : List Document) (i : ℕ) (d : Document) (front : List Part) (part : Part) (total : Result (List Part) CommandFault) → i < length ds → d ≡ get_or ds i d → part_of (document_tree d) ≡ Ok part
     → read_after front (parts_of (items_view (drop i ds))) ≡ total → read_after (front ++ part ∷ []) (parts_of (items_view (drop (i + 1) ds))) ≡ total
 parts-more ds i d front part total lt is found so_far =
     let one : read_after front (parts_of (items_view (drop i ds))) ≡ read_after (front ++ part ∷ []) (parts_of (items_view (drop (i + 1) ds))) = rw (items_left ds i d lt is, found) (regroup front part (parts_of (items_view (drop (i + 1) ds)))) in
     sym one ∙ so_far
 
-pub parts-fault : (e : CommandStop) (ds : List Document) (i : ℕ) (d : Document) (front : List Part) (total : Result (List Part) CommandFault) → i < length ds → d ≡ get_or ds i d → IsFaultOf e (part_of (tree_of d))
-    → read_after front (parts_of (items_view (drop i ds))) ≡ total → IsFaultOf e total
-parts-fault stops.Memory ds i d front total lt is fault so_far = tt
-parts-fault (stops.Fault f) ds i d front total lt is fault so_far =
+pub parts-fault : (e : ReadError CommandFault) (ds : List Document) (i : ℕ) (d : Document) (front : List Part) (total : Result (List Part) CommandFault) → i < length ds → d ≡ get_or ds i d → IsErrorOf e (part_of (document_tree d))
+    → read_after front (parts_of (items_view (drop i ds))) ≡ total → IsErrorOf e total
+parts-fault errors.Memory ds i d front total lt is fault so_far = tt
+parts-fault (errors.Refused f) ds i d front total lt is fault so_far =
     let one : read_after front (parts_of (items_view (drop i ds))) ≡ Err f = rw (items_left ds i d lt is, fault) refl in
     sym so_far ∙ one
 
@@ -48,14 +48,14 @@ parts-done ds i front total end so_far =
 
 -- ---- the commands of a script
 
-pub commands-more : (ds : List Document) (i : ℕ) (d : Document) (front : List Step) (step : Step) (total : Result (List Step) Refusal) → i < length ds → d ≡ get_or ds i d → command_of (tree_of d) ≡ Ok step
+pub commands-more : (ds : List Document) (i : ℕ) (d : Document) (front : List Step) (step : Step) (total : Result (List Step) Refusal) → i < length ds → d ≡ get_or ds i d → command_of (document_tree d) ≡ Ok step
     → read_after front (commands_from i (items_view (drop i ds))) ≡ total → read_after (front ++ step ∷ []) (commands_from (i + 1) (items_view (drop (i + 1) ds))) ≡ total
 commands-more ds i d front step total lt is found so_far =
     let next : suc i ≡ i + 1 = omega arith in
     let one : read_after front (commands_from i (items_view (drop i ds))) ≡ read_after (front ++ step ∷ []) (commands_from (suc i) (items_view (drop (i + 1) ds))) = rw (items_left ds i d lt is, found) (regroup front step (commands_from (suc i) (items_view (drop (i + 1) ds)))) in
     ap (λ n. read_after (front ++ step ∷ []) (commands_from n (items_view (drop (i + 1) ds)))) (sym next) ∙ sym one ∙ so_far
 
-pub commands-fault : (f : CommandFault) (ds : List Document) (i : ℕ) (d : Document) (front : List Step) (total : Result (List Step) Refusal) → i < length ds → d ≡ get_or ds i d → command_of (tree_of d) ≡ Err f
+pub commands-fault : (f : CommandFault) (ds : List Document) (i : ℕ) (d : Document) (front : List Step) (total : Result (List Step) Refusal) → i < length ds → d ≡ get_or ds i d → command_of (document_tree d) ≡ Err f
     → read_after front (commands_from i (items_view (drop i ds))) ≡ total → total ≡ Err (command i f)
 commands-fault f ds i d front total lt is fault so_far =
     let one : read_after front (commands_from i (items_view (drop i ds))) ≡ Err (command i f) = rw (items_left ds i d lt is, fault) refl in

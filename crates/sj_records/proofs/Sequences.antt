@@ -4,7 +4,7 @@ use Rattle.std.proofs.Common.{refl, sym, ap, ◌∙◌, subst, inl, inr, arith, 
 use Rattle.std.proofs.lemmas.Bool.{eqb-true, eq-eqb, cases_Bool}
 use Rattle.std.proofs.lemmas.Option.{some_pair_parts}
 use Rattle.sj_base.specs.Spelling.{AreSpaces, Then, CommaThen}
-use Rattle.sj_records.specs.Reading.{Reader, mapped, after_spaces, more_at, elements_at, sequence_at}
+use Rattle.sj_records.specs.inside.Reading.{Reader, mapped, after_spaces, more_at, elements_at, sequence_at}
 use Rattle.sj_records.proofs.Steps.{Takes, Sound, Complete, cond_parts, guard_parts, chain_parts, mapped_parts}
 use Rattle.sj_records.proofs.Spaces.{Stops, after_spaces-takes, after_spaces-append}
 

@@ -5,9 +5,9 @@ use Rattle.std.proofs.lemmas.Bool.{eqb-true}
 use Rattle.std.proofs.lemmas.List.{append-nil, nil_from_length}
 use Rattle.std.proofs.lemmas.Option.{same_Some}
 use Rattle.sj_base.specs.Tree.{Tree}
-use Rattle.sj_base.specs.Document.{longest}
+use Rattle.sj_base.specs.Spelling.{longest}
 use Rattle.sj_records.specs.Record.{PlainDocument}
-use Rattle.sj_records.specs.Reading.{padded_at, value_at, if_last, line_at}
+use Rattle.sj_records.specs.inside.Reading.{padded_at, value_at, if_last, line_at}
 use Rattle.sj_records.proofs.Steps.{chain_parts, guard_parts}
 use Rattle.sj_records.proofs.Spaces.{padded_at-sound}
 use Rattle.sj_records.proofs.Values.{IsValue}

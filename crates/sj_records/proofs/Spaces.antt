@@ -6,7 +6,7 @@ use Rattle.std.proofs.Common.{refl, sym, ap, ◌∙◌, subst, inl, inr, arith, 
 use Rattle.std.proofs.lemmas.Bool.{false_from_ne_true}
 use Rattle.std.proofs.lemmas.Bool.Decides.{Decides-eqb, Decides-or}
 use Rattle.sj_base.specs.Spelling.{IsSpace, AreSpaces, Padded}
-use Rattle.sj_records.specs.Reading.{Reader, is_space, after_spaces, padded_at}
+use Rattle.sj_records.specs.inside.Reading.{Reader, is_space, after_spaces, padded_at}
 use Rattle.sj_records.proofs.Steps.{Takes, Sound, Complete, Plain, map_parts, AllByRecursion-append, AllByRecursion-parts, AllByRecursion-weaker}
 
 -- the test of a byte of whitespace

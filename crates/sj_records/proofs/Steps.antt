@@ -2,7 +2,7 @@
 use Rattle.std.specs.Prelude.{◌≡◌, ◌≢◌, ℕ, ◌⊎◌, Bool, true, false, cond, List, [], ◌∷◌, ◌++◌, Option, Some, None, option_map, option_and_then}
 use Rattle.std.specs.List.{AllByRecursion}
 use Rattle.std.proofs.Common.{refl, ap, ◌∙◌, inl, inr}
-use Rattle.sj_records.specs.Reading.{Reader, mapped}
+use Rattle.sj_records.specs.inside.Reading.{Reader, mapped}
 
 -- what P holds of, in front of the rest
 pub record Takes (P : List ℕ → Type 0) (bs rest : List ℕ) : Type 0 where

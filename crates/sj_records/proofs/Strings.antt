@@ -9,9 +9,9 @@ use Rattle.std.proofs.lemmas.List.{append-nil}
 use Rattle.std.proofs.lemmas.List.Elements.{recursion_from_All, All-from_get_or}
 use Rattle.std.proofs.lemmas.Option.{some_pair_parts}
 use Rattle.std.proofs.lemmas.Str.{encode_ascii, inside_one, IsUtf8-nil, IsUtf8-append, IsUtf8-encode, IsUtf8-from_is_utf8, is_utf8-from_IsUtf8}
-use Rattle.sj_base.specs.Characters.{Row, raw, short, unit, pair, IsRow, row_bytes, row_character, Means}
+use Rattle.sj_base.specs.Characters.{CharacterForm, raw, short, unit, pair, IsCharacterForm, form_bytes, form_character, Means}
 use Rattle.sj_base.specs.Spelling.{SpellsString}
-use Rattle.sj_records.specs.Reading.{mapped, body_at, if_utf8, string_at}
+use Rattle.sj_records.specs.inside.Reading.{mapped, body_at, if_utf8, string_at}
 use Rattle.sj_records.proofs.Steps.{Sound, Plain, cond_parts, guard_parts, refusal_parts, chain_parts, mapped_parts, AllByRecursion-append, AllByRecursion-parts, AllByRecursion-weaker}
 use Rattle.sj_records.proofs.Spaces.{NoneAtSpace}
 
@@ -46,44 +46,44 @@ body_complete : (body r : List ℕ) → AllByRecursion IsInner body → body_at 
 body_complete [] r h = refl
 body_complete (b ∷ body) r h = rw (ne_eqb b 0x22 h.0.0, le-ltb b 0x20 h.0.1, ne_eqb b 0x5c h.0.2, body_complete body r h.1) refl
 
--- characters as rows that show themselves
-rows_shown : (cs : List ℕ) → encode_utf8_all cs ≡ flat_map row_bytes (map raw cs)
-rows_shown [] = refl
-rows_shown (c ∷ cs) = ap (λ (ys : List ℕ). encode_utf8 c ++ ys) (rows_shown cs)
+-- characters as forms that show themselves
+forms_shown : (cs : List ℕ) → encode_utf8_all cs ≡ flat_map form_bytes (map raw cs)
+forms_shown [] = refl
+forms_shown (c ∷ cs) = ap (λ (ys : List ℕ). encode_utf8 c ++ ys) (forms_shown cs)
 
--- characters as rows that mean themselves
-rows_meant : (cs : List ℕ) → encode_utf8_all cs ≡ flat_map (λ r. encode_utf8 (row_character r)) (map raw cs)
-rows_meant [] = refl
-rows_meant (c ∷ cs) = ap (λ (ys : List ℕ). encode_utf8 c ++ ys) (rows_meant cs)
+-- characters as forms that mean themselves
+forms_meant : (cs : List ℕ) → encode_utf8_all cs ≡ flat_map (λ r. encode_utf8 (form_character r)) (map raw cs)
+forms_meant [] = refl
+forms_meant (c ∷ cs) = ap (λ (ys : List ℕ). encode_utf8 c ++ ys) (forms_meant cs)
 
 -- a character whose bytes may stand in a body may stand there
-row_from_bytes : (c : ℕ) → IsScalar c → AllByRecursion IsInner (encode_utf8 c) → IsRow (raw c)
-row_from_bytes c s h =
+form_from_bytes : (c : ℕ) → IsScalar c → AllByRecursion IsInner (encode_utf8 c) → IsCharacterForm (raw c)
+form_from_bytes c s h =
     elim (cases_lt c 128) [
       | inl lt ↦ let one = subst (λ (ys : List ℕ). AllByRecursion IsInner ys) (encode_ascii c lt) h in (s, one.0.1, one.0.0, one.0.2)
       | inr le ↦ (s, omega arith, λ e. omega arith, λ e. omega arith)
     ]
 
 -- likewise each character of a text
-rows_from_bytes : (cs : List ℕ) → all_scalars cs ≡ true → AllByRecursion IsInner (encode_utf8_all cs) → AllByRecursion IsRow (map raw cs)
-rows_from_bytes [] s h = tt
-rows_from_bytes (c ∷ cs) s h =
+forms_from_bytes : (cs : List ℕ) → all_scalars cs ≡ true → AllByRecursion IsInner (encode_utf8_all cs) → AllByRecursion IsCharacterForm (map raw cs)
+forms_from_bytes [] s h = tt
+forms_from_bytes (c ∷ cs) s h =
     let p = and_parts _ _ s in
     let k = AllByRecursion-parts IsInner (encode_utf8 c) (encode_utf8_all cs) h in
-    (row_from_bytes c p.0 k.0, rows_from_bytes cs p.1 k.1)
+    (form_from_bytes c p.0 k.0, forms_from_bytes cs p.1 k.1)
 
 -- UTF-8 with such bytes means itself
 Means-itself : (body : List ℕ) → IsUtf8 body → AllByRecursion IsInner body → Means body body
 Means-itself body u h = record {
-  rows = map raw u.0;
-  are_rows = rows_from_bytes u.0 u.1.0 (subst (λ (ys : List ℕ). AllByRecursion IsInner ys) (sym u.1.1) h);
-  shown = sym u.1.1 ∙ rows_shown u.0;
-  meant = sym u.1.1 ∙ rows_meant u.0;
+  forms = map raw u.0;
+  are_forms = forms_from_bytes u.0 u.1.0 (subst (λ (ys : List ℕ). AllByRecursion IsInner ys) (sym u.1.1) h);
+  shown = sym u.1.1 ∙ forms_shown u.0;
+  meant = sym u.1.1 ∙ forms_meant u.0;
 }
 
 -- the bytes of a character that may stand there
-bytes_from_row : (c : ℕ) → IsRow (raw c) → AllByRecursion IsInner (encode_utf8 c)
-bytes_from_row c h = recursion_from_All IsInner (encode_utf8 c) (All-from_get_or IsInner (encode_utf8 c) 0 (λ i lt. byte_from_row i lt))
+bytes_from_form : (c : ℕ) → IsCharacterForm (raw c) → AllByRecursion IsInner (encode_utf8 c)
+bytes_from_form c h = recursion_from_All IsInner (encode_utf8 c) (All-from_get_or IsInner (encode_utf8 c) 0 (λ i lt. byte_from_row i lt))
   where
     byte_from_row : (i : ℕ) → i < length (encode_utf8 c) → IsInner (get_or (encode_utf8 c) i 0)
     byte_from_row i lt =
@@ -92,16 +92,16 @@ bytes_from_row c h = recursion_from_All IsInner (encode_utf8 c) (All-from_get_or
           | inr high ↦ (λ e. omega arith, omega arith, λ e. omega arith)
         ]
 
--- without a backslash each row is a character that shows itself
-plain_rows : (rows : List Row) → AllByRecursion IsRow rows → Plain (flat_map row_bytes rows) → (flat_map (λ r. encode_utf8 (row_character r)) rows ≡ flat_map row_bytes rows) × AllByRecursion IsInner (flat_map row_bytes rows) × IsUtf8 (flat_map row_bytes rows)
-plain_rows [] h p = (refl, tt, IsUtf8-nil)
-plain_rows (raw c ∷ rows) h p =
-    let q = AllByRecursion-parts (λ b. b ≢ 0x5c) (encode_utf8 c) (flat_map row_bytes rows) p in
-    let k = plain_rows rows h.1 q.1 in
-    (ap (λ (ys : List ℕ). encode_utf8 c ++ ys) k.0, AllByRecursion-append IsInner (encode_utf8 c) (flat_map row_bytes rows) (bytes_from_row c h.0) k.1, IsUtf8-append (encode_utf8 c) (flat_map row_bytes rows) (IsUtf8-encode c h.0.0) k.2)
-plain_rows (short letter ∷ rows) h p = absurd (p.0 refl)
-plain_rows (unit ds ∷ rows) h p = absurd (p.0 refl)
-plain_rows (pair high low ∷ rows) h p = absurd (p.0 refl)
+-- without a backslash each form is a character that shows itself
+plain_forms : (forms : List CharacterForm) → AllByRecursion IsCharacterForm forms → Plain (flat_map form_bytes forms) → (flat_map (λ r. encode_utf8 (form_character r)) forms ≡ flat_map form_bytes forms) × AllByRecursion IsInner (flat_map form_bytes forms) × IsUtf8 (flat_map form_bytes forms)
+plain_forms [] h p = (refl, tt, IsUtf8-nil)
+plain_forms (raw c ∷ forms) h p =
+    let q = AllByRecursion-parts (λ b. b ≢ 0x5c) (encode_utf8 c) (flat_map form_bytes forms) p in
+    let k = plain_forms forms h.1 q.1 in
+    (ap (λ (ys : List ℕ). encode_utf8 c ++ ys) k.0, AllByRecursion-append IsInner (encode_utf8 c) (flat_map form_bytes forms) (bytes_from_form c h.0) k.1, IsUtf8-append (encode_utf8 c) (flat_map form_bytes forms) (IsUtf8-encode c h.0.0) k.2)
+plain_forms (short letter ∷ forms) h p = absurd (p.0 refl)
+plain_forms (unit ds ∷ forms) h p = absurd (p.0 refl)
+plain_forms (pair high low ∷ forms) h p = absurd (p.0 refl)
 
 -- what is found is a string with no backslash
 pub string_at-sound : Sound string_at IsText
@@ -128,7 +128,7 @@ string_at-complete s front r h =
     let m = h.0.means in
     let inner : Plain (body ++ 0x22 ∷ []) = (subst (λ (ys : List ℕ). Plain ys) h.0.parts h.1).1 in
     let plain : Plain body = (AllByRecursion-parts (λ b. b ≢ 0x5c) body (0x22 ∷ []) inner).0 in
-    let q = plain_rows m.rows m.are_rows (subst (λ (ys : List ℕ). Plain ys) m.shown plain) in
+    let q = plain_forms m.forms m.are_forms (subst (λ (ys : List ℕ). Plain ys) m.shown plain) in
     let same : body ≡ s = m.shown ∙ sym q.0 ∙ sym m.meant in
     let bytes : AllByRecursion IsInner body = subst (λ (ys : List ℕ). AllByRecursion IsInner ys) (sym m.shown) q.1 in
     let utf8 : is_utf8 body ≡ true = is_utf8-from_IsUtf8 body (subst (λ (ys : List ℕ). IsUtf8 ys) (sym m.shown) q.2) in

@@ -2,13 +2,12 @@
 use Rattle.std.proofs.Common.{◌≡◌, ℕ, ◌≤◌, ◌⊎◌, List, [], ◌∷◌, ◌++◌, length, Option, Some, None, refl, inl, inr, arith}
 use Rattle.std.proofs.lemmas.Bool.{cases_lt}
 use Rattle.sj_base.specs.Tree.{Tree}
-use Rattle.sj_base.specs.Document.{longest}
+use Rattle.sj_base.specs.Spelling.{longest}
 use Rattle.sj_base.specs.Text.{text}
 use Rattle.sj_base.specs.declared.error.Error.{Error}
 use Rattle.sj_base.specs.declared.error.ErrorType.TheVariants.{Eof, NoStructure}
-use Rattle.sj_records.specs.declared.form.Form.{Form}
-use Rattle.sj_records.specs.Command.{Step}
-use Rattle.sj_records.specs.Reading.{line_at, after_spaces}
+use Rattle.sj_records.specs.Step.{Job}
+use Rattle.sj_records.specs.inside.Reading.{line_at, after_spaces}
 use Rattle.sj_records.specs.Record.{PlainDocument, IsNoPlainDocument, IsFault, fault_at_no_byte, fault_record, outcome, IsRecord, AreRecords}
 use Rattle.sj_records.proofs.Sound.{line_at-sound}
 use Rattle.sj_records.proofs.Complete.{IsNoPlainDocument-from_none}
@@ -31,16 +30,16 @@ is_document_or_none line limit =
       | inr short ↦ decided line limit (line_at limit line) short refl
     ]
 
-pub IsRecord-exists : (line : List ℕ) (script : List Step) (limit : ℕ) (form : Form) → (bytes : List ℕ) × IsRecord line script limit form bytes
-IsRecord-exists line script limit form =
-    elim (is_document_or_none line limit) [
-      | inl found ↦ (text (outcome found.0 script limit form), inl (found.0, found.1, refl))
+pub IsRecord-exists : (job : Job) (line : List ℕ) → (bytes : List ℕ) × IsRecord job line bytes
+IsRecord-exists job line =
+    elim (is_document_or_none line job.limit) [
+      | inl found ↦ (text (outcome job found.0), inl (found.0, found.1, refl))
       | inr none ↦ let fault = fault_from line (after_spaces line) refl in (text (fault_record fault.0), inr (none, (fault.0, fault.1, refl)))
     ]
 
-pub AreRecords-exist : (ls : List (List ℕ)) (script : List Step) (limit : ℕ) (form : Form) → (bytes : List ℕ) × AreRecords ls script limit form bytes
-AreRecords-exist [] script limit form = ([], refl)
-AreRecords-exist (line ∷ ls) script limit form =
-    let first = IsRecord-exists line script limit form in
-    let rest = AreRecords-exist ls script limit form in
+pub AreRecords-exist : (job : Job) (ls : List (List ℕ)) → (bytes : List ℕ) × AreRecords job ls bytes
+AreRecords-exist job [] = ([], refl)
+AreRecords-exist job (line ∷ ls) =
+    let first = IsRecord-exists job line in
+    let rest = AreRecords-exist job ls in
     (first.0 ++ 0x0a ∷ rest.0, (first.0, rest.0, refl, first.1, rest.1))

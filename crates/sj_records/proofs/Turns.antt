@@ -3,9 +3,9 @@ use Rattle.std.proofs.Common.{◌≡◌, ℕ, zero, suc, ◌+◌, ◌-◌, ◌<�
 use Rattle.std.proofs.lemmas.List.{length-append}
 use Rattle.sj_base.specs.Tree.{Tree, Members, no_members}
 use Rattle.sj_base.specs.Keep.{keep, keep_members}
-use Rattle.sj_records.specs.Reading.{Reader, mapped, padded_at, elements_at, sequence_at, value_at, pair_at, members_of}
-use Rattle.sj_records.specs.Kept.{add_member}
-use Rattle.sj_records.specs.Building.{kept_items, kept_members, after_byte}
+use Rattle.sj_records.specs.inside.Reading.{Reader, mapped, padded_at, elements_at, sequence_at, value_at, pair_at, members_of}
+use Rattle.sj_records.specs.inside.Kept.{add_member}
+use Rattle.sj_records.specs.inside.Building.{kept_items, kept_members, after_byte}
 use Rattle.sj_records.proofs.Kept.{kept_onto, kept_onto-is}
 use Rattle.sj_records.proofs.Steps.{Takes}
 use Rattle.sj_records.proofs.Spaces.{padded_at-sound}

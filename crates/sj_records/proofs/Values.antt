@@ -5,7 +5,7 @@ use Rattle.std.proofs.lemmas.Bool.{eqb-true, ne_eqb}
 use Rattle.sj_base.specs.Tree.{Tree, null, boolean, integer, decimal, string, list, object, Items, Members, depth}
 use Rattle.sj_base.specs.Spelling.{IsSpace, SpellsValue}
 use Rattle.sj_records.specs.Record.{HasNoDecimal}
-use Rattle.sj_records.specs.Reading.{Reader, mapped, after_spaces, after_word, word_at, string_at, integer_at, scalar_at, value_with, items_of, members_of}
+use Rattle.sj_records.specs.inside.Reading.{Reader, mapped, after_spaces, after_word, word_at, string_at, integer_at, scalar_at, value_with, items_of, members_of}
 use Rattle.sj_records.proofs.Steps.{Takes, Sound, Complete, Plain, cond_parts, guard_parts, map_parts, mapped_parts}
 use Rattle.sj_records.proofs.Spaces.{NoDigitFirst}
 use Rattle.sj_records.proofs.Strings.{IsText, string_at-sound, string_at-complete}

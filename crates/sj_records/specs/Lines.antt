@@ -11,17 +11,17 @@ abbrev pub onto_last : ℕ → List (List ℕ) → List ℕ → List ℕ
 onto_last b [] rest = b ∷ rest
 onto_last b (line ∷ lines) rest = rest
 
--- the parts that a line feed ends, without it
+-- the lines that a line feed ends, without it
 abbrev pub ended : List ℕ → List (List ℕ)
 ended [] = []
 ended (b ∷ bs) = cond (b == 0x0a) ([] ∷ ended bs) (onto_first b (ended bs))
 
--- what stands behind the last line feed
+-- the bytes behind the last line feed
 abbrev pub unended : List ℕ → List ℕ
 unended [] = []
 unended (b ∷ bs) = cond (b == 0x0a) (unended bs) (onto_last b (ended bs) (unended bs))
 
--- the part behind the last line feed, which is a line exactly if it isn't empty
+-- the bytes behind the last line feed, which are a line exactly if there are any
 abbrev pub if_any : List ℕ → List (List ℕ)
 if_any [] = []
 if_any (b ∷ bs) = (b ∷ bs) ∷ []

@@ -3,16 +3,15 @@ use Rattle.std.specs.Prelude.{◌≡◌, ◌≢◌, ◌⊎◌, ℕ, pos, List, [
 use Rattle.std.specs.List.{AllByRecursion}
 use Rattle.sj_base.specs.Tree.{Tree, null, boolean, integer, decimal, string, list, object, Items, no_items, item, Members, no_members, member}
 use Rattle.sj_base.specs.Spelling.{AreSpaces}
-use Rattle.sj_base.specs.Document.{Document}
+use Rattle.sj_base.specs.Spelling.{Document}
 use Rattle.sj_base.specs.Text.{text}
 use Rattle.sj_base.specs.Names.{name_of}
 use Rattle.sj_base.specs.declared.error.Error.{Error}
 use Rattle.sj_base.specs.declared.error.ErrorType.{ErrorType}
 use Rattle.sj_base.specs.declared.error.ErrorType.TheVariants.{Eof, NoStructure}
-use Rattle.sj_records.specs.declared.form.Form.{Form}
 use Rattle.sj_records.specs.Command.{Step, Refusal, json, commands_of}
 use Rattle.sj_records.specs.Lines.{lines}
-use Rattle.sj_records.specs.Step.{State, start, replies, after}
+use Rattle.sj_records.specs.Step.{Job, begun, replies, after}
 
 -- no decimal literal, at any level
 abbrev mutual
@@ -43,11 +42,11 @@ pub record PlainDocument (line : List ℕ) (limit : ℕ) (t : Tree) : Type 0 whe
 abbrev pub fault_at_no_byte : ErrorType → Error
 fault_at_no_byte kind = record { error = kind; index = 0; character = None }
 
--- The fault of a line that is none: `Eof` for whitespace alone, else `NoStructure`, at no byte.
+-- The fault of a line that is not a document: `Eof` for whitespace alone, else `NoStructure`, at no byte.
 abbrev pub IsFault : List ℕ → Error → Type 0
 IsFault line e = (AreSpaces line × (e ≡ fault_at_no_byte Eof)) ⊎ ((AreSpaces line → ⊥) × (e ≡ fault_at_no_byte NoStructure))
 
--- no tree is the line's document without backslash and decimal literal
+-- the line is no plain document
 abbrev pub IsNoPlainDocument : List ℕ → ℕ → Type 0
 IsNoPlainDocument line limit = (t : Tree) → PlainDocument line limit t → ⊥
 
@@ -63,34 +62,31 @@ character_of (Some c) = string (encode_utf8 c)
 abbrev pub fault_record : Error → Tree
 fault_record e = object (member (codes "error") (string (name_of e.error)) (member (codes "index") (integer (pos e.index)) (member (codes "character") (character_of e.character) no_members)))
 
--- the state before the first command
-abbrev pub begun : Tree → Form → State
-begun t form = record { tree = start t form; bases = [] }
+-- what a job makes of a line's tree
+abbrev pub outcome : Job → Tree → Tree
+outcome job t = record_of (replies job (begun job t) job.script) (after job (begun job t) job.script).tree
 
--- what a script makes of a line's tree
-abbrev pub outcome : Tree → List Step → ℕ → Form → Tree
-outcome t script limit form = record_of (replies (begun t form) form limit script) (after (begun t form) form limit script).tree
-
--- The record of a line: what the script makes of its tree, where it is a document that is read today, and else its fault.
-abbrev pub IsRecord : List ℕ → List Step → ℕ → Form → List ℕ → Type 0
-IsRecord line script limit form bytes =
-    ((t : Tree) × PlainDocument line limit t × (bytes ≡ text (outcome t script limit form)))
-    ⊎ (IsNoPlainDocument line limit × ((e : Error) × IsFault line e × (bytes ≡ text (fault_record e))))
+-- The record of a line: what the job makes of its tree, where it is a document that is read today, and else its fault.
+abbrev pub IsRecord : Job → List ℕ → List ℕ → Type 0
+IsRecord job line bytes =
+    ((t : Tree) × PlainDocument line job.limit t × (bytes ≡ text (outcome job t)))
+    ⊎ (IsNoPlainDocument line job.limit × ((e : Error) × IsFault line e × (bytes ≡ text (fault_record e))))
 
 -- the records of lines in order, each followed by a line feed
-abbrev pub AreRecords : List (List ℕ) → List Step → ℕ → Form → List ℕ → Type 0
-AreRecords [] script limit form bytes = bytes ≡ []
-AreRecords (line ∷ others) script limit form bytes =
-    (first rest : List ℕ) × (bytes ≡ first ++ 0x0a ∷ rest) × IsRecord line script limit form first × AreRecords others script limit form rest
+abbrev pub AreRecords : Job → List (List ℕ) → List ℕ → Type 0
+AreRecords job [] bytes = bytes ≡ []
+AreRecords job (line ∷ others) bytes =
+    (first rest : List ℕ) × (bytes ≡ first ++ 0x0a ∷ rest) × IsRecord job line first × AreRecords job others rest
 
--- what is written for a stream
-abbrev pub IsOutput : List ℕ → List Step → ℕ → Form → List ℕ → Type 0
-IsOutput stream script limit form bytes = AreRecords (lines stream) script limit form bytes
+-- the output for a stream
+abbrev pub IsOutput : Job → List ℕ → List ℕ → Type 0
+IsOutput job stream bytes = AreRecords job (lines stream) bytes
 
--- What a script's bytes are read as: the commands of the tree, or the first refusal. Its limit is 1024 levels.
+-- the most levels that a script nests
 abbrev pub script_limit : ℕ
 script_limit = 1024
 
+-- What a script's bytes are read as: the commands of its document, or the first refusal.
 abbrev pub IsReadAs : List ℕ → Result (List Step) Refusal → Type 0
 IsReadAs bytes r =
     ((t : Tree) × PlainDocument bytes script_limit t × (r ≡ commands_of t))

@@ -7,14 +7,24 @@ use Rattle.sj_records.specs.declared.form.Form.{Form}
 use Rattle.sj_records.specs.declared.form.Form.TheVariants.{Owned}
 use Rattle.sj_records.specs.Command.{Step, get}
 
+-- What is done to each line of a stream.
+pub record Job : Type 0 where
+  pub script : List Step  -- the commands, in order
+  pub limit : ℕ  -- the levels that a document may nest
+  pub form : Form  -- how the document is kept meanwhile
+
 -- the document, and the trees on which the writes were tested that were not refused, newest first
 pub record State : Type 0 where
   pub tree : Tree
   pub bases : List Tree
 
--- the tree on which a form begins
+-- the tree with which a form begins
 abbrev pub start : Tree → Form → Tree
 start t Owned = keep t
+
+-- the state before the first command
+abbrev pub begun : Job → Tree → State
+begun job t = record { tree = start t job.form; bases = [] }
 
 -- A value that is written at the end of a path stays within the depth limit, in place of what stands
 -- there, or one level below it.
@@ -24,20 +34,20 @@ Fits path v limit = length path + depth v ≤ limit
 abbrev pub FitsBelow : List Part → Tree → ℕ → Type 0
 FitsBelow path v limit = length path + 1 + depth v ≤ limit
 
--- nothing or one value, as a reply shows it
+-- the reply of a read: an array of the value, or an empty array
 abbrev pub reply_of : Option Tree → Tree
 reply_of None = list no_items
 reply_of (Some t) = list (item t no_items)
 
--- A read leaves the state.
-abbrev pub step : State → Form → ℕ → Step → Tree × State
-step s form limit (get path) = (reply_of (at s.tree path), s)
+-- the reply to a command, and the state after it, which a read doesn't change
+abbrev pub step : Job → State → Step → Tree × State
+step job s (get path) = (reply_of (at s.tree path), s)
 
--- the replies along a script, in order, and the state after it
-abbrev pub replies : State → Form → ℕ → List Step → Items
-replies s form limit [] = no_items
-replies s form limit (c ∷ cs) = item (step s form limit c).0 (replies (step s form limit c).1 form limit cs)
+-- the replies to these commands, in order, and the state after them
+abbrev pub replies : Job → State → List Step → Items
+replies job s [] = no_items
+replies job s (c ∷ cs) = item (step job s c).0 (replies job (step job s c).1 cs)
 
-abbrev pub after : State → Form → ℕ → List Step → State
-after s form limit [] = s
-after s form limit (c ∷ cs) = after (step s form limit c).1 form limit cs
+abbrev pub after : Job → State → List Step → State
+after job s [] = s
+after job s (c ∷ cs) = after job (step job s c).1 cs

@@ -1,72 +1,52 @@
-//! From a document to the commands of a script.
-ghost use Rattle.std.specs.Prelude.{◌≡◌};
-ghost use Rattle.sj_records.specs.declared.commands.CommandStop.TheVariants.{Memory};
+//! Reading the commands of a script from its document.
 ghost use Rattle.sj_records.specs.Command.{part_of, parts_of, path_of, command_of, commands_from, commands_of, named};
 ghost use Rattle.sj_base.specs.Tree.{list};
 ghost use Rattle.sj_base.specs.Scalar.{static_tree};
-ghost use Rattle.sj_records.specs.View.{tree_of, items_view, part_view, path_view};
-ghost use Rattle.sj_records.specs.ScriptView.{command_view, commands_view};
-ghost use Rattle.sj_records.specs.Refused.{GivesCommand, GivesScript};
+ghost use Rattle.sj_records.specs.inside.Documents.{document_tree, items_view};
+ghost use Rattle.sj_records.specs.Script.{part_view, path_view};
+ghost use Rattle.sj_records.specs.Script.{command_view, commands_view};
+ghost use Rattle.sj_records.specs.inside.ReadErrors.{GivesCommand, GivesScript};
 
 use crate::document::Document;
 use crate::path::PathPart;
+use crate::read_error::ReadError;
 use crate::script::{Command, CommandFault, ScriptFault};
 use sj_base::StaticNode;
-use std::alloc::{AllocError, AllocFailed, Global};
+use std::alloc::Global;
 
-/// Why reading a command stopped.
-#[derive(Clone, Copy, Debug)]
-pub(crate) enum CommandStop {
-    Memory,
-    Fault(CommandFault),
-}
-
-impl From<AllocError> for CommandStop {
-    ghost from_gives = { λ _ e. e ≡ Memory };
-
-    fn from(_e: AllocError) -> CommandStop {
-        CommandStop::Memory
-    }
-}
-
-impl<T: Drop> From<AllocFailed<T>> for CommandStop {
-    ghost from_gives = { λ _ e. e ≡ Memory };
-
-    fn from(_e: AllocFailed<T>) -> CommandStop {
-        CommandStop::Memory
-    }
-}
-
-fn read_part(document: &Document) -> Result<PathPart, CommandStop>
-    ensures { GivesCommand part_view result (part_of (tree_of document.now)) }
+fn read_part(document: &Document) -> Result<PathPart, ReadError<CommandFault>>
+    ensures { GivesCommand part_view result (part_of (document_tree document.now)) }
 {
     match document {
         Document::String(key) => Ok(PathPart::Key(key.clone()?)),
-        Document::Static(scalar) => read_place(*scalar),
-        Document::Array(_) | Document::Object(_) => Err(CommandStop::Fault(CommandFault::BadPath)),
+        Document::Static(scalar) => read_index(*scalar),
+        Document::Array(_) | Document::Object(_) => Err(ReadError::Refused(CommandFault::BadPath)),
     }
 }
 
-fn read_place(scalar: StaticNode) -> Result<PathPart, CommandStop>
+fn read_index(scalar: StaticNode) -> Result<PathPart, ReadError<CommandFault>>
     ensures { GivesCommand part_view result (part_of (static_tree scalar)) }
 {
     match scalar {
         StaticNode::U64(place) => Ok(PathPart::Item(place)),
         StaticNode::I64(place) if place >= 0 => Ok(PathPart::Item(place as u64)),
-        _ => Err(CommandStop::Fault(CommandFault::BadPath)),
+        _ => Err(ReadError::Refused(CommandFault::BadPath)),
     }
 }
 
-fn read_path(alloc: Global, document: &Document) -> Result<Vec<PathPart>, CommandStop>
-    ensures { GivesCommand (λ path. path_view path.items) result (path_of (tree_of document.now)) }
+fn read_path(alloc: Global, document: &Document) -> Result<Vec<PathPart>, ReadError<CommandFault>>
+    ensures { GivesCommand (λ path. path_view path.items) result (path_of (document_tree document.now)) }
 {
     match document {
-        Document::Array(items) => read_parts(alloc, items),
-        _ => Err(CommandStop::Fault(CommandFault::BadPath)),
+        Document::Array(items) => read_path_parts(alloc, items),
+        _ => Err(ReadError::Refused(CommandFault::BadPath)),
     }
 }
 
-fn read_parts(alloc: Global, items: &[Document]) -> Result<Vec<PathPart>, CommandStop>
+fn read_path_parts(
+    alloc: Global,
+    items: &[Document],
+) -> Result<Vec<PathPart>, ReadError<CommandFault>>
     ensures { GivesCommand (λ path. path_view path.items) result (parts_of (items_view items.now)) }
 {
     let mut path = Vec::new(alloc);
@@ -76,49 +56,53 @@ fn read_parts(alloc: Global, items: &[Document]) -> Result<Vec<PathPart>, Comman
     Ok(path)
 }
 
-fn read_command(alloc: Global, document: &Document) -> Result<Command, CommandStop>
-    ensures { GivesCommand command_view result (command_of (tree_of document.now)) }
+fn read_command(alloc: Global, document: &Document) -> Result<Command, ReadError<CommandFault>>
+    ensures { GivesCommand command_view result (command_of (document_tree document.now)) }
 {
     match document {
-        Document::Array(items) => read_items(alloc, items),
-        _ => Err(CommandStop::Fault(CommandFault::NotAnArray)),
+        Document::Array(items) => read_command_items(alloc, items),
+        _ => Err(ReadError::Refused(CommandFault::NotAnArray)),
     }
 }
 
-/// The items of a command: its name, and then its arguments.
-fn read_items(alloc: Global, items: &[Document]) -> Result<Command, CommandStop>
+/// Reads a command from its items, the name and then the arguments.
+fn read_command_items(alloc: Global, items: &[Document]) -> Result<Command, ReadError<CommandFault>>
     ensures { GivesCommand command_view result (command_of (list (items_view items.now))) }
 {
     match items {
-        [Document::String(name), arguments @ ..] => read_named(alloc, name, arguments),
-        _ => Err(CommandStop::Fault(CommandFault::NoName)),
+        [Document::String(name), arguments @ ..] => read_named_command(alloc, name, arguments),
+        _ => Err(ReadError::Refused(CommandFault::NoName)),
     }
 }
 
-fn read_named(alloc: Global, name: &str, arguments: &[Document]) -> Result<Command, CommandStop>
+fn read_named_command(
+    alloc: Global,
+    name: &str,
+    arguments: &[Document],
+) -> Result<Command, ReadError<CommandFault>>
     ensures { GivesCommand command_view result (named name.now (items_view arguments.now)) }
 {
     if name != "get" {
-        return Err(CommandStop::Fault(CommandFault::UnknownName));
+        return Err(ReadError::Refused(CommandFault::UnknownName));
     }
     if arguments.len() != 1 {
-        return Err(CommandStop::Fault(CommandFault::WrongCount));
+        return Err(ReadError::Refused(CommandFault::WrongCount));
     }
     Ok(Command::Get(read_path(alloc, &arguments[0])?))
 }
 
-/// The commands of a script's document.
+/// Reads the commands of a script.
 pub(crate) fn read_commands(alloc: Global, document: &Document) -> Result<Vec<Command>, ScriptFault>
     ensures { GivesScript (λ commands. commands_view commands.items) result
-        (commands_of (tree_of document.now)) }
+        (commands_of (document_tree document.now)) }
 {
     match document {
-        Document::Array(items) => read_all(alloc, items),
+        Document::Array(items) => read_command_list(alloc, items),
         _ => Err(ScriptFault::NotAnArray),
     }
 }
 
-fn read_all(alloc: Global, items: &[Document]) -> Result<Vec<Command>, ScriptFault>
+fn read_command_list(alloc: Global, items: &[Document]) -> Result<Vec<Command>, ScriptFault>
     ensures { GivesScript (λ commands. commands_view commands.items) result
         (commands_from 0 (items_view items.now)) }
 {
@@ -126,8 +110,8 @@ fn read_all(alloc: Global, items: &[Document]) -> Result<Vec<Command>, ScriptFau
     for (place, item) in items.iter().enumerate() {
         match read_command(alloc, item) {
             Ok(command) => commands.push(command)?,
-            Err(CommandStop::Fault(fault)) => return Err(ScriptFault::Command { place, fault }),
-            Err(CommandStop::Memory) => return Err(ScriptFault::Memory),
+            Err(ReadError::Refused(fault)) => return Err(ScriptFault::Command { place, fault }),
+            Err(ReadError::Memory) => return Err(ScriptFault::Memory),
         }
     }
     Ok(commands)

@@ -4,15 +4,16 @@ ghost use Rattle.sj_base.specs.Tree.{list, object};
 ghost use Rattle.sj_base.specs.Path.{key, place, member_at, child, at};
 ghost use Rattle.sj_base.specs.Text.{text};
 ghost use Rattle.sj_records.specs.Step.{reply_of};
-ghost use Rattle.sj_records.specs.Separators.{comma};
-ghost use Rattle.sj_records.specs.View.{tree_of, items_view, members_view, part_view, path_view};
-ghost use Rattle.sj_records.specs.Kept.{add_member};
+ghost use Rattle.sj_records.specs.inside.Documents.{comma};
+ghost use Rattle.sj_records.specs.inside.Documents.{document_tree, items_view, members_view};
+ghost use Rattle.sj_records.specs.Script.{part_view, path_view};
+ghost use Rattle.sj_records.specs.inside.Kept.{add_member};
 
 use crate::path::PathPart;
 use sj_base::{Scalar, StaticNode, put_string, put_text};
 use std::alloc::AllocError;
 
-// An object keeps its members in the order of its text.
+/// A JSON value. An object keeps its members in the order of its text.
 #[derive(Debug, Drop)]
 pub(crate) enum Document {
     Static(StaticNode),
@@ -22,10 +23,10 @@ pub(crate) enum Document {
 }
 
 impl Document {
-    // The part that the path selects.
+    /// Returns the value that the path selects.
     pub(crate) fn get<'d>(&'d self, path: &[PathPart]) -> Option<&'d Document>
-        ensures { option_map (λ d. tree_of d.now) result
-            ≡ at (tree_of self.now) (path_view path.now) }
+        ensures { option_map (λ d. document_tree d.now) result
+            ≡ at (document_tree self.now) (path_view path.now) }
     {
         let mut found = self;
         for part in path {
@@ -34,10 +35,10 @@ impl Document {
         Some(found)
     }
 
-    // Appends the text. Without memory a part of the text may be appended.
+    /// Appends the compact text. A part of it may be appended before an error.
     #[cycle(put)]
     pub(crate) fn put(&self, out: &mut Vec<u8>) -> Result<(), AllocError>
-        ensures { OnOk result (out.new.items ≡ out.old.items ++ text (tree_of self.now)) }
+        ensures { OnOk result (out.new.items ≡ out.old.items ++ text (document_tree self.now)) }
     {
         match self {
             Document::Static(scalar) => put_text(out, &Scalar::Static(*scalar)),
@@ -48,8 +49,8 @@ impl Document {
     }
 
     fn child<'d>(&'d self, part: &PathPart) -> Option<&'d Document>
-        ensures { option_map (λ d. tree_of d.now) result
-            ≡ child (tree_of self.now) (part_view part.now) }
+        ensures { option_map (λ d. document_tree d.now) result
+            ≡ child (document_tree self.now) (part_view part.now) }
     {
         match part {
             PathPart::Key(name) => self.member(name),
@@ -58,7 +59,7 @@ impl Document {
     }
 
     fn member<'d>(&'d self, name: &str) -> Option<&'d Document>
-        ensures { option_map (λ d. tree_of d.now) result ≡ child (tree_of self.now) (key name.now) }
+        ensures { option_map (λ d. document_tree d.now) result ≡ child (document_tree self.now) (key name.now) }
     {
         match self {
             Document::Object(members) => find(members, name),
@@ -67,7 +68,7 @@ impl Document {
     }
 
     fn item(&self, index: u64) -> Option<&Document>
-        ensures { option_map (λ d. tree_of d.now) result ≡ child (tree_of self.now) (place index) }
+        ensures { option_map (λ d. document_tree d.now) result ≡ child (document_tree self.now) (place index) }
     {
         match self {
             Document::Array(items) => items.get(index as usize),
@@ -77,7 +78,7 @@ impl Document {
 }
 
 fn find<'d>(members: &'d [(String, Document)], name: &str) -> Option<&'d Document>
-    ensures { option_map (λ d. tree_of d.now) result
+    ensures { option_map (λ d. document_tree d.now) result
         ≡ member_at (members_view members.now) name.now }
 {
     for member in members {
@@ -88,14 +89,14 @@ fn find<'d>(members: &'d [(String, Document)], name: &str) -> Option<&'d Documen
     None
 }
 
-// Adds a member, unless some member has its key.
+/// Adds a member, unless one has its key.
 pub(crate) fn add_member(
     members: &mut Vec<(String, Document)>,
     key: String,
     value: Document,
 ) -> Result<(), AllocError>
     ensures ok { OnOk result (members_view members.new.items
-        ≡ add_member (members_view members.old.items) (string_bytes key) (tree_of value)) }
+        ≡ add_member (members_view members.old.items) (string_bytes key) (document_tree value)) }
     ensures err { OnErr result (members.new.items ≡ members.old.items) }
 {
     if find(members, &key).is_none() {
@@ -134,7 +135,7 @@ fn put_members(members: &[(String, Document)], out: &mut Vec<u8>) -> Result<(), 
     Ok(())
 }
 
-// A comma before each element but the first.
+/// Appends a comma before each element but the first.
 pub(crate) fn put_comma(place: usize, out: &mut Vec<u8>) -> Result<(), AllocError>
     ensures { OnOk result (out.new.items ≡ out.old.items ++ comma place) }
 {
@@ -144,10 +145,10 @@ pub(crate) fn put_comma(place: usize, out: &mut Vec<u8>) -> Result<(), AllocErro
     Ok(())
 }
 
-// Appends a list of what a path selects: of the part, or of nothing.
+/// Appends an array of the value that a path selects, or an empty array.
 pub(crate) fn put_reply(found: Option<&Document>, out: &mut Vec<u8>) -> Result<(), AllocError>
     ensures { OnOk result (out.new.items
-        ≡ out.old.items ++ text (reply_of (option_map (λ d. tree_of d.now) found.entry))) }
+        ≡ out.old.items ++ text (reply_of (option_map (λ d. document_tree d.now) found.entry))) }
 {
     out.push(b'[')?;
     if let Some(document) = found {

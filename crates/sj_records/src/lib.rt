@@ -6,6 +6,7 @@ mod document;
 mod engine;
 mod form;
 mod path;
+mod read_error;
 mod reader;
 mod run_error;
 mod script;

@@ -1,10 +1,10 @@
 //! Paths into a document.
 
-/// One step of a path.
+/// One part of a path.
 #[derive(Debug, Drop)]
 pub enum PathPart {
-    /// The first member with that key.
+    /// Selects the first member of an object with this key.
     Key(String),
-    /// The item at that place, from 0.
+    /// Selects the item of an array at this index, from 0.
     Item(u64),
 }

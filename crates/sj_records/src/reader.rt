@@ -4,42 +4,19 @@ ghost use Rattle.sj_base.specs.Tree.{Tree, integer};
 ghost use Rattle.sj_base.specs.Spelling.{AreSpaces};
 ghost use Rattle.sj_base.specs.Keep.{keep};
 ghost use Rattle.sj_base.specs.Scalar.{static_tree};
-ghost use Rattle.sj_records.specs.Reading.{mapped, padded_at, scalar_at, value_at, sequence_at, pair_at, is_space, after_spaces, body_at, string_at, digits, after_digits, is_whole, whole_at, integer_at, after_word, word_at};
-ghost use Rattle.sj_records.specs.View.{tree_of, members_view};
-ghost use Rattle.sj_records.specs.Building.{kept_value, kept_items, kept_members, kept_pair, after_byte};
+ghost use Rattle.sj_records.specs.inside.Reading.{mapped, padded_at, scalar_at, value_at, sequence_at, pair_at, is_space, after_spaces, body_at, string_at, digits, after_digits, is_whole, whole_at, integer_at, after_word, word_at};
+ghost use Rattle.sj_records.specs.inside.Documents.{document_tree, members_view};
+ghost use Rattle.sj_records.specs.inside.Building.{kept_value, kept_items, kept_members, kept_pair, after_byte};
 ghost use Rattle.sj_records.specs.Record.{PlainDocument, IsNoPlainDocument};
-ghost use Rattle.sj_records.specs.Stop.{Gives, IfRefused};
-ghost use Rattle.sj_records.specs.declared.reader.Stop.TheVariants.{Memory};
+ghost use Rattle.sj_records.specs.inside.ReadErrors.{Gives, IfRefused};
 
 use crate::document::{Document, add_member};
+use crate::read_error::ReadError;
 use sj_base::StaticNode;
-use std::alloc::{AllocError, AllocFailed, Global};
+use std::alloc::Global;
 
 /// In bytes.
 const LONGEST_LINE: usize = u32::MAX as usize;
-
-/// Why reading stopped.
-#[derive(Clone, Copy, Debug)]
-pub(crate) enum Stop {
-    Memory,
-    Refused,
-}
-
-impl From<AllocError> for Stop {
-    ghost from_gives = { λ _ e. e ≡ Memory };
-
-    fn from(_e: AllocError) -> Stop {
-        Stop::Memory
-    }
-}
-
-impl<T: Drop> From<AllocFailed<T>> for Stop {
-    ghost from_gives = { λ _ e. e ≡ Memory };
-
-    fn from(_e: AllocFailed<T>) -> Stop {
-        Stop::Memory
-    }
-}
 
 fn split_first(bytes: &[u8]) -> Option<(u8, &[u8])>
     ensures { MatchOption result (bytes.now ≡ []) (λ p. bytes.now ≡ p.0 ∷ p.1.now) }
@@ -123,12 +100,12 @@ fn read_text(bytes: &[u8]) -> Option<(&str, &[u8])>
     }
 }
 
-fn read_string(alloc: Global, bytes: &[u8]) -> Result<(String, &[u8]), Stop>
+fn read_string(alloc: Global, bytes: &[u8]) -> Result<(String, &[u8]), ReadError<()>>
     ensures { Gives (λ x. (string_bytes x.0, x.1.now)) result (string_at bytes.now) }
 {
     match read_text(bytes) {
         Some((text, rest)) => Ok((String::from_str(alloc, text)?, rest)),
-        None => Err(Stop::Refused),
+        None => Err(ReadError::Refused(())),
     }
 }
 
@@ -199,8 +176,8 @@ fn read_integer(bytes: &[u8]) -> Option<(StaticNode, &[u8])>
 }
 
 /// A scalar. It keeps no text of the input.
-fn read_scalar(alloc: Global, bytes: &[u8]) -> Result<(Document, &[u8]), Stop>
-    ensures { Gives (λ x. (tree_of x.0, x.1.now)) result (scalar_at bytes.now) }
+fn read_scalar(alloc: Global, bytes: &[u8]) -> Result<(Document, &[u8]), ReadError<()>>
+    ensures { Gives (λ x. (document_tree x.0, x.1.now)) result (scalar_at bytes.now) }
 {
     match bytes {
         [b'"', ..] => {
@@ -212,7 +189,7 @@ fn read_scalar(alloc: Global, bytes: &[u8]) -> Result<(Document, &[u8]), Stop>
         [b'n', ..] => read_word(bytes, b"null", StaticNode::Null),
         _ => match read_integer(bytes) {
             Some((number, rest)) => Ok((Document::Static(number), rest)),
-            None => Err(Stop::Refused),
+            None => Err(ReadError::Refused(())),
         },
     }
 }
@@ -221,31 +198,31 @@ fn read_word<'a>(
     bytes: &'a [u8],
     word: &[u8],
     meaning: StaticNode,
-) -> Result<(Document, &'a [u8]), Stop>
-    ensures { Gives (λ x. (tree_of x.0, x.1.now)) result
+) -> Result<(Document, &'a [u8]), ReadError<()>>
+    ensures { Gives (λ x. (document_tree x.0, x.1.now)) result
         (word_at word.now (static_tree meaning) bytes.now) }
 {
     match skip_word(bytes, word) {
         Some(rest) => Ok((Document::Static(meaning), rest)),
-        None => Err(Stop::Refused),
+        None => Err(ReadError::Refused(())),
     }
 }
 
 /// A value with no whitespace in front. Arrays and objects may nest `depth` levels deep.
 #[cycle(read)]
-fn read_value(alloc: Global, bytes: &[u8], depth: usize) -> Result<(Document, &[u8]), Stop>
-    ensures { Gives (λ x. (tree_of x.0, x.1.now)) result (kept_value (value_at depth bytes.now)) }
+fn read_value(alloc: Global, bytes: &[u8], depth: usize) -> Result<(Document, &[u8]), ReadError<()>>
+    ensures { Gives (λ x. (document_tree x.0, x.1.now)) result (kept_value (value_at depth bytes.now)) }
 {
     if let Some(inner) = skip_byte(bytes, b'[') {
         if depth == 0 {
-            return Err(Stop::Refused);
+            return Err(ReadError::Refused(()));
         }
         let (items, rest) = read_items(alloc, skip_spaces(inner), depth - 1)?;
         return Ok((Document::Array(items), rest));
     }
     if let Some(inner) = skip_byte(bytes, b'{') {
         if depth == 0 {
-            return Err(Stop::Refused);
+            return Err(ReadError::Refused(()));
         }
         let (members, rest) = read_members(alloc, skip_spaces(inner), depth - 1)?;
         return Ok((Document::Object(members), rest));
@@ -255,8 +232,12 @@ fn read_value(alloc: Global, bytes: &[u8], depth: usize) -> Result<(Document, &[
 
 /// A value with whitespace around it.
 #[cycle(read)]
-fn read_padded(alloc: Global, bytes: &[u8], depth: usize) -> Result<(Document, &[u8]), Stop>
-    ensures { Gives (λ x. (tree_of x.0, x.1.now)) result
+fn read_padded(
+    alloc: Global,
+    bytes: &[u8],
+    depth: usize,
+) -> Result<(Document, &[u8]), ReadError<()>>
+    ensures { Gives (λ x. (document_tree x.0, x.1.now)) result
         (kept_value (padded_at (value_at depth) bytes.now)) }
 {
     let (value, rest) = read_value(alloc, skip_spaces(bytes), depth)?;
@@ -265,8 +246,12 @@ fn read_padded(alloc: Global, bytes: &[u8], depth: usize) -> Result<(Document, &
 
 /// The values of a list up to its bracket.
 #[cycle(read)]
-fn read_items(alloc: Global, bytes: &[u8], depth: usize) -> Result<(Vec<Document>, &[u8]), Stop>
-    ensures { Gives (λ x. (map tree_of x.0.items, x.1.now)) result
+fn read_items(
+    alloc: Global,
+    bytes: &[u8],
+    depth: usize,
+) -> Result<(Vec<Document>, &[u8]), ReadError<()>>
+    ensures { Gives (λ x. (map document_tree x.0.items, x.1.now)) result
         (kept_items (sequence_at 0x5d (padded_at (value_at depth)) bytes.now)) }
 {
     let mut items = Vec::new(alloc);
@@ -278,13 +263,13 @@ fn read_items(alloc: Global, bytes: &[u8], depth: usize) -> Result<(Vec<Document
         let (item, after) = read_padded(alloc, rest, depth)?;
         items.push(item)?;
         let Some((separator, more)) = split_first(after) else {
-            return Err(Stop::Refused);
+            return Err(ReadError::Refused(()));
         };
         if separator == b']' {
             return Ok((items, more));
         }
         if separator != b',' {
-            return Err(Stop::Refused);
+            return Err(ReadError::Refused(()));
         }
         rest = more;
     }
@@ -292,8 +277,12 @@ fn read_items(alloc: Global, bytes: &[u8], depth: usize) -> Result<(Vec<Document
 
 /// A key, a colon and a value, each with whitespace around it.
 #[cycle(read)]
-fn read_pair(alloc: Global, bytes: &[u8], depth: usize) -> Result<((String, Document), &[u8]), Stop>
-    ensures { Gives (λ x. ((string_bytes x.0.0, tree_of x.0.1), x.1.now)) result
+fn read_pair(
+    alloc: Global,
+    bytes: &[u8],
+    depth: usize,
+) -> Result<((String, Document), &[u8]), ReadError<()>>
+    ensures { Gives (λ x. ((string_bytes x.0.0, document_tree x.0.1), x.1.now)) result
         (kept_pair (pair_at (value_at depth) bytes.now)) }
 {
     let (key, rest) = read_string(alloc, skip_spaces(bytes))?;
@@ -302,7 +291,7 @@ fn read_pair(alloc: Global, bytes: &[u8], depth: usize) -> Result<((String, Docu
             let (value, rest) = read_padded(alloc, rest, depth)?;
             Ok(((key, value), rest))
         }
-        None => Err(Stop::Refused),
+        None => Err(ReadError::Refused(())),
     }
 }
 
@@ -312,7 +301,7 @@ fn read_members(
     alloc: Global,
     bytes: &[u8],
     depth: usize,
-) -> Result<(Vec<(String, Document)>, &[u8]), Stop>
+) -> Result<(Vec<(String, Document)>, &[u8]), ReadError<()>>
     ensures { Gives (λ x. (members_view x.0.items, x.1.now)) result
         (kept_members (sequence_at 0x7d (pair_at (value_at depth)) bytes.now)) }
 {
@@ -325,29 +314,33 @@ fn read_members(
         let ((key, value), after) = read_pair(alloc, rest, depth)?;
         add_member(&mut members, key, value)?;
         let Some((separator, more)) = split_first(after) else {
-            return Err(Stop::Refused);
+            return Err(ReadError::Refused(()));
         };
         if separator == b'}' {
             return Ok((members, more));
         }
         if separator != b',' {
-            return Err(Stop::Refused);
+            return Err(ReadError::Refused(()));
         }
         rest = more;
     }
 }
 
 /// The document of a line: one value with whitespace around it, or nothing else. No longer line than `u32::MAX` bytes is read.
-pub(crate) fn read_document(alloc: Global, line: &[u8], depth: usize) -> Result<Document, Stop>
-    ensures found { IfOk result (λ d. (t : Tree) × PlainDocument line.now depth t × (tree_of d ≡ keep t)) }
+pub(crate) fn read_document(
+    alloc: Global,
+    line: &[u8],
+    depth: usize,
+) -> Result<Document, ReadError<()>>
+    ensures found { IfOk result (λ d. (t : Tree) × PlainDocument line.now depth t × (document_tree d ≡ keep t)) }
     ensures refused { IfErr result (λ e. IfRefused e (IsNoPlainDocument line.now depth)) }
 {
     if line.len() > LONGEST_LINE {
-        return Err(Stop::Refused);
+        return Err(ReadError::Refused(()));
     }
     let (document, rest) = read_padded(alloc, line, depth)?;
     if !rest.is_empty() {
-        return Err(Stop::Refused);
+        return Err(ReadError::Refused(()));
     }
     Ok(document)
 }

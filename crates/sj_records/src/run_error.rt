@@ -1,22 +1,23 @@
+//! Why a run stops.
 ghost use Rattle.std.specs.Prelude.{◌≡◌};
 ghost use Rattle.sj_records.specs.declared.run_error.RunError.TheVariants.{Memory};
 
 use std::alloc::{AllocError, AllocFailed};
 use thiserror::Error;
 
-/// Why a run did not write the records of all lines. What stands written then is whole records, but for `Write`.
+/// The error of `run`. Only whole records are written before it, except before `Write`.
 #[derive(Clone, Copy, Debug, PartialEq, Eq, Error)]
 pub enum RunError {
-    /// A growth of a line, a document or a record was refused. The records of some first lines stand written.
+    /// An allocation for a line, a document or a record failed. The records of the first k lines are written, for some k.
     #[error("Memory")]
     Memory,
-    /// A write failed, was interrupted or took no byte. A prefix of the output stands written.
+    /// A write failed, was interrupted or took no byte. A prefix of the output is written.
     #[error("Write")]
     Write,
-    /// A read failed other than by an interruption. The records of the lines that a line feed had ended stand written.
+    /// A read failed other than by an interruption. The records of the lines that a line feed ended are written.
     #[error("Read")]
     Read,
-    /// The reader gave no end within 2^62 reads. The same stands written as after `Read`.
+    /// The reader gave no end within 2^62 reads. The same records are written as before `Read`.
     #[error("TooManyReads")]
     TooManyReads,
 }

@@ -1,15 +1,14 @@
-//! Scripts.
-ghost use Rattle.std.specs.Prelude.{◌≡◌, ◌<◌, ◌++◌, Ok, length, slice_get, Some, IfOk, IfErr, OnOk, OnErr, IsTrue, ◌↔◌};
+//! Scripts: their commands, and why bytes are no script.
+ghost use Rattle.std.specs.Prelude.{◌≡◌, ◌<◌, Ok, length, slice_get, Some, IfOk, IfErr, IsTrue, ◌↔◌};
 ghost use Rattle.sj_records.specs.declared.script.ScriptFault.TheVariants.{Memory};
 ghost use Rattle.sj_records.specs.Record.{IsReadAs};
-ghost use Rattle.sj_records.specs.Refused.{IsRefusedAs};
-ghost use Rattle.sj_records.specs.ScriptView.{command_view, steps_of};
-ghost use Rattle.sj_records.specs.FaultText.{fault_text, command_fault_name};
-ghost use Rattle.std.specs.Io.{StartsWith};
+ghost use Rattle.sj_records.specs.Script.{command_view, steps_of, IsRefusedAs, AppendsOrLeaves, fault_text, command_fault_name};
+ghost use Rattle.sj_records.specs.inside.Progress.{AppendsOrGrows};
 
 use crate::commands::read_commands;
 use crate::path::PathPart;
-use crate::reader::{Stop, read_document};
+use crate::read_error::ReadError;
+use crate::reader::read_document;
 use crate::task::fault_of;
 use sj_base::{Error, put_int};
 use std::alloc::{AllocError, AllocFailed, Global};
@@ -20,43 +19,43 @@ const SCRIPT_DEPTH: usize = 1024;
 /// One command of a script.
 #[derive(Debug, Drop)]
 pub enum Command {
-    /// Replies the part that the path selects, in an array, or an empty array.
+    /// Replies with an array of the value that the path selects, or with an empty array.
     Get(Vec<PathPart>),
 }
 
-/// What is wrong with one command of a script.
+/// Why a command of a script is refused.
 #[derive(Clone, Copy, Debug, PartialEq, Eq, thiserror::Error)]
 pub enum CommandFault {
-    /// The command is no array.
+    /// The command is not an array.
     #[error("NotAnArray")]
     NotAnArray,
-    /// It has no first item, or that is no text.
+    /// The command has no first item, or one that is not a string.
     #[error("NoName")]
     NoName,
-    /// No command has that name.
+    /// No command has this name.
     #[error("UnknownName")]
     UnknownName,
-    /// The command of that name has another number of items.
+    /// The command of this name takes another number of arguments.
     #[error("WrongCount")]
     WrongCount,
-    /// The second item is no array of texts and integers not below 0.
+    /// The path is not an array of strings and integers not below 0.
     #[error("BadPath")]
     BadPath,
 }
 
-/// Why a script is refused: the first fault.
+/// Why a script is refused: its first fault.
 #[derive(Clone, Copy, Debug, PartialEq, Eq, thiserror::Error)]
 pub enum ScriptFault {
-    /// The bytes are no document of at most 1024 levels.
+    /// The bytes are not a JSON document of at most 1024 levels.
     #[error("Json")]
     Json(Error),
-    /// The document is no array.
+    /// The document is not an array.
     #[error("NotAnArray")]
     NotAnArray,
-    /// The command at that place, from 0, has a fault.
+    /// The command at index `place`, from 0, is refused.
     #[error("Command")]
     Command { place: usize, fault: CommandFault },
-    /// A growth was refused.
+    /// An allocation failed.
     #[error("Memory")]
     Memory,
 }
@@ -92,10 +91,13 @@ impl CommandFault {
 }
 
 impl ScriptFault {
-    /// Appends the fault's text, or leaves the vector as it was.
+    /// Appends the text that says why the script is refused, as `command 0: UnknownName`.
+    ///
+    /// # Errors
+    ///
+    /// Returns `AllocError` if the vector could not grow. The vector is unchanged then.
     pub fn put_fault(&self, out: &mut Vec<u8>) -> Result<(), AllocError>
-        ensures ok { OnOk result (out.new.items ≡ out.old.items ++ fault_text self.now) }
-        ensures err { OnErr result (out.new.items ≡ out.old.items) }
+        ensures { AppendsOrLeaves result out.old.items out.new.items (fault_text self.now) }
     {
         let len = out.len();
         let result = put_parts(self, out);
@@ -106,10 +108,9 @@ impl ScriptFault {
     }
 }
 
-/// After an error a part of the text stands there.
+/// Appends the fault's text, of which a part is appended before an error.
 fn put_parts(fault: &ScriptFault, out: &mut Vec<u8>) -> Result<(), AllocError>
-    ensures ok { OnOk result (out.new.items ≡ out.old.items ++ fault_text fault.now) }
-    ensures err { OnErr result (StartsWith out.new.items out.old.items) }
+    ensures { AppendsOrGrows result out.old.items out.new.items (fault_text fault.now) }
 {
     match fault {
         ScriptFault::Json(e) => {
@@ -135,8 +136,13 @@ pub struct Script {
 }
 
 impl Script {
-    /// Reads a script: a JSON array of commands, each an array whose first item is its name. The bytes may
-    /// be rewritten.
+    /// Reads a script: a JSON array of commands, each an array of its name and its arguments.
+    ///
+    /// The bytes may be rewritten. A script nests at most 1024 levels.
+    ///
+    /// # Errors
+    ///
+    /// Returns the first fault of the script, or `ScriptFault::Memory` if an allocation failed.
     pub fn read(alloc: Global, bytes: &mut [u8]) -> Result<Script, ScriptFault>
         ensures ok { IfOk result (λ script. IsReadAs bytes.old (Ok (steps_of script))) }
         ensures refused { IfErr result (λ fault. IsRefusedAs fault bytes.old) }
@@ -146,25 +152,26 @@ impl Script {
                 let commands = read_commands(alloc, &document)?;
                 Ok(Script { commands })
             }
-            Err(Stop::Refused) => Err(ScriptFault::Json(fault_of(bytes))),
-            Err(Stop::Memory) => Err(ScriptFault::Memory),
+            Err(ReadError::Refused(())) => Err(ScriptFault::Json(fault_of(bytes))),
+            Err(ReadError::Memory) => Err(ScriptFault::Memory),
         }
     }
 
-    /// The number of commands.
+    /// Returns the number of commands.
     pub fn len(&self) -> usize
         ensures { result ≡ length (steps_of self.now) }
     {
         self.commands.len()
     }
 
+    /// Returns whether the script has no commands.
     pub fn is_empty(&self) -> bool
         ensures { IsTrue result ↔ (length (steps_of self.now) ≡ 0) }
     {
         self.commands.is_empty()
     }
 
-    /// The command at that place, from 0.
+    /// Returns the command at this index, from 0.
     pub fn command(&self, place: usize) -> &Command
         requires { place < length (steps_of self.now) }
         ensures { slice_get (steps_of self.now) place ≡ Some (command_view result.now) }

@@ -1,14 +1,16 @@
-//! The record of one line.
+//! The record of one line, in bytes.
 ghost use Rattle.std.specs.Prelude.{◌≡◌, ℕ, List, ◌∷◌, [], ◌++◌, OnOk};
 ghost use Rattle.sj_base.specs.Tree.{list};
 ghost use Rattle.sj_base.specs.Text.{text};
 ghost use Rattle.sj_records.specs.Record.{IsFault, fault_record, record_of, character_of};
-ghost use Rattle.sj_records.specs.View.{tree_of};
-ghost use Rattle.sj_records.specs.Progress.{Answers, replies_to};
+ghost use Rattle.sj_records.specs.inside.Documents.{document_tree};
+ghost use Rattle.sj_records.specs.Record.{IsRecord};
+ghost use Rattle.sj_records.specs.inside.Progress.{task_job, replies_to};
 
 use crate::document::{Document, put_comma, put_reply};
 use crate::form::Form;
-use crate::reader::{Stop, is_blank, read_document};
+use crate::read_error::ReadError;
+use crate::reader::{is_blank, read_document};
 use crate::script::{Command, Script};
 use sj_base::{Error, ErrorType, put_int, put_string};
 use std::alloc::{AllocError, Global};
@@ -22,7 +24,7 @@ pub(crate) struct Task<'s> {
     pub(crate) form: Form,
 }
 
-/// Makes the record of a line, with its line feed, in the place of what `out` held.
+/// Writes the record of a line and a line feed to `out`, in place of what `out` held.
 pub(crate) fn make_record(
     alloc: Global,
     out: &mut Vec<u8>,
@@ -30,7 +32,7 @@ pub(crate) fn make_record(
     task: Task<'_>,
 ) -> Result<(), AllocError>
     ensures { OnOk result ((bytes : List ℕ) × (out.new.items ≡ bytes ++ 0x0a ∷ [])
-        × Answers task.entry line.now bytes) }
+        × IsRecord (task_job task.entry) line.now bytes) }
 {
     out.clear();
     put_record(alloc, out, line, task)?;
@@ -45,19 +47,19 @@ fn put_record(
     task: Task<'_>,
 ) -> Result<(), AllocError>
     ensures { OnOk result ((bytes : List ℕ) × (out.new.items ≡ out.old.items ++ bytes)
-        × Answers task.entry line.now bytes) }
+        × IsRecord (task_job task.entry) line.now bytes) }
 {
     match read_document(alloc, line, task.depth) {
         Ok(document) => put_outcome(&document, task, out),
-        Err(Stop::Refused) => put_fault_record(fault_of(line), out),
-        Err(Stop::Memory) => Err(AllocError),
+        Err(ReadError::Refused(())) => put_fault_record(fault_of(line), out),
+        Err(ReadError::Memory) => Err(AllocError),
     }
 }
 
-/// Appends the replies to the script's commands, and the document after them.
+/// Appends the record of a document: the replies to the script's commands, and then the document.
 fn put_outcome(document: &Document, task: Task<'_>, out: &mut Vec<u8>) -> Result<(), AllocError>
     ensures { OnOk result (out.new.items ≡ out.old.items
-        ++ text (record_of (replies_to task.entry (tree_of document.now)) (tree_of document.now))) }
+        ++ text (record_of (replies_to task.entry (document_tree document.now)) (document_tree document.now))) }
 {
     out.extend_from_slice(b"{\"replies\":")?;
     put_replies(document, task, out)?;
@@ -69,7 +71,7 @@ fn put_outcome(document: &Document, task: Task<'_>, out: &mut Vec<u8>) -> Result
 
 fn put_replies(document: &Document, task: Task<'_>, out: &mut Vec<u8>) -> Result<(), AllocError>
     ensures { OnOk result (out.new.items ≡ out.old.items
-        ++ text (list (replies_to task.entry (tree_of document.now)))) }
+        ++ text (list (replies_to task.entry (document_tree document.now)))) }
 {
     out.push(b'[')?;
     for (place, command) in task.script.commands().iter().enumerate() {
@@ -82,7 +84,7 @@ fn put_replies(document: &Document, task: Task<'_>, out: &mut Vec<u8>) -> Result
     Ok(())
 }
 
-/// Why a line is no document.
+/// Returns why a line is not a document.
 pub(crate) fn fault_of(line: &[u8]) -> Error
     ensures { IsFault line.now result }
 {

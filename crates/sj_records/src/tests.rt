@@ -1,3 +1,4 @@
+//! Worked lines and scripts, the display texts of errors, and readers and writers that fail.
 ghost use Rattle.std.specs.Prelude.{◌≡◌};
 
 use super::*;
@@ -134,186 +135,168 @@ fn script_of(alloc: Global, text: &str) -> Result<Script, ScriptFault> {
     Script::read(alloc, &mut bytes)
 }
 
-// What a script writes for a stream that comes in pieces of so many bytes.
-fn written(
+// Looks for what a script writes for a stream that comes in pieces of `step` bytes.
+fn expect(
     rt: &impl Abort,
     alloc: Global,
     script: &str,
     stream: &str,
     depth: usize,
     step: usize,
-) -> Vec<u8> {
+    records: &str,
+) {
     let script = script_of(alloc, script).expect(rt, "a script");
     let mut output = Vec::new(alloc);
     let input = Pieces::new(stream.as_bytes(), step);
     let result = run_on(alloc, input, &mut output, &script, depth);
     assert_eq!(rt; result, Ok(()));
-    output
+    assert_eq!(rt; output.as_slice(), records.as_bytes(), "{stream} by {step}");
 }
 
+const NO_DOCUMENT: &str = r#"{"error":"NoStructure","index":0,"character":null}
+"#;
+
+// The record of each line under a script.
 #[test]
-fn rows(rt: HostRuntime) {
-    for (script, stream, output) in [
+fn records(rt: HostRuntime) {
+    for (script, stream, records) in [
         (
-            "[[\"get\",[\"key\"]]]",
-            "{\"key\": \"value\", \"snot\": 42}\n",
-            "{\"replies\":[[\"value\"]],\"document\":{\"key\":\"value\",\"snot\":42}}\n",
+            r#"[["get",["key"]]]"#,
+            r#"{"key": "value", "snot": 42}
+"#,
+            r#"{"replies":[["value"]],"document":{"key":"value","snot":42}}
+"#,
         ),
         (
-            "[[\"get\",[\"a\"]],[\"get\",[\"b\"]]]",
-            "{\"a\":1,\"a\":2}\n",
-            "{\"replies\":[[1],[]],\"document\":{\"a\":1}}\n",
+            r#"[["get",["a"]],["get",["b"]]]"#,
+            r#"{"a":1,"a":2}
+"#,
+            r#"{"replies":[[1],[]],"document":{"a":1}}
+"#,
         ),
         (
-            "[[\"get\",[1]]]",
-            "[-0,[7]]\n",
-            "{\"replies\":[[[7]]],\"document\":[0,[7]]}\n",
-        ),
-        ("[]", "null", "{\"replies\":[],\"document\":null}\n"),
-        (
-            "[]",
-            "[1.5]\n",
-            "{\"error\":\"NoStructure\",\"index\":0,\"character\":null}\n",
+            r#"[["get",[1]]]"#,
+            r#"[-0,[7]]
+"#,
+            r#"{"replies":[[[7]]],"document":[0,[7]]}
+"#,
         ),
         (
-            "[]",
-            "\n",
-            "{\"error\":\"Eof\",\"index\":0,\"character\":null}\n",
+            r#"[["get",[]],["get",[0,"k",1]]]"#,
+            r#" [ {"k" : [true,false]} ] 
+ 
+null"#,
+            r#"{"replies":[[[{"k":[true,false]}]],[false]],"document":[{"k":[true,false]}]}
+{"error":"Eof","index":0,"character":null}
+{"replies":[[null],[]],"document":null}
+"#,
         ),
-        ("[]", "", ""),
-        ("[]", "1\r\n", "{\"replies\":[],\"document\":1}\n"),
         (
-            "[[\"get\",[]],[\"get\",[0,\"k\",1]]]",
-            " [ {\"k\" : [true,false]} ] \n \nnull",
-            "{\"replies\":[[[{\"k\":[true,false]}]],[false]],\"document\":[{\"k\":[true,false]}]}\n\
-             {\"error\":\"Eof\",\"index\":0,\"character\":null}\n\
-             {\"replies\":[[null],[]],\"document\":null}\n",
+            r#"[["get",["package"]],["get",["depends",0]]]"#,
+            r#"{"package": "adduser", "version": "3.134", "depends": ["passwd"]}
+{"package": "alsa-topology-conf", "version": "1.2.5.1-2", "depends": []}
+"#,
+            r#"{"replies":[["adduser"],["passwd"]],"document":{"package":"adduser","version":"3.134","depends":["passwd"]}}
+{"replies":[["alsa-topology-conf"],[]],"document":{"package":"alsa-topology-conf","version":"1.2.5.1-2","depends":[]}}
+"#,
         ),
     ] {
         for step in [1, 2, 65536] {
-            let found = written(&rt, rt.alloc(), script, stream, LIMIT, step);
-            assert_eq!(rt; found.as_slice(), output.as_bytes(), "{stream} by {step}");
+            expect(&rt, rt.alloc(), script, stream, LIMIT, step, records);
         }
     }
 }
 
-// Lines of real package data.
+// The records of streams under the empty script and a depth limit.
 #[test]
-fn packages(rt: HostRuntime) {
-    let script = "[[\"get\",[\"package\"]],[\"get\",[\"depends\",0]]]";
-    for (line, record) in [
+fn streams(rt: HostRuntime) {
+    for (stream, depth, records) in [
+        ("", LIMIT, ""),
         (
-            "{\"package\": \"adduser\", \"version\": \"3.134\", \"installed_size\": 686, \
-             \"depends\": [\"passwd\"]}\n",
-            "{\"replies\":[[\"adduser\"],[\"passwd\"]],\"document\":{\"package\":\"adduser\",\
-             \"version\":\"3.134\",\"installed_size\":686,\"depends\":[\"passwd\"]}}\n",
+            "\n",
+            LIMIT,
+            "{\"error\":\"Eof\",\"index\":0,\"character\":null}\n",
         ),
-        (
-            "{\"package\": \"alsa-topology-conf\", \"version\": \"1.2.5.1-2\", \"depends\": []}\n",
-            "{\"replies\":[[\"alsa-topology-conf\"],[]],\"document\":{\"package\":\
-             \"alsa-topology-conf\",\"version\":\"1.2.5.1-2\",\"depends\":[]}}\n",
-        ),
-    ] {
-        let found = written(&rt, rt.alloc(), script, line, LIMIT, 65536);
-        assert_eq!(rt; found.as_slice(), record.as_bytes(), "{line}");
-    }
-}
-
-#[test]
-fn limits(rt: HostRuntime) {
-    let refused = "{\"error\":\"NoStructure\",\"index\":0,\"character\":null}\n";
-    for (stream, depth, output) in [
+        ("null", LIMIT, "{\"replies\":[],\"document\":null}\n"),
+        ("1\r\n", LIMIT, "{\"replies\":[],\"document\":1}\n"),
         ("[[]]", 2, "{\"replies\":[],\"document\":[[]]}\n"),
-        ("[[]]", 1, refused),
+        ("[[]]", 1, NO_DOCUMENT),
         ("7", 0, "{\"replies\":[],\"document\":7}\n"),
-        ("[]", 0, refused),
+        ("[]", 0, NO_DOCUMENT),
         (
             "18446744073709551615",
             0,
             "{\"replies\":[],\"document\":18446744073709551615}\n",
         ),
-        ("18446744073709551616", 0, refused),
+        ("18446744073709551616", 0, NO_DOCUMENT),
         (
             "-9223372036854775808",
             0,
             "{\"replies\":[],\"document\":-9223372036854775808}\n",
         ),
-        ("-9223372036854775809", 0, refused),
-        ("[01]", 9, refused),
-        ("[1,]", 9, refused),
-        ("{\"a\":1,}", 9, refused),
-        ("1 2", 9, refused),
-        ("\"a\\n\"", 9, refused),
+        ("-9223372036854775809", 0, NO_DOCUMENT),
+        ("[01]", 9, NO_DOCUMENT),
+        ("[1,]", 9, NO_DOCUMENT),
+        ("[1.5]", 9, NO_DOCUMENT),
+        (r#"{"a":1,}"#, 9, NO_DOCUMENT),
+        ("1 2", 9, NO_DOCUMENT),
+        (r#""a\n""#, 9, NO_DOCUMENT),
     ] {
-        let found = written(&rt, rt.alloc(), "[]", stream, depth, 65536);
-        assert_eq!(rt;
-            found.as_slice(),
-            output.as_bytes(),
-            "{stream} under {depth}"
-        );
+        expect(&rt, rt.alloc(), "[]", stream, depth, 65536, records);
     }
+}
+
+fn command_fault(fault: CommandFault) -> ScriptFault {
+    ScriptFault::Command { place: 0, fault }
 }
 
 #[test]
 fn refused_scripts(rt: HostRuntime) -> Result<(), Fail> {
+    let alloc = rt.alloc();
     let none = Error::generic(ErrorType::NoStructure);
     let blank = Error::generic(ErrorType::Eof);
+    let second = ScriptFault::Command {
+        place: 1,
+        fault: CommandFault::UnknownName,
+    };
     for (script, fault, text) in [
-        (
-            "[[\"get\"]]",
-            ScriptFault::Command {
-                place: 0,
-                fault: CommandFault::WrongCount,
-            },
-            "command 0: WrongCount",
-        ),
-        (
-            "[[\"get\",[]],[\"frob\",[]]]",
-            ScriptFault::Command {
-                place: 1,
-                fault: CommandFault::UnknownName,
-            },
-            "command 1: UnknownName",
-        ),
+        ("time", ScriptFault::Json(none), "NoStructure at 0"),
+        (" ", ScriptFault::Json(blank), "Eof at 0"),
         ("{}", ScriptFault::NotAnArray, "NotAnArray"),
         (
-            "[[\"get\",[-1]]]",
-            ScriptFault::Command {
-                place: 0,
-                fault: CommandFault::BadPath,
-            },
-            "command 0: BadPath",
-        ),
-        (
-            "[[]]",
-            ScriptFault::Command {
-                place: 0,
-                fault: CommandFault::NoName,
-            },
-            "command 0: NoName",
-        ),
-        (
             "[7]",
-            ScriptFault::Command {
-                place: 0,
-                fault: CommandFault::NotAnArray,
-            },
+            command_fault(CommandFault::NotAnArray),
             "command 0: NotAnArray",
         ),
         (
-            "[[\"get\",[-1],1]]",
-            ScriptFault::Command {
-                place: 0,
-                fault: CommandFault::WrongCount,
-            },
+            "[[]]",
+            command_fault(CommandFault::NoName),
+            "command 0: NoName",
+        ),
+        (
+            r#"[["get",[]],["frob",[]]]"#,
+            second,
+            "command 1: UnknownName",
+        ),
+        (
+            r#"[["get"]]"#,
+            command_fault(CommandFault::WrongCount),
             "command 0: WrongCount",
         ),
-        ("time", ScriptFault::Json(none), "NoStructure at 0"),
-        (" ", ScriptFault::Json(blank), "Eof at 0"),
+        (
+            r#"[["get",[-1],1]]"#,
+            command_fault(CommandFault::WrongCount),
+            "command 0: WrongCount",
+        ),
+        (
+            r#"[["get",[-1]]]"#,
+            command_fault(CommandFault::BadPath),
+            "command 0: BadPath",
+        ),
     ] {
-        let found = script_of(rt.alloc(), script).err();
+        let found = script_of(alloc, script).err();
         assert_eq!(rt; found, Some(fault), "{script}");
-        let mut out = Vec::from_slice(rt.alloc(), b"is ")?;
+        let mut out = Vec::from_slice(alloc, b"is ")?;
         fault.put_fault(&mut out)?;
         assert_eq!(rt; &out[3..], text.as_bytes(), "{script}");
     }
@@ -321,35 +304,62 @@ fn refused_scripts(rt: HostRuntime) -> Result<(), Fail> {
 }
 
 #[test]
-fn accepted_script(rt: HostRuntime) -> Result<(), Fail> {
-    let script = script_of(rt.alloc(), "[[\"get\",[\"a\",-0]],[\"get\",[]]]");
+fn display_texts(rt: HostRuntime) -> Result<(), Fail> {
+    let alloc = rt.alloc();
+    for (error, text) in [
+        (RunError::Memory, "Memory"),
+        (RunError::Write, "Write"),
+        (RunError::Read, "Read"),
+        (RunError::TooManyReads, "TooManyReads"),
+    ] {
+        assert_eq!(rt; format!(in alloc; "{error}")?.as_str(), text);
+    }
+    for (fault, text) in [
+        (ScriptFault::Json(Error::generic(ErrorType::Eof)), "Json"),
+        (ScriptFault::NotAnArray, "NotAnArray"),
+        (command_fault(CommandFault::NoName), "Command"),
+        (ScriptFault::Memory, "Memory"),
+    ] {
+        assert_eq!(rt; format!(in alloc; "{fault}")?.as_str(), text);
+    }
+    for (fault, text) in [
+        (CommandFault::NotAnArray, "NotAnArray"),
+        (CommandFault::NoName, "NoName"),
+        (CommandFault::UnknownName, "UnknownName"),
+        (CommandFault::WrongCount, "WrongCount"),
+        (CommandFault::BadPath, "BadPath"),
+    ] {
+        assert_eq!(rt; format!(in alloc; "{fault}")?.as_str(), text);
+    }
+    Ok(())
+}
+
+#[test]
+fn accepted_script(rt: HostRuntime) {
+    let script = script_of(rt.alloc(), r#"[["get",["a",-0]],["get",[]]]"#);
     let script = script.expect(&rt, "a script");
-    assert!(rt; !script.is_empty());
-    assert_eq!(rt; script.len(), 2);
+    assert_eq!(rt; (script.len(), script.is_empty()), (2, false));
+    assert!(rt; script.len() > 0);
     let Command::Get(path) = script.command(0);
     assert_eq!(rt; path.len(), 2);
     assert!(rt; matches!(&path[0], PathPart::Key(key) if key.as_str() == "a"));
     assert!(rt; matches!(&path[1], PathPart::Item(0)));
-    let Command::Get(path) = script.command(1);
-    assert!(rt; path.is_empty());
-    let empty = script_of(rt.alloc(), "[]").expect(&rt, "a script");
-    assert!(rt; empty.is_empty());
-    Ok(())
 }
+
+const BOTH: &str = r#"{"replies":[],"document":1}
+{"replies":[],"document":2}
+"#;
 
 #[test]
 fn failing_reader(rt: HostRuntime) {
     let script = script_of(rt.alloc(), "[]").expect(&rt, "a script");
     for step in [1, 65536] {
-        let mut input = Pieces::new(b"1\n2", step);
+        let mut input = Pieces::new(b"1\n2\n3", step);
         input.failure = Some(ErrorKind::Other);
         let mut output = Vec::new(rt.alloc());
         let result = run_on(rt.alloc(), input, &mut output, &script, LIMIT);
         assert_eq!(rt; result, Err(RunError::Read));
-        assert_eq!(rt;
-            output.as_slice(),
-            b"{\"replies\":[],\"document\":1}\n".as_slice()
-        );
+        assert_eq!(rt; output.as_slice(), BOTH.as_bytes());
     }
 }
 
@@ -361,16 +371,14 @@ fn interrupted_reader(rt: HostRuntime) {
     let mut output = Vec::new(rt.alloc());
     let result = run_on(rt.alloc(), input, &mut output, &script, LIMIT);
     assert_eq!(rt; result, Ok(()));
-    let both = b"{\"replies\":[],\"document\":1}\n{\"replies\":[],\"document\":2}\n";
-    assert_eq!(rt; output.as_slice(), both.as_slice());
+    assert_eq!(rt; output.as_slice(), BOTH.as_bytes());
 }
 
 #[test]
 fn narrow_writer(rt: HostRuntime) {
     let script = script_of(rt.alloc(), "[]").expect(&rt, "a script");
-    let whole = b"{\"replies\":[],\"document\":1}\n{\"replies\":[],\"document\":2}\n";
     for refusal in [Refusal::Fails, Refusal::Interrupts, Refusal::TakesNothing] {
-        for room in 0..whole.len() + 1 {
+        for room in 0..BOTH.len() + 1 {
             let mut output = Narrow {
                 taken: Vec::new(rt.alloc()),
                 step: 7,
@@ -379,12 +387,12 @@ fn narrow_writer(rt: HostRuntime) {
             };
             let input: &[u8] = b"1\r\n2";
             let result = run_on(rt.alloc(), input, &mut output, &script, LIMIT);
-            let is_whole = room == whole.len();
+            let is_whole = room == BOTH.len();
             assert_eq!(rt; result.is_ok(), is_whole, "{refusal:?} at {room}");
             assert!(rt; is_whole || result == Err(RunError::Write));
             assert_eq!(rt;
                 output.taken.as_slice(),
-                &whole[..room],
+                &BOTH.as_bytes()[..room],
                 "{refusal:?} at {room}"
             );
         }

@@ -1,6 +1,6 @@
 use Rattle.std.proofs.Common.{◌≡◌, ◌++◌, drop}
 use Rattle.sj_base.specs.Text.{items_text, members_text}
-use Rattle.sj_records.specs.View.{items_view, members_view}
+use Rattle.sj_records.specs.inside.Documents.{items_view, members_view}
 use Rattle.sj_records.proofs.Printed.{items_from, members_from}
 use Rattle.sj_records.proofs.document.+put.Given as goal
 

@@ -1,6 +1,6 @@
 use Rattle.std.proofs.Common.{◌≡◌, drop}
 use Rattle.sj_base.specs.Path.{member_at}
-use Rattle.sj_records.specs.View.{members_view}
+use Rattle.sj_records.specs.inside.Documents.{members_view}
 use Rattle.sj_records.proofs.document.find.Given as goal
 
 abbrev pub invariant-loop-member : goal.invariant-loop-member

@@ -1,14 +1,15 @@
 use Rattle.std.proofs.Common.{◌≡◌, ◌+◌, ◌<◌, vec_len}
-use Rattle.sj_base.specs.Calls.{missed}
+use Rattle.sj_base.specs.Calls.{unsuccessful}
 use Rattle.sj_records.specs.Run.{GoesOn}
+use Rattle.sj_records.specs.inside.Progress.{task_job}
 use Rattle.sj_records.proofs.Running.{Running}
 use Rattle.sj_records.proofs.engine.run_within.Given as goal
 
 abbrev pub invariant-loop : goal.invariant-loop
 invariant-loop g l = record {
-  running : Running l.task (g.R.Source.remaining l.initial.reader) (g.R.Source.remaining l.reader) (g.W.Sink.contents l.initial.writer) (g.W.Sink.contents l.writer) l.pending.line.items;
+  running : Running (task_job l.task) (g.R.Source.remaining l.initial.reader) (g.R.Source.remaining l.reader) (g.W.Sink.contents l.initial.writer) (g.W.Sink.contents l.writer) l.pending.line.items;
   goes_on : GoesOn (g.R.Source.calls l.initial.reader) (g.R.Source.calls l.reader);
   made : (g.R.Source.calls l.reader).made ≡ (g.R.Source.calls l.initial.reader).made + l.counter;
-  written : missed (g.W.Sink.calls l.writer) ≡ missed (g.W.Sink.calls l.initial.writer);
+  written : unsuccessful (g.W.Sink.calls l.writer) ≡ unsuccessful (g.W.Sink.calls l.initial.writer);
   room : 0 < vec_len l.piece;
 }

@@ -1,7 +1,7 @@
 use Rattle.std.proofs.Common.{◌≡◌, ℕ, ◌+◌, ◌*◌, ◌<◌, map, length}
-use Rattle.sj_records.specs.Reading.{padded_at, value_at, pair_at, elements_at, sequence_at}
-use Rattle.sj_records.specs.Building.{kept_items, kept_members}
-use Rattle.sj_records.specs.View.{tree_of, members_view}
+use Rattle.sj_records.specs.inside.Reading.{padded_at, value_at, pair_at, elements_at, sequence_at}
+use Rattle.sj_records.specs.inside.Building.{kept_items, kept_members}
+use Rattle.sj_records.specs.inside.Documents.{document_tree, members_view}
 use Rattle.sj_records.proofs.Turns.{items_after, members_after}
 use Rattle.sj_records.proofs.reader.+read.Given as goal
 
@@ -24,7 +24,7 @@ decreases-read_members l = 4 * l.depth + 3
 abbrev pub invariant-read_items-loop-items : goal.invariant-read_items-loop-items
 invariant-read_items-loop-items l =
     (n : ℕ) × (length l.rest < n)
-    × (kept_items (sequence_at 0x5d (padded_at (value_at l.depth)) l.bytes) ≡ items_after (map tree_of l.items.items) (elements_at 0x5d (padded_at (value_at l.depth)) n l.rest))
+    × (kept_items (sequence_at 0x5d (padded_at (value_at l.depth)) l.bytes) ≡ items_after (map document_tree l.items.items) (elements_at 0x5d (padded_at (value_at l.depth)) n l.rest))
 
 abbrev pub decreases-read_items-loop-items : goal.decreases-read_items-loop-items
 decreases-read_items-loop-items l = length l.rest

@@ -1,5 +1,5 @@
 use Rattle.std.proofs.Common.{◌≡◌, ◌++◌, take, drop}
-use Rattle.sj_records.specs.Reading.{mapped, body_at}
+use Rattle.sj_records.specs.inside.Reading.{mapped, body_at}
 use Rattle.sj_records.proofs.reader.read_body.Given as goal
 
 -- the bytes so far belong to the body

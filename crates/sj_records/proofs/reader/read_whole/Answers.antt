@@ -1,6 +1,6 @@
 use Rattle.std.proofs.Common.{◌≡◌, ◌∙◌, sym, true}
 use Rattle.std.specs.Str.Parse.{ParsesUnsigned}
-use Rattle.sj_records.specs.Reading.{is_whole, digits}
+use Rattle.sj_records.specs.inside.Reading.{is_whole, digits}
 use Rattle.sj_records.proofs.ReadSteps.{whole_at-number, whole_at-too_large}
 use Rattle.sj_records.proofs.reader.read_whole.Goals as goal
 

@@ -1,5 +1,5 @@
 use Rattle.std.proofs.Common.{◌≡◌, length}
-use Rattle.sj_records.specs.Reading.{after_spaces}
+use Rattle.sj_records.specs.inside.Reading.{after_spaces}
 use Rattle.sj_records.proofs.reader.skip_spaces.Given as goal
 
 abbrev pub invariant-loop-first : goal.invariant-loop-first

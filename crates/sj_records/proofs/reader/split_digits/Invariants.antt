@@ -1,5 +1,5 @@
 use Rattle.std.proofs.Common.{◌≡◌, ◌++◌, take, drop}
-use Rattle.sj_records.specs.Reading.{digits, after_digits}
+use Rattle.sj_records.specs.inside.Reading.{digits, after_digits}
 use Rattle.sj_records.proofs.reader.split_digits.Given as goal
 
 -- the bytes so far are digits

@@ -1,14 +1,14 @@
 use Rattle.std.proofs.Common.{ℕ, List, ◌++◌, ◌∷◌, [], ap, ◌∙◌, codes}
 use Rattle.sj_base.specs.Tree.{list}
 use Rattle.sj_base.specs.Text.{text}
-use Rattle.sj_records.specs.View.{tree_of}
-use Rattle.sj_records.specs.Progress.{replies_to}
+use Rattle.sj_records.specs.inside.Documents.{document_tree}
+use Rattle.sj_records.specs.inside.Progress.{replies_to}
 use Rattle.sj_records.proofs.RecordText.{outcome_pieces}
 use Rattle.sj_records.proofs.task.put_outcome.Goals as goal
 
 pub returns : goal.returns
 returns c =
-    let t = tree_of c.args.document.now in
+    let t = document_tree c.args.document.now in
     let rs = replies_to c.args.task t in
     let opened = c.in_ok-extend_from_slice.ensures.items in
     let replied = c.in_ok-put_replies.ensures ∙ ap (λ (b : List ℕ). b ++ text (list rs)) opened in

@@ -6,8 +6,9 @@ use Rattle.sj_records.specs.declared.script.ScriptFault.{ScriptFault}
 use Rattle.sj_records.specs.declared.script.ScriptFault.TheVariants.{Json, NotAnArray, Command, Memory}
 use Rattle.sj_records.specs.Command.{Step, Refusal, commands_of}
 use Rattle.sj_records.specs.Record.{PlainDocument, IsReadAs, script_limit}
-use Rattle.sj_records.specs.Refused.{IsRefusedAs, IsRefusalOf}
-use Rattle.sj_records.specs.View.{tree_of}
+use Rattle.sj_records.specs.Script.{IsRefusedAs}
+use Rattle.sj_records.specs.inside.ReadErrors.{IsRefusalOf}
+use Rattle.sj_records.specs.inside.Documents.{document_tree}
 use Rattle.sj_records.proofs.ScriptSteps.{commands_of-keep}
 use Rattle.sj_records.proofs.script.Script.read.Goals as goal
 
@@ -25,9 +26,9 @@ pub returns-in_err-commands-in-Ok-clause-refused : goal.returns-in_err-commands-
 returns-in_err-commands-in-Ok-clause-refused c =
     let p = err_from_is_err_and c.from_residual.result c.from_residual.ensures.1 in
     let found = c.in-Ok.ensures.found in
-    rw (p.1, p.2) (refused_as c.in_err-commands-in-Ok.field-0.0 c.args.bytes.now (tree_of c.in-Ok.document) found.0 found.1 found.2 c.in_err-commands-in-Ok.ensures)
+    rw (p.1, p.2) (refused_as c.in_err-commands-in-Ok.field-0.0 c.args.bytes.now (document_tree c.in-Ok.document) found.0 found.1 found.2 c.in_err-commands-in-Ok.ensures)
 
 pub returns-in_ok-commands-in-Ok-clause-ok : goal.returns-in_ok-commands-in-Ok-clause-ok
 returns-in_ok-commands-in-Ok-clause-ok c =
     let found = c.in-Ok.ensures.found in
-    read_as c.args.bytes.now (tree_of c.in-Ok.document) found.0 _ found.1 found.2 c.in_ok-commands-in-Ok.ensures
+    read_as c.args.bytes.now (document_tree c.in-Ok.document) found.0 _ found.1 found.2 c.in_ok-commands-in-Ok.ensures

@@ -1,0 +1,65 @@
+-- What the values of the program stand for: the commands of a script, what is done to each line, and a script's fault.
+use Rattle.std.specs.Prelude.{◌≡◌, ℕ, List, map, ◌++◌, codes, decimal, Result, Ok, Err, ⊤}
+use Rattle.std.specs.String.{string_bytes}
+use Rattle.sj_base.specs.Path.{Part, key, place}
+use Rattle.sj_base.specs.Names.{name_of}
+use Rattle.sj_records.specs.declared.path.PathPart.{PathPart}
+use Rattle.sj_records.specs.declared.path.PathPart.TheVariants.{Key, Item}
+use Rattle.sj_records.specs.declared.script.Command.{Command}
+use Rattle.sj_records.specs.declared.script.Command.TheVariants.{Get}
+use Rattle.sj_records.specs.declared.script.CommandFault.{CommandFault}
+use Rattle.sj_records.specs.declared.script.CommandFault.TheVariants as faults
+use Rattle.sj_records.specs.declared.script.Script.{Script}
+use Rattle.sj_records.specs.declared.script.ScriptFault.{ScriptFault}
+use Rattle.sj_records.specs.declared.script.ScriptFault.TheVariants.{Json, NotAnArray, Command as CommandAt, Memory}
+use Rattle.sj_records.specs.declared.form.Form.{Form}
+use Rattle.sj_records.specs.Command.{Step, get, json, not_an_array, command}
+use Rattle.sj_records.specs.Step.{Job}
+use Rattle.sj_records.specs.Record.{IsReadAs}
+
+abbrev pub part_view : PathPart → Part
+part_view (Key k) = key (string_bytes k)
+part_view (Item n) = place n
+
+abbrev pub path_view : List PathPart → List Part
+path_view parts = map part_view parts
+
+abbrev pub command_view : Command → Step
+command_view (Get path) = get (path_view path.items)
+
+abbrev pub commands_view : List Command → List Step
+commands_view commands = map command_view commands
+
+abbrev pub steps_of : Script → List Step
+steps_of script = commands_view script.commands.items
+
+-- a run of the script under the depth limit, with documents in the form
+abbrev pub job_of : Script → ℕ → Form → Job
+job_of script limit form = record { script = steps_of script; limit = limit; form = form }
+
+-- The bytes are refused with this fault. `Memory` says nothing of the bytes.
+abbrev pub IsRefusedAs : ScriptFault → List ℕ → Type 0
+IsRefusedAs (Json e) bytes = IsReadAs bytes (Err (json e))
+IsRefusedAs NotAnArray bytes = IsReadAs bytes (Err not_an_array)
+IsRefusedAs (CommandAt index fault) bytes = IsReadAs bytes (Err (command index fault))
+IsRefusedAs Memory bytes = ⊤
+
+-- The bytes were appended, or the vector is as it was.
+abbrev pub AppendsOrLeaves : {E : Type 0} → Result Unit E → List ℕ → List ℕ → List ℕ → Type 0
+AppendsOrLeaves (Ok done) old new bytes = new ≡ old ++ bytes
+AppendsOrLeaves (Err e) old new bytes = new ≡ old
+
+-- the texts of faults
+
+abbrev pub command_fault_name : CommandFault → List ℕ
+command_fault_name faults.NotAnArray = codes "NotAnArray"
+command_fault_name faults.NoName = codes "NoName"
+command_fault_name faults.UnknownName = codes "UnknownName"
+command_fault_name faults.WrongCount = codes "WrongCount"
+command_fault_name faults.BadPath = codes "BadPath"
+
+abbrev pub fault_text : ScriptFault → List ℕ
+fault_text (Json e) = name_of e.error ++ codes " at " ++ decimal e.index
+fault_text NotAnArray = codes "NotAnArray"
+fault_text (CommandAt index fault) = codes "command " ++ decimal index ++ codes ": " ++ command_fault_name fault
+fault_text Memory = codes "memory"

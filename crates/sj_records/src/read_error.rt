@@ -1,0 +1,28 @@
+//! Why reading stops.
+ghost use Rattle.std.specs.Prelude.{◌≡◌};
+ghost use Rattle.sj_records.specs.declared.read_error.ReadError.TheVariants.{Memory};
+
+use std::alloc::{AllocError, AllocFailed};
+
+/// An allocation failed, or what was read is refused.
+#[derive(Debug, Drop)]
+pub(crate) enum ReadError<T> {
+    Memory,
+    Refused(T),
+}
+
+impl<T> From<AllocError> for ReadError<T> {
+    ghost from_gives = { λ _ e. e ≡ Memory };
+
+    fn from(_e: AllocError) -> ReadError<T> {
+        ReadError::Memory
+    }
+}
+
+impl<T, U: Drop> From<AllocFailed<U>> for ReadError<T> {
+    ghost from_gives = { λ _ e. e ≡ Memory };
+
+    fn from(_e: AllocFailed<U>) -> ReadError<T> {
+        ReadError::Memory
+    }
+}
