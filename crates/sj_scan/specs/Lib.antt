@@ -1,0 +1,4 @@
+pub mod Positions
+pub mod Scan
+pub mod Examples
+pub mod inside

@@ -1,0 +1,2 @@
+-- What clauses of private functions alone cite.
+pub mod State

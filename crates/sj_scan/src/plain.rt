@@ -1,0 +1,146 @@
+//! The scan that reads one byte at a time, the reference for faster ones.
+ghost use Rattle.std.specs.Prelude.{◌≡◌, ℕ, List, [], ◌∷◌, ◌≤◌, None, length, reverse, IfOk, IfErr, OnOk};
+ghost use Rattle.std.specs.Str.{is_utf8};
+ghost use Rattle.sj_scan.specs.Positions.{is_whitespace, is_operator, is_real_quote, is_position, positions};
+ghost use Rattle.sj_scan.specs.Scan.{is_control, has_control, scan_fault, IsFirstFault};
+ghost use Rattle.sj_scan.specs.inside.State.{Follows};
+
+use crate::stage1::{ScanFault, Stage1};
+use simdutf8::basic::from_utf8;
+use std::alloc::AllocError;
+
+/// A scan that reads one byte at a time.
+#[derive(Clone, Copy, Debug, Default)]
+pub struct PlainScan;
+
+impl Stage1 for PlainScan {
+    fn scan(&mut self, bytes: &[u8], out: &mut Vec<u32>) -> Result<(), ScanFault> {
+        out.clear();
+        let scanned = scan_into(bytes, out);
+        if scanned.is_err() {
+            out.clear();
+        }
+        scanned
+    }
+}
+
+// Appends the positions and makes the tests in their order. After a fault `out` may hold some positions.
+fn scan_into(bytes: &[u8], out: &mut Vec<u32>) -> Result<(), ScanFault>
+    requires empty { out.old.items ≡ [] }
+    requires short { length bytes.now ≤ 4294967295 }
+    ensures ok { OnOk result ((scan_fault bytes.now ≡ None) × (out.new.items ≡ positions bytes.now)) }
+    ensures err { IfErr result (IsFirstFault bytes.now) }
+{
+    if !is_utf8(bytes) {
+        return Err(ScanFault::Utf8);
+    }
+    let end = find_positions(bytes, out)?;
+    if end.state.inside {
+        return Err(ScanFault::Unclosed);
+    }
+    if end.has_control {
+        return Err(ScanFault::Control);
+    }
+    if out.is_empty() {
+        return Err(ScanFault::NoToken);
+    }
+    Ok(())
+}
+
+fn is_utf8(bytes: &[u8]) -> bool
+    ensures { result ≡ is_utf8 bytes.now }
+{
+    from_utf8(bytes).is_ok()
+}
+
+// What a walk over a whole text finds, beside its positions.
+#[derive(Clone, Copy)]
+struct End {
+    state: State,
+    has_control: bool,
+}
+
+fn find_positions(bytes: &[u8], out: &mut Vec<u32>) -> Result<End, AllocError>
+    requires empty { out.old.items ≡ [] }
+    requires short { length bytes.now ≤ 4294967295 }
+    ensures positions { OnOk result (out.new.items ≡ positions bytes.now) }
+    ensures state { IfOk result (λ end. Follows (reverse bytes.now) end.state) }
+    ensures control { IfOk result (λ end. end.has_control ≡ has_control bytes.now) }
+{
+    let mut state = State::start();
+    let mut has_control = false;
+    for (place, byte) in bytes.iter().enumerate() {
+        if state.is_position(*byte) {
+            out.push(place as u32)?;
+        }
+        has_control |= state.is_control(*byte);
+        state = state.next(*byte);
+    }
+    Ok(End { state, has_control })
+}
+
+// What the tests at a place need to know of the bytes before it.
+#[derive(Clone, Copy)]
+struct State {
+    // The run of backslashes directly before has odd length.
+    odd_backslashes: bool,
+    // A string is open.
+    inside: bool,
+    // Nothing, whitespace, an operator or a real quote stands directly before.
+    separated: bool,
+}
+
+impl State {
+    fn start() -> State
+        ensures { Follows [] result }
+    {
+        State {
+            odd_backslashes: false,
+            inside: false,
+            separated: true,
+        }
+    }
+
+    fn is_real_quote(self, byte: u8) -> bool
+        ensures { (before : List ℕ) → Follows before self → result ≡ is_real_quote before byte }
+    {
+        byte == b'"' && !self.odd_backslashes
+    }
+
+    fn is_position(self, byte: u8) -> bool
+        ensures { (before : List ℕ) → Follows before self → result ≡ is_position before byte }
+    {
+        !self.inside
+            && !is_whitespace(byte)
+            && (is_operator(byte) || self.is_real_quote(byte) || self.separated)
+    }
+
+    fn is_control(self, byte: u8) -> bool
+        ensures { (before : List ℕ) → Follows before self → result ≡ is_control before byte }
+    {
+        byte < b' ' && self.inside
+    }
+
+    fn next(self, byte: u8) -> State
+        ensures { (before : List ℕ) → Follows before self → Follows (byte ∷ before) result }
+    {
+        let is_real_quote = self.is_real_quote(byte);
+        State {
+            odd_backslashes: (byte == b'\\') & !self.odd_backslashes,
+            inside: self.inside ^ is_real_quote,
+            separated: is_whitespace(byte) | is_operator(byte) | is_real_quote,
+        }
+    }
+}
+
+fn is_whitespace(byte: u8) -> bool
+    ensures { result ≡ is_whitespace byte }
+{
+    byte == b' ' || byte == b'\t' || byte == b'\n' || byte == b'\r'
+}
+
+fn is_operator(byte: u8) -> bool
+    ensures { result ≡ is_operator byte }
+{
+    byte == b'{' || byte == b'}' || byte == b'[' || byte == b']' || byte == b':' || byte == b','
+}

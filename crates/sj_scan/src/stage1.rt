@@ -1,0 +1,58 @@
+//! The trait of scans and their errors.
+ghost use Rattle.std.specs.Prelude.{◌≡◌, ◌≤◌, length};
+ghost use Rattle.sj_scan.specs.declared.stage1.ScanFault.TheVariants.{Memory};
+ghost use Rattle.sj_scan.specs.Scan.{Scans};
+
+use std::alloc::{AllocError, AllocFailed};
+use thiserror::Error;
+
+/// An error of a scan. A text that fails several tests gives the first of them, in the order of the variants.
+#[derive(Clone, Copy, Debug, PartialEq, Eq, Error)]
+pub enum ScanFault {
+    /// The text is not UTF-8.
+    #[error("Utf8")]
+    Utf8,
+    /// A string has no closing quote.
+    #[error("Unclosed")]
+    Unclosed,
+    /// A string holds a byte below 0x20.
+    #[error("Control")]
+    Control,
+    /// The text is empty or only whitespace.
+    #[error("NoToken")]
+    NoToken,
+    /// There was no memory for the positions. This can stand in place of any other answer.
+    #[error("Memory")]
+    Memory,
+}
+
+impl From<AllocError> for ScanFault {
+    ghost from_gives = { λ _ fault. fault ≡ Memory };
+
+    fn from(_error: AllocError) -> ScanFault {
+        ScanFault::Memory
+    }
+}
+
+impl<T: Drop> From<AllocFailed<T>> for ScanFault {
+    ghost from_gives = { λ _ fault. fault ≡ Memory };
+
+    fn from(_error: AllocFailed<T>) -> ScanFault {
+        ScanFault::Memory
+    }
+}
+
+/// Finds the positions of a text (`simd_json::Stage1Parse`).
+pub trait Stage1 {
+    /// Replaces the contents of `out` with the positions of a text.
+    ///
+    /// Positions are offsets in bytes, in rising order. The text has at most `u32::MAX` bytes.
+    ///
+    /// # Errors
+    ///
+    /// `Utf8`, `Unclosed`, `Control` or `NoToken` if the text fails that test and none before it, `Memory` if there is
+    /// no memory for the positions. `out` is then empty.
+    fn scan(&mut self, bytes: &[u8], out: &mut Vec<u32>) -> Result<(), ScanFault>
+        requires { length bytes.now ≤ 4294967295 }
+        ensures { Scans bytes.now result out.new.items };
+}
