@@ -1,0 +1,156 @@
+-- The tests on numbers hold of what the grammar calls a number.
+use Rattle.std.specs.Prelude.{◌≡◌, ℕ, zero, suc, ℤ, ◌≤◌, ◌^◌, ◌⊎◌, Bool, true, false, not, ◌||◌, List, [], ◌∷◌, ◌++◌}
+use Rattle.std.specs.List.{AllByRecursion, list_all}
+use Rattle.std.specs.Char.{is_ascii_digit, IsAsciiDigit}
+use Rattle.std.specs.Str.Parse.{digits_value}
+use Rattle.std.proofs.Common.{refl, sym, ap, ap₂, ◌∙◌, subst, inl, inr, arith, append-nil}
+use Rattle.std.proofs.lemmas.Bool.{and_right, lt-leb, and_parts, and_from, or_cases, or_left, or_right, or_from, false_from_ne_true, agree_below_at, leb-true, le-leb, ltb-true, lt-ltb}
+use Rattle.sj_base.specs.Tree.{IsInRange, integer, decimal}
+use Rattle.sj_base.specs.Number.{minus, signed, SpellsInteger, IsDecimal}
+use Rattle.sj_base.specs.Spelling.{SpellsValue}
+use Rattle.sj_base.proofs.Literals.{to_test}
+use Rattle.sj_base.proofs.NumberBytes.{IsInNumber, whole_digits, fraction_start, exponent_start, integer_parts, no_decimal, integer_bytes, decimal_bytes, number_first}
+use Rattle.sj_parse.specs.Numbers.{is_negative, magnitude, front_digits, behind_digits, is_whole, is_fraction_or_exponent, is_decimal, is_in_range, is_integer, integer_value, is_number}
+use Rattle.sj_parse.specs.inside.Trees.{number_tree}
+use Rattle.sj_parse.specs.inside.WordBytes.{is_word_byte}
+use Rattle.sj_parse.proofs.NumberParts.{IsWhole-from_is_whole, is_whole-from_IsWhole, digits_parts, digits-append, Tail-from_is_fraction_or_exponent, is_fraction_or_exponent-from_Tail, sign_parts, sign_of}
+
+-- ---- integers
+
+IsInRange-from_is_in_range : (negative : Bool) (n : ℕ) → is_in_range negative n ≡ true → IsInRange (signed negative n)
+IsInRange-from_is_in_range false n e = ltb-true n (2 ^ 64) e
+IsInRange-from_is_in_range true zero e = omega arith
+IsInRange-from_is_in_range true (suc n) e = let le : suc n ≤ 2 ^ 63 = leb-true (suc n) (2 ^ 63) e in omega arith
+
+is_in_range-from_IsInRange : (negative : Bool) (n : ℕ) → IsInRange (signed negative n) → is_in_range negative n ≡ true
+is_in_range-from_IsInRange false n h = lt-ltb n (2 ^ 64) h
+is_in_range-from_IsInRange true zero h = refl
+is_in_range-from_IsInRange true (suc n) h = le-leb (suc n) (2 ^ 63) (omega arith)
+
+-- also past the range
+SpellsInteger-from_is_whole : (bs : List ℕ) → is_whole (magnitude bs) ≡ true → SpellsInteger (integer_value bs) bs
+SpellsInteger-from_is_whole bs e = record { negative = is_negative bs; whole = magnitude bs; parts = sign_parts bs; is_whole = IsWhole-from_is_whole (magnitude bs) e; value = refl }
+
+pub SpellsInteger-from_is_integer : (bs : List ℕ) → is_integer bs ≡ true → SpellsInteger (integer_value bs) bs × IsInRange (integer_value bs)
+SpellsInteger-from_is_integer bs e =
+    let p = and_parts (is_whole (magnitude bs)) (is_in_range (is_negative bs) (digits_value 10 (magnitude bs))) e in
+    (SpellsInteger-from_is_whole bs p.0, IsInRange-from_is_in_range (is_negative bs) (digits_value 10 (magnitude bs)) p.1)
+
+pub is_integer-from_SpellsInteger : (n : ℤ) (bs : List ℕ) → SpellsInteger n bs → IsInRange n → (is_integer bs ≡ true) × (integer_value bs ≡ n)
+is_integer-from_SpellsInteger n bs h range =
+    let s = sign_of h.negative h.whole [] h.is_whole in
+    let parts : bs ≡ minus h.negative ++ (h.whole ++ []) = h.parts ∙ ap (λ (xs : List ℕ). minus h.negative ++ xs) (sym (append-nil h.whole)) in
+    let negative : is_negative bs ≡ h.negative = ap is_negative parts ∙ s.0 in
+    let whole : magnitude bs ≡ h.whole = ap magnitude parts ∙ s.1 ∙ append-nil h.whole in
+    let value : integer_value bs ≡ n = ap₂ (λ b ds. signed b (digits_value 10 ds)) negative whole ∙ sym h.value in (
+      and_from (is_whole (magnitude bs)) (is_in_range (is_negative bs) (digits_value 10 (magnitude bs)))
+          (ap is_whole whole ∙ is_whole-from_IsWhole h.whole h.is_whole)
+          (is_in_range-from_IsInRange (is_negative bs) (digits_value 10 (magnitude bs)) (subst IsInRange (sym value) range)),
+      value,
+    )
+
+-- ---- decimal literals
+
+pub IsDecimal-from_is_decimal : (bs : List ℕ) → is_decimal bs ≡ true → IsDecimal bs
+IsDecimal-from_is_decimal bs e =
+    let p = and_parts (is_whole (front_digits (magnitude bs))) (is_fraction_or_exponent (behind_digits (magnitude bs))) e in
+    let t = Tail-from_is_fraction_or_exponent (behind_digits (magnitude bs)) p.1 in
+    record {
+      negative = is_negative bs;
+      whole = front_digits (magnitude bs);
+      fraction = t.0.fraction;
+      exponent = t.0.exponent;
+      parts = sign_parts bs ∙ ap (λ (xs : List ℕ). minus (is_negative bs) ++ xs) (digits_parts (magnitude bs) ∙ ap (λ (xs : List ℕ). front_digits (magnitude bs) ++ xs) t.0.parts);
+      is_whole = IsWhole-from_is_whole (front_digits (magnitude bs)) p.0;
+      is_fraction = t.0.is_fraction;
+      is_exponent = t.0.is_exponent;
+      has_one = λ none. t.1 (t.0.parts ∙ none);
+    }
+
+pub is_decimal-from_IsDecimal : (bs : List ℕ) → IsDecimal bs → is_decimal bs ≡ true
+is_decimal-from_IsDecimal bs h =
+    let s = sign_of h.negative h.whole (h.fraction ++ h.exponent) h.is_whole in
+    let whole : magnitude bs ≡ h.whole ++ (h.fraction ++ h.exponent) = ap magnitude h.parts ∙ s.1 in
+    let k = digits-append h.whole (h.fraction ++ h.exponent) (whole_digits h.whole h.is_whole) (fraction_start h.fraction h.exponent h.is_fraction (exponent_start h.exponent h.is_exponent)) in
+    and_from (is_whole (front_digits (magnitude bs))) (is_fraction_or_exponent (behind_digits (magnitude bs)))
+    (ap (λ (xs : List ℕ). is_whole (front_digits xs)) whole ∙ ap is_whole k.0 ∙ is_whole-from_IsWhole h.whole h.is_whole)
+    (ap (λ (xs : List ℕ). is_fraction_or_exponent (behind_digits xs)) whole ∙ ap is_fraction_or_exponent k.1 ∙ is_fraction_or_exponent-from_Tail h.fraction h.exponent h.is_fraction h.is_exponent h.has_one)
+
+pub is_integer-decimal : (bs : List ℕ) → is_decimal bs ≡ true → is_integer bs ≡ false
+is_integer-decimal bs e = false_from_ne_true (is_integer bs) (λ i. no_decimal (integer_value bs) bs (SpellsInteger-from_is_integer bs i).0 (IsDecimal-from_is_decimal bs e))
+
+-- A whole number below the range is no number.
+pub is_number-below : (bs : List ℕ) → is_negative bs ≡ true → is_whole (magnitude bs) ≡ true → (digits_value 10 (magnitude bs) ≤ 2 ^ 63 → ⊥) → is_number bs ≡ false
+is_number-below bs negative whole large =
+    or_from (is_integer bs) (is_decimal bs)
+    (and_right (is_whole (magnitude bs)) (is_in_range (is_negative bs) (digits_value 10 (magnitude bs))) (ap (λ b. is_in_range b (digits_value 10 (magnitude bs))) negative ∙ lt-leb (digits_value 10 (magnitude bs)) (2 ^ 63) (omega arith)))
+    (false_from_ne_true (is_decimal bs) (λ d. no_decimal (integer_value bs) bs (SpellsInteger-from_is_whole bs whole) (IsDecimal-from_is_decimal bs d)))
+
+-- ---- numbers and their trees
+
+pub number_tree-integer : (text : List ℕ) → is_integer text ≡ true → number_tree text ≡ integer (integer_value text)
+number_tree-integer text e = rw e refl
+
+pub number_tree-decimal : (text : List ℕ) → is_decimal text ≡ true → number_tree text ≡ decimal text
+number_tree-decimal text e = rw (is_integer-decimal text e) refl
+
+pub spells-number_tree : (text : List ℕ) → is_number text ≡ true → SpellsValue (number_tree text) text
+spells-number_tree text e = elim (or_cases (is_integer text) (is_decimal text) e) [
+  | inl i ↦ let p = SpellsInteger-from_is_integer text i in subst (λ t. SpellsValue t text) (sym (number_tree-integer text i)) (p.1, p.0)
+  | inr d ↦ subst (λ t. SpellsValue t text) (sym (number_tree-decimal text d)) (refl, IsDecimal-from_is_decimal text d)
+]
+
+pub number-from_spells_integer : (n : ℤ) (text : List ℕ) → SpellsValue (integer n) text → (is_number text ≡ true) × (number_tree text ≡ integer n)
+number-from_spells_integer n text h =
+    let p = is_integer-from_SpellsInteger n text h.1 h.0 in
+    (or_left (is_integer text) (is_decimal text) p.0, number_tree-integer text p.0 ∙ ap integer p.1)
+
+pub number-from_spells_decimal : (literal text : List ℕ) → SpellsValue (decimal literal) text → (is_number text ≡ true) × (number_tree text ≡ decimal literal)
+number-from_spells_decimal literal text h =
+    let d : is_decimal text ≡ true = ap is_decimal h.0 ∙ is_decimal-from_IsDecimal literal h.1 in
+    (or_right (is_integer text) (is_decimal text) d, number_tree-decimal text d ∙ ap decimal h.0)
+
+-- ---- the bytes of numbers
+
+is_word_byte-digit : (b : ℕ) → IsAsciiDigit b → is_word_byte b ≡ true
+is_word_byte-digit b d =
+    let high : b ≤ 57 = d.1 in
+    let either = agree_below_at (λ c. not (is_ascii_digit c) || is_word_byte c) (λ c. true) 128 b refl (omega arith) in
+    rw (to_test b d) at either
+
+is_word_byte-in_number : (b : ℕ) → IsInNumber b → is_word_byte b ≡ true
+is_word_byte-in_number b (inl d) = is_word_byte-digit b d
+is_word_byte-in_number b (inr (inl e)) = ap is_word_byte e
+is_word_byte-in_number b (inr (inr (inl e))) = ap is_word_byte e
+is_word_byte-in_number b (inr (inr (inr (inl e)))) = ap is_word_byte e
+is_word_byte-in_number b (inr (inr (inr (inr (inl e))))) = ap is_word_byte e
+is_word_byte-in_number b (inr (inr (inr (inr (inr e))))) = ap is_word_byte e
+
+all_word_bytes : (bs : List ℕ) → AllByRecursion IsInNumber bs → list_all is_word_byte bs ≡ true
+all_word_bytes [] h = refl
+all_word_bytes (b ∷ bs) h = and_from (is_word_byte b) (list_all is_word_byte bs) (is_word_byte-in_number b h.0) (all_word_bytes bs h.1)
+
+pub number_bytes : (text : List ℕ) → is_number text ≡ true → AllByRecursion IsInNumber text
+number_bytes text e = elim (or_cases (is_integer text) (is_decimal text) e) [
+  | inl i ↦ integer_bytes (integer_value text) text (SpellsInteger-from_is_integer text i).0
+  | inr d ↦ decimal_bytes text (IsDecimal-from_is_decimal text d)
+]
+
+-- a minus or a digit, and further bytes
+pub record First (text : List ℕ) : Type 0 where
+  pub first : ℕ
+  pub others : List ℕ
+  pub parts : text ≡ first ∷ others
+  pub is_first : (first ≡ 0x2d) ⊎ IsAsciiDigit first
+
+pub number_opens : (text : List ℕ) → is_number text ≡ true → First text
+number_opens text e = elim (or_cases (is_integer text) (is_decimal text) e) [
+  | inl i ↦ let h = (SpellsInteger-from_is_integer text i).0 in opened (number_first h.negative h.whole [] text h.is_whole (integer_parts (integer_value text) text h))
+  | inr d ↦ let h = IsDecimal-from_is_decimal text d in opened (number_first h.negative h.whole (h.fraction ++ h.exponent) text h.is_whole h.parts)
+]
+  where
+    opened : (b : ℕ) × (others : List ℕ) × (text ≡ b ∷ others) × ((b ≡ 0x2d) ⊎ IsAsciiDigit b) → First text
+    opened p = record { first = p.0; others = p.1; parts = p.2; is_first = p.3 }
+
+pub is_word-number : (text : List ℕ) → is_number text ≡ true → (list_all is_word_byte text ≡ true) × First text
+is_word-number text e = (all_word_bytes text (number_bytes text e), number_opens text e)

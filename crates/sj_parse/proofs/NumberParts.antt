@@ -1,0 +1,202 @@
+-- The parts of a number: the tests hold of what the grammar says.
+use Rattle.std.specs.Prelude.{◌≡◌, ◌≢◌, ℕ, ◌<◌, ◌≤◌, ◌⊎◌, Bool, true, false, not, ◌&&◌, ◌||◌, ◌==◌, List, [], ◌∷◌, ◌++◌}
+use Rattle.std.specs.List.{AllByRecursion}
+use Rattle.std.specs.Char.{is_ascii_digit, IsAsciiDigit}
+use Rattle.std.specs.Str.{all_ascii_digits}
+use Rattle.std.proofs.Common.{refl, ap, ap₂, ◌∙◌, inl, inr, arith}
+use Rattle.std.proofs.lemmas.Bool.{cases_Bool, cases_eq, and_parts, and_from, or_cases, or_left, or_right, or_from, not-true, not_from_false, eqb-true, eqb-false, eq-eqb, ne_eqb}
+use Rattle.sj_base.specs.Number.{minus, IsDigits, IsWhole, IsFraction, IsExponent}
+use Rattle.sj_base.proofs.Fronts.{NotFirst}
+use Rattle.sj_base.proofs.Literals.{IsSign, from_test, to_test, one_of}
+use Rattle.sj_base.proofs.NumberBytes.{no_minus, exponent_start}
+use Rattle.sj_parse.specs.Numbers.{is_empty, is_negative, magnitude, unsigned, front_digits, behind_digits, is_digits, is_whole, is_exponent, is_fraction_or_exponent}
+
+-- ---- digits
+
+pub AllDigits-from_test : (ds : List ℕ) → all_ascii_digits ds ≡ true → AllByRecursion IsAsciiDigit ds
+AllDigits-from_test [] e = tt
+AllDigits-from_test (d ∷ ds) e = let p = and_parts (is_ascii_digit d) (all_ascii_digits ds) e in (from_test d p.0, AllDigits-from_test ds p.1)
+
+pub all_digits-from_AllDigits : (ds : List ℕ) → AllByRecursion IsAsciiDigit ds → all_ascii_digits ds ≡ true
+all_digits-from_AllDigits [] h = refl
+all_digits-from_AllDigits (d ∷ ds) h = and_from (is_ascii_digit d) (all_ascii_digits ds) (to_test d h.0) (all_digits-from_AllDigits ds h.1)
+
+pub IsDigits-from_is_digits : (ds : List ℕ) → is_digits ds ≡ true → IsDigits ds
+IsDigits-from_is_digits [] e = absurd cc
+IsDigits-from_is_digits (d ∷ ds) e = (omega arith, AllDigits-from_test (d ∷ ds) e)
+
+pub is_digits-from_IsDigits : (ds : List ℕ) → IsDigits ds → is_digits ds ≡ true
+is_digits-from_IsDigits [] h = let some : 0 < 0 = h.0 in absurd (omega arith)
+is_digits-from_IsDigits (d ∷ ds) h = all_digits-from_AllDigits (d ∷ ds) h.1
+
+is_empty-nil : (xs : List ℕ) → is_empty xs ≡ true → xs ≡ []
+is_empty-nil [] e = refl
+is_empty-nil (x ∷ xs) e = absurd cc
+
+-- ---- whole numbers
+
+pub IsWhole-from_is_whole : (ds : List ℕ) → is_whole ds ≡ true → IsWhole ds
+IsWhole-from_is_whole [] e = absurd cc
+IsWhole-from_is_whole (d ∷ ds) e =
+    let p = and_parts (is_ascii_digit d && all_ascii_digits ds) (is_empty ds || not (d == 0x30)) e in
+    let q = and_parts (is_ascii_digit d) (all_ascii_digits ds) p.0 in
+    let digit = from_test d q.0 in
+    let low : 48 ≤ d = digit.0 in
+    let others = AllDigits-from_test ds q.1 in
+    elim (cases_eq d 0x30) [
+      | inl same ↦ elim (or_cases (is_empty ds) (not (d == 0x30)) p.1) [
+        | inl alone ↦ inl (ap₂ (λ (x : ℕ) (xs : List ℕ). x ∷ xs) same (is_empty-nil ds alone))
+        | inr other ↦ absurd (eqb-false d 0x30 (not-true (d == 0x30) other) same)
+      ]
+      | inr other ↦ inr (d, ds, refl, omega arith, digit.1, others)
+    ]
+
+pub is_whole-from_IsWhole : (ds : List ℕ) → IsWhole ds → is_whole ds ≡ true
+is_whole-from_IsWhole ds (inl e) = ap is_whole e
+is_whole-from_IsWhole ds (inr (d, others, e, low, high, digits)) =
+    ap is_whole e ∙ and_from (is_ascii_digit d && all_ascii_digits others) (is_empty others || not (d == 0x30))
+    (and_from (is_ascii_digit d) (all_ascii_digits others) (to_test d (omega (arith, low), high)) (all_digits-from_AllDigits others digits))
+    (or_right (is_empty others) (not (d == 0x30)) (not_from_false (d == 0x30) (ne_eqb d 0x30 (λ same. omega (arith, low, same)))))
+
+-- ---- exponents and fractions
+
+-- a sign, or none, in front
+unsigned_parts : (bs : List ℕ) → (sign : List ℕ) × (bs ≡ sign ++ unsigned bs) × IsSign sign
+unsigned_parts [] = ([], refl, inl refl)
+unsigned_parts (b ∷ bs) = elim (cases_Bool (b == 0x2b || b == 0x2d)) [
+  | inl e ↦ elim (one_of b 0x2b 0x2d e) [
+    | inl same ↦ (0x2b ∷ [], rw e (ap (λ (x : ℕ). x ∷ bs) same), inr (inl refl))
+    | inr same ↦ (0x2d ∷ [], rw e (ap (λ (x : ℕ). x ∷ bs) same), inr (inr refl))
+  ]
+  | inr e ↦ ([], rw e refl, inl refl)
+]
+
+-- digits have no sign in front
+unsigned-digits : (sign ds : List ℕ) → IsSign sign → IsDigits ds → unsigned (sign ++ ds) ≡ ds
+unsigned-digits sign [] s h = let some : 0 < 0 = h.0 in absurd (omega arith)
+unsigned-digits sign (d ∷ ds) (inl e) h =
+    let low : 48 ≤ d = h.1.0.0 in
+    let none = or_from (d == 0x2b) (d == 0x2d) (ne_eqb d 0x2b (λ same. omega arith)) (ne_eqb d 0x2d (λ same. omega arith)) in
+    rw e (rw none refl)
+unsigned-digits sign (d ∷ ds) (inr (inl e)) h = rw e refl
+unsigned-digits sign (d ∷ ds) (inr (inr e)) h = rw e refl
+
+pub IsExponent-from_is_exponent : (bs : List ℕ) → is_exponent bs ≡ true → IsExponent bs
+IsExponent-from_is_exponent [] e = absurd cc
+IsExponent-from_is_exponent (b ∷ bs) e =
+    let p = and_parts (b == 0x65 || b == 0x45) (is_digits (unsigned bs)) e in
+    let u = unsigned_parts bs in
+    inr (b, u.0, unsigned bs, ap (λ (xs : List ℕ). b ∷ xs) u.1, one_of b 0x65 0x45 p.0, u.2, IsDigits-from_is_digits (unsigned bs) p.1)
+
+-- The grammar's exponent may be nothing.
+pub is_exponent-from_IsExponent : (bs : List ℕ) → IsExponent bs → (is_empty bs || is_exponent bs) ≡ true
+is_exponent-from_IsExponent bs (inl e) = ap (λ (xs : List ℕ). is_empty xs || is_exponent xs) e
+is_exponent-from_IsExponent bs (inr (b, sign, ds, e, letter, s, digits)) =
+    ap (λ (xs : List ℕ). is_empty xs || is_exponent xs) e
+    ∙ and_from (b == 0x65 || b == 0x45) (is_digits (unsigned (sign ++ ds))) (is_letter letter)
+    (ap is_digits (unsigned-digits sign ds s digits) ∙ is_digits-from_IsDigits ds digits)
+  where
+    is_letter : (b ≡ 0x65) ⊎ (b ≡ 0x45) → (b == 0x65 || b == 0x45) ≡ true
+    is_letter (inl same) = or_left (b == 0x65) (b == 0x45) (eq-eqb b 0x65 same)
+    is_letter (inr same) = or_right (b == 0x65) (b == 0x45) (eq-eqb b 0x45 same)
+
+-- the digits in front, and what stands behind them
+pub digits_parts : (bs : List ℕ) → bs ≡ front_digits bs ++ behind_digits bs
+digits_parts [] = refl
+digits_parts (b ∷ bs) = elim (cases_Bool (is_ascii_digit b)) [
+  | inl e ↦ rw e (ap (λ (xs : List ℕ). b ∷ xs) (digits_parts bs))
+  | inr e ↦ rw e refl
+]
+
+-- no digit in front
+no_digits : (r : List ℕ) → NotFirst IsAsciiDigit r → (front_digits r ≡ []) × (behind_digits r ≡ r)
+no_digits [] h = (refl, refl)
+no_digits (b ∷ r) h = elim (cases_Bool (is_ascii_digit b)) [
+  | inl e ↦ absurd (h (from_test b e))
+  | inr e ↦ (rw e refl, rw e refl)
+]
+
+-- digits, up to a byte that is none
+pub digits-append : (ds r : List ℕ) → AllByRecursion IsAsciiDigit ds → NotFirst IsAsciiDigit r → (front_digits (ds ++ r) ≡ ds) × (behind_digits (ds ++ r) ≡ r)
+digits-append [] r h stop = no_digits r stop
+digits-append (d ∷ ds) r h stop =
+    let k = digits-append ds r h.1 stop in
+    let t = to_test d h.0 in
+    (rw t (ap (λ (xs : List ℕ). d ∷ xs) k.0), rw t k.1)
+
+-- a fraction, an exponent or both
+pub record Tail (bs : List ℕ) : Type 0 where
+  pub fraction : List ℕ
+  pub exponent : List ℕ
+  pub parts : bs ≡ fraction ++ exponent
+  pub is_fraction : IsFraction fraction
+  pub is_exponent : IsExponent exponent
+
+pub Tail-from_is_fraction_or_exponent : (bs : List ℕ) → is_fraction_or_exponent bs ≡ true → Tail bs × (bs ≢ [])
+Tail-from_is_fraction_or_exponent [] e = absurd cc
+Tail-from_is_fraction_or_exponent (b ∷ bs) e = elim (cases_Bool (b == 0x2e)) [
+  | inl point ↦
+      let p = and_parts (is_digits (front_digits bs)) (is_empty (behind_digits bs) || is_exponent (behind_digits bs)) (rw point at e) in (
+        record {
+          fraction = 0x2e ∷ front_digits bs;
+          exponent = behind_digits bs;
+          parts = ap₂ (λ (x : ℕ) (xs : List ℕ). x ∷ xs) (eqb-true b 0x2e point) (digits_parts bs);
+          is_fraction = inr (front_digits bs, refl, IsDigits-from_is_digits (front_digits bs) p.0);
+          is_exponent = elim (or_cases (is_empty (behind_digits bs)) (is_exponent (behind_digits bs)) p.1) [
+            | inl none ↦ inl (is_empty-nil (behind_digits bs) none)
+            | inr some ↦ IsExponent-from_is_exponent (behind_digits bs) some
+          ];
+        },
+        λ same. absurd cc,
+      )
+  | inr other ↦ (
+    record {
+      fraction = [];
+      exponent = b ∷ bs;
+      parts = refl;
+      is_fraction = inl refl;
+      is_exponent = IsExponent-from_is_exponent (b ∷ bs) (rw other at e);
+    },
+    λ same. absurd cc,
+  )
+]
+
+-- an exponent begins with no point
+exponent_alone : (x : List ℕ) → IsExponent x → x ≢ [] → is_fraction_or_exponent x ≡ true
+exponent_alone x (inl e) some = absurd (some e)
+exponent_alone x (inr (b, sign, ds, e, letter, s, digits)) some =
+    let whole = is_exponent-from_IsExponent (b ∷ (sign ++ ds)) (inr (b, sign, ds, refl, letter, s, digits)) in
+    ap is_fraction_or_exponent e ∙ rw (ne_eqb b 0x2e (no_point letter)) whole
+  where
+    no_point : (b ≡ 0x65) ⊎ (b ≡ 0x45) → b ≡ 0x2e → ⊥
+    no_point (inl same) point = omega arith
+    no_point (inr same) point = omega arith
+
+pub is_fraction_or_exponent-from_Tail : (fraction exponent : List ℕ) → IsFraction fraction → IsExponent exponent → fraction ++ exponent ≢ [] → is_fraction_or_exponent (fraction ++ exponent) ≡ true
+is_fraction_or_exponent-from_Tail fraction exponent (inl e) x some =
+    ap (λ (xs : List ℕ). is_fraction_or_exponent (xs ++ exponent)) e ∙ exponent_alone exponent x (λ none. some (ap (λ (xs : List ℕ). xs ++ exponent) e ∙ none))
+is_fraction_or_exponent-from_Tail fraction exponent (inr (ds, e, digits)) x some =
+    let k = digits-append ds exponent digits.1 (exponent_start exponent x) in
+    ap (λ (xs : List ℕ). is_fraction_or_exponent (xs ++ exponent)) e
+    ∙ and_from (is_digits (front_digits (ds ++ exponent))) (is_empty (behind_digits (ds ++ exponent)) || is_exponent (behind_digits (ds ++ exponent)))
+    (ap is_digits k.0 ∙ is_digits-from_IsDigits ds digits)
+    (ap (λ (xs : List ℕ). is_empty xs || is_exponent xs) k.1 ∙ is_exponent-from_IsExponent exponent x)
+
+-- ---- signs
+
+pub sign_parts : (bs : List ℕ) → bs ≡ minus (is_negative bs) ++ magnitude bs
+sign_parts [] = refl
+sign_parts (b ∷ bs) = elim (cases_Bool (b == 0x2d)) [
+  | inl e ↦ rw e (ap (λ (x : ℕ). x ∷ bs) (eqb-true b 0x2d e))
+  | inr e ↦ rw e refl
+]
+
+-- what begins with no minus
+unsigned_sign : (bs : List ℕ) → NotFirst (λ b. b ≡ 0x2d) bs → (is_negative bs ≡ false) × (magnitude bs ≡ bs)
+unsigned_sign [] h = (refl, refl)
+unsigned_sign (b ∷ bs) h = let other = ne_eqb b 0x2d h in (other, rw other refl)
+
+-- a whole number with a sign, or without one, and what stands behind it
+pub sign_of : (negative : Bool) (whole rest : List ℕ) → IsWhole whole → (is_negative (minus negative ++ (whole ++ rest)) ≡ negative) × (magnitude (minus negative ++ (whole ++ rest)) ≡ whole ++ rest)
+sign_of true whole rest w = (refl, refl)
+sign_of false whole rest w = unsigned_sign (whole ++ rest) (no_minus whole rest w)

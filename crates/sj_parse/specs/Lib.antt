@@ -1,0 +1,11 @@
+pub mod Token
+pub mod Escapes
+pub mod Numbers
+pub mod Atoms
+pub mod Descent
+pub mod Fault
+pub mod Nodes
+pub mod Answers
+pub mod Laws
+pub mod Examples
+pub mod inside

@@ -1,0 +1,78 @@
+//! Tests of literals.
+ghost use Rattle.std.specs.Prelude.{◌≡◌, ◌||◌, codes};
+ghost use Rattle.sj_scan.specs.Positions.{is_whitespace, is_operator};
+ghost use Rattle.sj_parse.specs.Atoms.{ends_word, is_atom};
+
+/// Returns whether the bytes begin with `true`, before whitespace, an operator or the end
+/// (`simd_json::stage2::is_valid_true_atom`).
+pub fn is_valid_true_atom(bytes: &[u8]) -> bool
+    ensures { result ≡ is_atom (codes "true") bytes.now }
+{
+    is_atom(b"true", bytes)
+}
+
+/// Returns whether the bytes begin with `false`, before whitespace, an operator or the end
+/// (`simd_json::stage2::is_valid_false_atom`).
+pub fn is_valid_false_atom(bytes: &[u8]) -> bool
+    ensures { result ≡ is_atom (codes "false") bytes.now }
+{
+    is_atom(b"false", bytes)
+}
+
+/// Returns whether the bytes begin with `null`, before whitespace, an operator or the end
+/// (`simd_json::stage2::is_valid_null_atom`).
+pub fn is_valid_null_atom(bytes: &[u8]) -> bool
+    ensures { result ≡ is_atom (codes "null") bytes.now }
+{
+    is_atom(b"null", bytes)
+}
+
+fn is_atom(literal: &[u8], bytes: &[u8]) -> bool
+    ensures { result ≡ is_atom literal.now bytes.now }
+{
+    match bytes.strip_prefix(literal) {
+        Some(rest) => ends_word(rest),
+        None => false,
+    }
+}
+
+// Whether nothing, whitespace or an operator comes first.
+fn ends_word(bytes: &[u8]) -> bool
+    ensures { result ≡ ends_word bytes.now }
+{
+    match bytes.first() {
+        Some(byte) => is_separator(*byte),
+        None => true,
+    }
+}
+
+fn is_separator(byte: u8) -> bool
+    ensures { result ≡ (is_whitespace byte || is_operator byte) }
+{
+    matches!(
+        byte,
+        b' ' | b'\t' | b'\n' | b'\r' | b'{' | b'}' | b'[' | b']' | b':' | b','
+    )
+}
+
+#[cfg(test)]
+mod tests {
+    use super::*;
+
+    #[test]
+    fn atoms(rt: HostRuntime) {
+        for (text, is_true, is_false, is_null) in [
+            ("true", true, false, false),
+            ("true,false", true, false, false),
+            ("false]", false, true, false),
+            ("null\n", false, false, true),
+            ("true\"a\"", false, false, false),
+            ("falsy", false, false, false),
+            ("nul", false, false, false),
+        ] {
+            assert_eq!(rt; is_valid_true_atom(text.as_bytes()), is_true, "{text}");
+            assert_eq!(rt; is_valid_false_atom(text.as_bytes()), is_false, "{text}");
+            assert_eq!(rt; is_valid_null_atom(text.as_bytes()), is_null, "{text}");
+        }
+    }
+}

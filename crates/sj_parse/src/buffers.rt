@@ -1,0 +1,79 @@
+//! The room that reading works in, kept from one text to the next.
+ghost use Rattle.std.specs.Prelude.{◌≡◌, ◌/◌, ◌≤◌, [], IfOk};
+ghost use Rattle.sj_parse.specs.Answers.{buffer_positions, buffer_limit, buffer_room};
+
+use crate::containers::Frame;
+use sj_base::DEFAULT_MAX_DEPTH;
+use std::alloc::{AllocError, Global};
+
+/// The number of bytes of input for which room for one position and one open container is reserved at once.
+const BYTES_PER_POSITION: usize = 128;
+
+/// Room that one text after another is read in, and the limit of depth under which they are read. Port of
+/// `simd_json::Buffers`.
+///
+/// Buffers can be used again after any error.
+#[derive(Debug, Drop)]
+pub struct Buffers {
+    pub(crate) positions: Vec<u32>,
+    pub(crate) stack: Vec<Frame>,
+    pub(crate) max_depth: usize,
+}
+
+impl Buffers {
+    /// Creates buffers with the limit [`DEFAULT_MAX_DEPTH`], in levels.
+    ///
+    /// `input_len` is the expected length of a text in bytes. Room for one position in 128 bytes is reserved at once;
+    /// reading a text that has more reserves more. Port of `simd_json::Buffers::new`.
+    ///
+    /// # Errors
+    ///
+    /// `AllocError` if there is no memory for this room.
+    pub fn new(alloc: Global, input_len: usize) -> Result<Buffers, AllocError>
+        ensures positions { IfOk result (λ buffers. buffer_positions buffers ≡ []) }
+        ensures limit { IfOk result (λ buffers. buffer_limit buffers ≡ DEFAULT_MAX_DEPTH) }
+        ensures room { IfOk result (λ buffers. input_len / 128 ≤ buffer_room buffers) }
+    {
+        Buffers::with_max_depth(alloc, input_len, DEFAULT_MAX_DEPTH)
+    }
+
+    /// Creates buffers with a limit of depth, in levels: 0 allows scalars alone, 1 containers of scalars too.
+    ///
+    /// `input_len` is as in [`Buffers::new`]. Port of `simd_json::Buffers::with_max_depth`.
+    ///
+    /// # Errors
+    ///
+    /// `AllocError` if there is no memory for this room.
+    pub fn with_max_depth(
+        alloc: Global,
+        input_len: usize,
+        max_depth: usize,
+    ) -> Result<Buffers, AllocError>
+        ensures positions { IfOk result (λ buffers. buffer_positions buffers ≡ []) }
+        ensures limit { IfOk result (λ buffers. buffer_limit buffers ≡ max_depth) }
+        ensures room { IfOk result (λ buffers. input_len / 128 ≤ buffer_room buffers) }
+    {
+        let count = input_len / BYTES_PER_POSITION;
+        Ok(Buffers {
+            positions: Vec::with_capacity(alloc, count)?,
+            stack: Vec::with_capacity(alloc, count.min(max_depth))?,
+            max_depth,
+        })
+    }
+
+    /// Returns the allocator of the buffers.
+    pub(crate) fn allocator(&self) -> Global {
+        *self.positions.allocator()
+    }
+
+    /// Returns the positions of the text that was scanned last: the indices, in bytes, at which its tokens begin.
+    ///
+    /// They are empty before the first scan, after a scan that found a fault (`InvalidUtf8`, `Eof`, or `Syntax` without a
+    /// character), and after one that lacked memory. A call that ends with `InputTooLarge` or `InsufficientPadding` scans
+    /// nothing and leaves them. Port of `simd_json::Buffers::structural_indexes`.
+    pub fn structural_indexes(&self) -> &[u32]
+        ensures { result.now ≡ buffer_positions self.now }
+    {
+        &self.positions
+    }
+}

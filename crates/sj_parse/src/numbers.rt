@@ -1,0 +1,113 @@
+//! Numbers: an integer by its value, any other by its text.
+ghost use Rattle.std.specs.Prelude.{◌≡◌, ◌<◌, ◌≤◌, ◌^◌, true, false, pos, neg_ℤ, MatchOption, SomeIff};
+ghost use Rattle.std.specs.Str.Parse.{digits_value};
+ghost use Rattle.sj_parse.specs.Numbers.{is_negative, magnitude, is_whole, is_decimal, is_number};
+ghost use Rattle.sj_parse.specs.inside.NumberNode.{IsNumberNode};
+
+use sj_base::{Decimal, StaticNode};
+use sj_tape::Node;
+
+/// Returns the node of a number, or `None` for any other text. An integer with a minus is an `I64`, any other a `U64`.
+pub(crate) fn number<'a>(text: &'a [u8]) -> Option<Node<'a>>
+    ensures { MatchOption result (is_number text.now ≡ false) (IsNumberNode text.now) }
+{
+    let (negative, digits) = split_minus(text);
+    let Some(value) = whole(digits) else {
+        return decimal(text);
+    };
+    if negative {
+        Some(Node::Static(StaticNode::I64(negated(value)?)))
+    } else {
+        Some(Node::Static(StaticNode::U64(value)))
+    }
+}
+
+// Whether a minus stands in front, and what stands behind it.
+fn split_minus(text: &[u8]) -> (bool, &[u8])
+    ensures negative { result.0 ≡ is_negative text.now }
+    ensures magnitude { result.1.now ≡ magnitude text.now }
+{
+    match text.split_first() {
+        Some((b'-', digits)) => (true, digits),
+        _ => (false, text),
+    }
+}
+
+// The value of `0`, or of digits of which the first is another.
+fn whole(digits: &[u8]) -> Option<u64>
+    ensures { SomeIff result
+        ((is_whole digits.now ≡ true) × (digits_value 10 digits.now < 2 ^ 64))
+        (digits_value 10 digits.now) }
+{
+    let Some((first, others)) = digits.split_first() else {
+        return None;
+    };
+    if !first.is_ascii_digit() || (*first == b'0' && !others.is_empty()) {
+        return None;
+    }
+    fast_float::parse_u64(digits).ok()
+}
+
+// The number with a minus, where it is in range.
+fn negated(value: u64) -> Option<i64>
+    ensures { SomeIff result (value ≤ 2 ^ 63) (neg_ℤ (pos value)) }
+{
+    if value <= i64::MAX as u64 {
+        Some(-(value as i64))
+    } else if value == 1 << 63 {
+        Some(i64::MIN)
+    } else {
+        None
+    }
+}
+
+fn decimal<'a>(text: &'a [u8]) -> Option<Node<'a>>
+    ensures { MatchOption result (is_decimal text.now ≡ false)
+        (λ n. (is_decimal text.now ≡ true) × IsNumberNode text.now n) }
+{
+    let Ok(text) = std::str::from_utf8(text) else {
+        return None;
+    };
+    Some(Node::Decimal(Decimal::new(text)?))
+}
+
+#[cfg(test)]
+mod tests {
+    use super::*;
+
+    #[test]
+    fn numbers(rt: HostRuntime) {
+        for (text, value) in [
+            ("0", StaticNode::U64(0)),
+            ("-0", StaticNode::I64(0)),
+            ("18446744073709551615", StaticNode::U64(u64::MAX)),
+            ("-9223372036854775808", StaticNode::I64(i64::MIN)),
+        ] {
+            let same = match number(text.as_bytes()) {
+                Some(Node::Static(node)) => node == value
+                    && node.value_type() == value.value_type(),
+                _ => false,
+            };
+            assert!(rt; same, "{text}");
+        }
+        for text in ["1.50", "-0e0", "1E+5"] {
+            let same = match number(text.as_bytes()) {
+                Some(Node::Decimal(literal)) => literal.as_str() == text,
+                _ => false,
+            };
+            assert!(rt; same, "{text}");
+        }
+        for text in [
+            "01",
+            "-",
+            "1.",
+            "+1",
+            "-+1",
+            "1a",
+            "18446744073709551616",
+            "-9223372036854775809",
+        ] {
+            assert!(rt; number(text.as_bytes()).is_none(), "{text}");
+        }
+    }
+}

@@ -1,0 +1,214 @@
+//! The calls that read a text into a tape.
+//!
+//! A call tests the length of the input, and in the padded form the padding, and then scans it: these faults are about
+//! the whole text, and stand at index 0 without a character. Then it reserves all the room that the descent over the
+//! tokens needs. The faults of the descent name a byte, and the first one is the answer.
+ghost use Rattle.std.specs.Prelude.{◌≡◌, ◌≢◌, ℕ, ◌+◌, ◌<◌, ◌≤◌, ◌⊎◌, List, [], None, IfErr, IfOk, OnOk, OnErr, length, take, min, vec_capacity};
+ghost use Rattle.sj_base.specs.Spelling.{longest};
+ghost use Rattle.sj_base.specs.declared.TheConstants.{DEFAULT_MAX_DEPTH};
+ghost use Rattle.sj_scan.specs.Positions.{positions};
+ghost use Rattle.sj_scan.specs.Scan.{scan_fault};
+ghost use Rattle.sj_tape.specs.Views.{tape_nodes};
+ghost use Rattle.sj_parse.specs.Fault.{generic, scan_kind, fault, padding, padded_fault};
+ghost use Rattle.sj_parse.specs.Answers.{Answers, IsErrorOf, Leaves, buffer_positions, buffer_limit};
+
+use crate::Result;
+use crate::buffers::Buffers;
+use crate::containers::Frame;
+use crate::stage_two::descend;
+use sj_base::{Error, ErrorType, INPUT_PADDING};
+use sj_scan::{PlainScan, ScanFault, Stage1};
+use sj_tape::{Node, Tape};
+use std::alloc::{AllocError, Global};
+use std::mem;
+
+/// Reads a text into a tape, under the limit of [`sj_base::DEFAULT_MAX_DEPTH`] levels. Port of `simd_json::to_tape`.
+///
+/// Strings are decoded where they stand, so the bytes of the text are rewritten, also where the call ends with an error.
+///
+/// # Errors
+///
+/// The first fault of the text. These are about the whole text, with index 0 and no character: `InputTooLarge` if it has
+/// more than `u32::MAX` bytes, `InvalidUtf8`, `Syntax` for a string that isn't closed or holds a byte below 0x20, and
+/// `Eof` for a text without a token. The others have the index and the character of the byte at fault: `Syntax` for a
+/// container beyond the limit of levels and for a text that is cut short, and the kinds that name what was expected or
+/// what is invalid there. `OutOfMemory` may stand in the place of any answer, if there is no memory.
+pub fn to_tape<'de>(alloc: Global, s: &'de mut [u8]) -> Result<Tape<'de>>
+    ensures answers { Answers tape_nodes s.entry.now DEFAULT_MAX_DEPTH (fault s.entry.now DEFAULT_MAX_DEPTH) result }
+    ensures not_empty { IfOk result (λ tape. tape_nodes tape ≢ []) }
+{
+    let mut buffers = Buffers::new(alloc, s.len()).map_err(no_memory)?;
+    to_tape_with_buffers(alloc, s, &mut buffers)
+}
+
+/// Reads a text into a tape, by the buffers and under their limit. Port of `simd_json::to_tape_with_buffers`.
+///
+/// # Errors
+///
+/// Those of [`to_tape`].
+pub fn to_tape_with_buffers<'de>(
+    alloc: Global,
+    s: &'de mut [u8],
+    buffers: &mut Buffers,
+) -> Result<Tape<'de>>
+    ensures answers { let limit = buffer_limit buffers.old in
+        Answers tape_nodes s.entry.now limit (fault s.entry.now limit) result }
+    ensures not_empty { IfOk result (λ tape. tape_nodes tape ≢ []) }
+    ensures scanned { length s.entry.now ≤ longest → Leaves s.entry.now result (buffer_positions buffers.new) }
+    ensures not_scanned { longest < length s.entry.now → buffer_positions buffers.new ≡ buffer_positions buffers.old }
+    ensures limit { buffer_limit buffers.new ≡ buffer_limit buffers.old }
+{
+    let mut tape = Tape::empty(alloc);
+    fill_tape(s, buffers, &mut tape)?;
+    Ok(tape)
+}
+
+/// Reads a text into the given tape, in place of what it holds, by the buffers and under their limit. Port of
+/// `simd_json::fill_tape`.
+///
+/// The room of the tape is used again.
+///
+/// # Errors
+///
+/// Those of [`to_tape`]. The tape is empty then.
+pub fn fill_tape<'de>(s: &'de mut [u8], buffers: &mut Buffers, tape: &mut Tape<'de>) -> Result<()>
+    ensures answers { let limit = buffer_limit buffers.old in
+        Answers (λ _. tape_nodes tape.new) s.entry.now limit (fault s.entry.now limit) result }
+    ensures not_empty { OnOk result (tape_nodes tape.new ≢ []) }
+    ensures empty { OnErr result (tape_nodes tape.new ≡ []) }
+    ensures scanned { length s.entry.now ≤ longest → Leaves s.entry.now result (buffer_positions buffers.new) }
+    ensures not_scanned { longest < length s.entry.now → buffer_positions buffers.new ≡ buffer_positions buffers.old }
+    ensures limit { buffer_limit buffers.new ≡ buffer_limit buffers.old }
+{
+    let mut nodes = take_room(buffers.allocator(), tape);
+    let read = read_nodes(s, buffers, &mut nodes);
+    if read.is_err() {
+        nodes.clear();
+    }
+    *tape = Tape::from_listing(nodes);
+    read
+}
+
+/// Reads the first `len` bytes into the given tape as [`fill_tape`] does. At least [`INPUT_PADDING`] bytes, of any
+/// value, stand behind them. Port of `simd_json::fill_tape_padded`.
+///
+/// # Errors
+///
+/// `InputTooLarge` if `len` is more than `u32::MAX`, then `InsufficientPadding` if fewer bytes stand behind the first
+/// `len` ones, or `s` is shorter than that; then those of [`to_tape`]. The tape is empty then.
+pub fn fill_tape_padded<'de>(
+    s: &'de mut [u8],
+    len: usize,
+    buffers: &mut Buffers,
+    tape: &mut Tape<'de>,
+) -> Result<()>
+    ensures answers { let limit = buffer_limit buffers.old in
+        Answers (λ _. tape_nodes tape.new) (take len s.entry.now) limit (padded_fault s.entry.now len limit) result }
+    ensures not_empty { OnOk result (tape_nodes tape.new ≢ []) }
+    ensures empty { OnErr result (tape_nodes tape.new ≡ []) }
+    ensures scanned { len ≤ longest → len + padding ≤ length s.entry.now → Leaves (take len s.entry.now) result (buffer_positions buffers.new) }
+    ensures not_scanned { ((longest < len) ⊎ (length s.entry.now < len + padding)) → buffer_positions buffers.new ≡ buffer_positions buffers.old }
+    ensures limit { buffer_limit buffers.new ≡ buffer_limit buffers.old }
+{
+    if let Err(error) = test_padding(s, len) {
+        *tape = Tape::from_listing(take_room(buffers.allocator(), tape));
+        return Err(error);
+    }
+    let (text, _) = s.split_at_mut(len);
+    fill_tape(text, buffers, tape)
+}
+
+/// Takes the vector of the tape's nodes, and clears it. The tape is empty then.
+fn take_room<'de>(alloc: Global, tape: &mut Tape<'de>) -> Vec<Node<'de>>
+    ensures nodes { result.items ≡ [] }
+    ensures tape { tape_nodes tape.new ≡ [] }
+{
+    let mut nodes = mem::replace(tape, Tape::empty(alloc)).into_nodes();
+    nodes.clear();
+    nodes
+}
+
+/// Appends the nodes of a text to an empty vector. After an error some of them may stand.
+fn read_nodes<'de>(
+    s: &'de mut [u8],
+    buffers: &mut Buffers,
+    nodes: &mut Vec<Node<'de>>,
+) -> Result<()>
+    requires { nodes.old.items ≡ [] }
+    ensures answers { let limit = buffer_limit buffers.old in
+        Answers (λ _. nodes.new.items) s.entry.now limit (fault s.entry.now limit) result }
+    ensures scanned { length s.entry.now ≤ longest → Leaves s.entry.now result (buffer_positions buffers.new) }
+    ensures not_scanned { longest < length s.entry.now → buffer_positions buffers.new ≡ buffer_positions buffers.old }
+    ensures limit { buffer_limit buffers.new ≡ buffer_limit buffers.old }
+{
+    let Buffers {
+        positions,
+        stack,
+        max_depth,
+    } = buffers;
+    scan(s, positions)?;
+    make_room(positions.len(), *max_depth, nodes, stack)?;
+    descend(s, positions, *max_depth, nodes, stack)
+}
+
+/// Tests the length of a text, and scans it.
+fn scan(text: &[u8], places: &mut Vec<u32>) -> Result<()>
+    ensures ok { OnOk result ((length text.now ≤ longest) × (scan_fault text.now ≡ None) × (places.new.items ≡ positions text.now)) }
+    ensures err { IfErr result (λ e. (limit : ℕ) → IsErrorOf (fault text.now limit) e) }
+    ensures scanned { length text.now ≤ longest → Leaves text.now result places.new.items }
+    ensures not_scanned { longest < length text.now → places.new.items ≡ places.old.items }
+{
+    if text.len() > u32::MAX as usize {
+        return Err(Error::generic(ErrorType::InputTooLarge));
+    }
+    PlainScan.scan(text, places).map_err(scan_error)
+}
+
+/// Empties the vectors and reserves what the descent over that many tokens needs, so that it takes no memory itself.
+fn make_room(
+    count: usize,
+    limit: usize,
+    nodes: &mut Vec<Node<'_>>,
+    stack: &mut Vec<Frame>,
+) -> Result<()>
+    requires { nodes.old.items ≡ [] }
+    ensures empty { (nodes.new.items ≡ []) × (stack.new.items ≡ []) }
+    ensures nodes { OnOk result (count ≤ vec_capacity nodes.new) }
+    ensures stack { OnOk result (min limit count ≤ vec_capacity stack.new) }
+    ensures err { IfErr result (λ e. e ≡ generic ErrorType.OutOfMemory) }
+{
+    stack.clear();
+    nodes.reserve(count).map_err(no_memory)?;
+    stack.reserve(limit.min(count)).map_err(no_memory)?;
+    Ok(())
+}
+
+fn test_padding(s: &[u8], len: usize) -> Result<()>
+    ensures ok { OnOk result ((len ≤ longest) × (len + padding ≤ length s.now)) }
+    ensures err { IfErr result (λ e. ((longest < len) ⊎ (length s.now < len + padding)) × ((limit : ℕ) → padded_fault s.now len limit ≡ Some e)) }
+{
+    if len > u32::MAX as usize {
+        return Err(Error::generic(ErrorType::InputTooLarge));
+    }
+    if s.len() < len + INPUT_PADDING {
+        return Err(Error::generic(ErrorType::InsufficientPadding));
+    }
+    Ok(())
+}
+
+fn scan_error(found: ScanFault) -> Error
+    ensures { result ≡ generic (scan_kind found) }
+{
+    Error::generic(match found {
+        ScanFault::Utf8 => ErrorType::InvalidUtf8,
+        ScanFault::Unclosed | ScanFault::Control => ErrorType::Syntax,
+        ScanFault::NoToken => ErrorType::Eof,
+        ScanFault::Memory => ErrorType::OutOfMemory,
+    })
+}
+
+fn no_memory(_error: AllocError) -> Error
+    ensures { result ≡ generic ErrorType.OutOfMemory }
+{
+    Error::generic(ErrorType::OutOfMemory)
+}

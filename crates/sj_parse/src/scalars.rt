@@ -1,0 +1,84 @@
+//! Strings, numbers and literals, read where they stand in the input.
+ghost use Rattle.std.specs.Prelude.{◌≡◌, ◌+◌, ◌<◌, ◌≤◌, ◌^◌, ◌∷◌, [], None, Some, true, false, MatchResult, IfErr, IfOk, length, take, drop, slice_index, IsUtf8};
+ghost use Rattle.sj_scan.specs.Positions.{is_whitespace, is_operator};
+ghost use Rattle.sj_parse.specs.Token.{word};
+ghost use Rattle.sj_parse.specs.Escapes.{bad_escape};
+ghost use Rattle.sj_parse.specs.inside.Trees.{decoded};
+ghost use Rattle.sj_parse.specs.inside.Step.{string_body, StopsAt};
+
+use crate::stop::Stop;
+use crate::strings::decode;
+
+fn is_whitespace(byte: u8) -> bool
+    ensures { result ≡ is_whitespace byte }
+{
+    byte == b' ' || byte == b'\t' || byte == b'\n' || byte == b'\r'
+}
+
+fn is_operator(byte: u8) -> bool
+    ensures { result ≡ is_operator byte }
+{
+    byte == b'{' || byte == b'}' || byte == b'[' || byte == b']' || byte == b':' || byte == b','
+}
+
+/// The length of the body that begins the bytes: up to its closing quote, or the end.
+fn body_len(bytes: &[u8]) -> usize
+    ensures within { result ≤ length bytes.now }
+    ensures body { take result bytes.now ≡ string_body bytes.now }
+{
+    let mut escaped = false;
+    for (place, byte) in bytes.iter().enumerate() {
+        if *byte == b'"' && !escaped {
+            return place;
+        }
+        escaped = *byte == b'\\' && !escaped;
+    }
+    bytes.len()
+}
+
+/// The length of the word that begins the bytes: up to whitespace, an operator or the end.
+fn word_len(bytes: &[u8]) -> usize
+    ensures within { result ≤ length bytes.now }
+    ensures word { take result bytes.now ≡ word bytes.now }
+{
+    for (place, byte) in bytes.iter().enumerate() {
+        if is_whitespace(*byte) || is_operator(*byte) {
+            return place;
+        }
+    }
+    bytes.len()
+}
+
+/// The text of the string whose opening quote stands at `skip`, and the input from the closing quote on.
+pub(crate) fn take_string<'i>(
+    place: usize,
+    skip: usize,
+    rest: &'i mut [u8],
+) -> Result<(&'i str, &'i mut [u8]), Stop>
+    requires within { skip < length rest.old }
+    requires body { IsUtf8 (string_body (drop (skip + 1) rest.old)) }
+    requires fits { place + length rest.old < 2 ^ 64 }
+    ensures text { MatchResult result
+        (λ p. (bad_escape (place + 1) (string_body (drop (skip + 1) rest.entry.now)) ≡ None) × (p.0.now ≡ decoded (string_body (drop (skip + 1) rest.entry.now))))
+        (λ s. bad_escape (place + 1) (string_body (drop (skip + 1) rest.entry.now)) ≡ Some s) }
+    ensures stops { IfErr result (StopsAt place skip rest.entry.now) }
+    ensures rest { IfOk result (λ p. p.1.now ≡ drop (skip + 1 + length (string_body (drop (skip + 1) rest.entry.now))) rest.entry.now) }
+{
+    let len = body_len(&rest[skip + 1..]);
+    let (_, from_body) = rest.split_at_mut(skip + 1);
+    let (body, behind) = from_body.split_at_mut(len);
+    let text = decode(place + 1, body)?;
+    Ok((text, behind))
+}
+
+/// The word that begins at `skip`, and the input behind it.
+pub(crate) fn take_word<'i>(skip: usize, rest: &'i mut [u8]) -> (&'i [u8], &'i mut [u8])
+    requires { skip ≤ length rest.old }
+    ensures word { result.0.now ≡ word (drop skip rest.entry.now) }
+    ensures rest { result.1.now ≡ drop (skip + length (word (drop skip rest.entry.now))) rest.entry.now }
+{
+    let len = word_len(&rest[skip..]);
+    let (_, from_word) = rest.split_at_mut(skip);
+    let (word, behind) = from_word.split_at_mut(len);
+    (word, behind)
+}

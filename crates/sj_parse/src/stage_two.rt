@@ -1,0 +1,332 @@
+//! The descent over the tokens of a text, with a stack of its own.
+ghost use Rattle.std.specs.Prelude.{◌≡◌, ◌≢◌, ℕ, List, [], ◌∷◌, ◌++◌, ◌+◌, ◌<◌, ◌≤◌, ◌^◌, ◌⊎◌, IfOk, IfErr, OnOk, MatchResult, Some, None, Ok, Err, true, false, if◌then◌else◌, min, length, drop, slice_index, IsUtf8, vec_len, vec_capacity};
+ghost use Rattle.sj_tape.specs.Nodes.{entries};
+ghost use Rattle.sj_parse.specs.Escapes.{stop};
+ghost use Rattle.sj_parse.specs.Numbers.{is_number};
+ghost use Rattle.sj_parse.specs.inside.NumberNode.{IsNumberNode};
+ghost use Rattle.sj_parse.specs.Token.{Token};
+ghost use Rattle.sj_parse.specs.Descent.{scalar_stop};
+ghost use Rattle.sj_parse.specs.Nodes.{HaveCarriers};
+ghost use Rattle.sj_parse.specs.inside.Machine.{Waiting, Config, IsAt, waiting_entries, waiting_stack};
+ghost use Rattle.sj_parse.specs.inside.Trees.{tree_value};
+ghost use Rattle.sj_parse.specs.Token.{tokens};
+ghost use Rattle.sj_parse.specs.Descent.{left, descent};
+ghost use Rattle.sj_parse.specs.Fault.{stop_fault};
+ghost use Rattle.sj_scan.specs.Positions.{positions};
+ghost use Rattle.sj_scan.specs.Scan.{scan_fault};
+ghost use Rattle.sj_base.specs.Spelling.{longest};
+ghost use Rattle.sj_base.specs.Tree.{Tree};
+ghost use Rattle.sj_tape.specs.Listing.{listing};
+ghost use Rattle.sj_parse.specs.inside.Step.{string_body, token_of, left_kind_of, role_of, StopsAt, unexpected_kind, is_end, Steps, value_from, reading_from, Begins, IsScalarNode, IsBehind};
+
+use crate::atoms::{is_valid_false_atom, is_valid_null_atom, is_valid_true_atom};
+use crate::containers::{Frame, add_scalar, close, open};
+use crate::numbers::number;
+use crate::scalars::{take_string, take_word};
+use crate::stop::Stop;
+use sj_base::{Error, ErrorType, StaticNode};
+use sj_tape::Node;
+
+/// What may come next.
+#[derive(Clone, Copy)]
+pub(crate) enum State {
+    Value,
+    FirstItem,
+    ItemEnd,
+    FirstMember,
+    Key,
+    Colon,
+    MemberEnd,
+    End,
+}
+
+impl State {
+    /// The kind of the fault where something else comes.
+    fn unexpected(self) -> ErrorType
+        ensures { result ≡ unexpected_kind self }
+    {
+        match self {
+            State::Value => ErrorType::InternalError,
+            State::FirstItem => ErrorType::ExpectedArrayContent,
+            State::ItemEnd => ErrorType::ExpectedArrayComma,
+            State::FirstMember => ErrorType::ExpectedObjectContent,
+            State::Key => ErrorType::ExpectedObjectKey,
+            State::Colon => ErrorType::ExpectedObjectColon,
+            State::MemberEnd => ErrorType::ExpectedMapComma,
+            State::End => ErrorType::TrailingData,
+        }
+    }
+
+    fn is_end(self) -> bool
+        ensures { result ≡ is_end self }
+    {
+        matches!(self, State::End)
+    }
+
+    fn role(self, byte: u8) -> Role
+        ensures { result ≡ role_of self byte }
+    {
+        match self {
+            State::Value => Role::Value,
+            State::FirstItem if byte == b']' => Role::Close,
+            State::FirstItem => Role::Value,
+            State::ItemEnd if byte == b']' => Role::Close,
+            State::ItemEnd if byte == b',' => Role::Separator(State::Value),
+            State::FirstMember if byte == b'}' => Role::Close,
+            State::FirstMember | State::Key if byte == b'"' => Role::Key,
+            State::Colon if byte == b':' => Role::Separator(State::Value),
+            State::MemberEnd if byte == b'}' => Role::Close,
+            State::MemberEnd if byte == b',' => Role::Separator(State::Key),
+            _ => Role::Unexpected,
+        }
+    }
+}
+
+/// What the first byte of a token is where the code is.
+#[derive(Clone, Copy)]
+pub(crate) enum Role {
+    /// A closing bracket.
+    Close,
+    /// A comma or a colon, behind which that comes next.
+    Separator(State),
+    /// It begins a key.
+    Key,
+    /// It may begin a value.
+    Value,
+    Unexpected,
+}
+
+/// What a byte begins.
+#[derive(Clone, Copy)]
+enum Opening {
+    Array,
+    Object,
+    String,
+    Literal,
+    Number,
+    Nothing,
+}
+
+fn begins(byte: u8) -> Opening
+    ensures { Begins byte result }
+{
+    match byte {
+        b'[' => Opening::Array,
+        b'{' => Opening::Object,
+        b'"' => Opening::String,
+        b't' | b'f' | b'n' => Opening::Literal,
+        b'-' | b'0'..=b'9' => Opening::Number,
+        _ => Opening::Nothing,
+    }
+}
+
+/// The value of the literal that begins the bytes.
+fn literal(place: usize, bytes: &[u8]) -> Result<StaticNode, Stop>
+    requires some { 0 < length bytes.now }
+    requires letter { let b = slice_index bytes.now 0 in (b ≡ 0x74) ⊎ ((b ≡ 0x66) ⊎ (b ≡ 0x6e)) }
+    ensures reads { (before : List ℕ) → MatchResult result (λ node. IsScalarNode (token_of place before bytes.now) (Node.Static node))
+        (λ s. scalar_stop (token_of place before bytes.now) ≡ Some s) }
+    ensures at { IfErr result (λ s. s.place ≡ place) }
+{
+    if bytes[0] == b't' {
+        let node = StaticNode::Bool(true);
+        node_if(
+            is_valid_true_atom(bytes),
+            node,
+            ErrorType::ExpectedTrue,
+            place,
+        )
+    } else if bytes[0] == b'f' {
+        let node = StaticNode::Bool(false);
+        node_if(
+            is_valid_false_atom(bytes),
+            node,
+            ErrorType::ExpectedFalse,
+            place,
+        )
+    } else {
+        let node = StaticNode::Null;
+        node_if(
+            is_valid_null_atom(bytes),
+            node,
+            ErrorType::ExpectedNull,
+            place,
+        )
+    }
+}
+
+/// The node, or a fault of this kind.
+fn node_if(
+    is_valid: bool,
+    node: StaticNode,
+    kind: ErrorType,
+    place: usize,
+) -> Result<StaticNode, Stop>
+    ensures { result ≡ (if is_valid then Ok node else Err (stop kind place)) }
+{
+    if is_valid {
+        Ok(node)
+    } else {
+        Err(Stop { kind, place })
+    }
+}
+
+/// The node of the number that the word is.
+fn number_node<'i>(place: usize, word: &'i [u8]) -> Result<Node<'i>, Stop>
+    ensures { MatchResult result (IsNumberNode word.now)
+        (λ s. (is_number word.now ≡ false) × (s ≡ stop ErrorType.InvalidNumber place)) }
+{
+    number(word).ok_or(Stop {
+        kind: ErrorType::InvalidNumber,
+        place,
+    })
+}
+
+/// Reads the value that begins at `skip`: a scalar whole, of a container its bracket.
+fn read_value<'i>(
+    unexpected: ErrorType,
+    place: usize,
+    skip: usize,
+    limit: usize,
+    rest: &'i mut [u8],
+    nodes: &mut Vec<Node<'i>>,
+    stack: &mut Vec<Frame>,
+) -> Result<(State, &'i mut [u8]), Stop>
+    requires within { skip < length rest.old }
+    requires body { slice_index rest.old skip ≡ 0x22 → IsUtf8 (string_body (drop (skip + 1) rest.old)) }
+    requires fits { place + length rest.old < 2 ^ 64 }
+    requires waits { (ws : List Waiting) × (entries nodes.old.items ≡ waiting_entries ws) × (stack.old.items ≡ waiting_stack ws) }
+    requires nodes { vec_len nodes.old < vec_capacity nodes.old }
+    requires stack { vec_len stack.old < limit → vec_len stack.old < vec_capacity stack.old }
+    ensures steps { (ws : List Waiting) (before : List ℕ) → entries nodes.old.items ≡ waiting_entries ws → stack.old.items ≡ waiting_stack ws
+        → Steps (λ p. p.0) limit place (value_from limit unexpected ws (token_of place before (drop skip rest.entry.now))) result (entries nodes.new.items) stack.new.items }
+    ensures carriers { (ts : List Token) (before : List ℕ) → HaveCarriers ts nodes.old.items
+        → OnOk result (HaveCarriers (ts ++ token_of place before (drop skip rest.entry.now) ∷ []) nodes.new.items) }
+    ensures rest { (before : List ℕ) → IfOk result (λ p. IsBehind skip (token_of place before (drop skip rest.entry.now)) rest.entry.now p.1.now) }
+    ensures stops { IfErr result (StopsAt place skip rest.entry.now) }
+    ensures capacity { (vec_capacity nodes.new ≡ vec_capacity nodes.old) × (vec_capacity stack.new ≡ vec_capacity stack.old) }
+{
+    match begins(rest[skip]) {
+        Opening::Array => Ok((open(place, limit, false, nodes, stack)?, rest)),
+        Opening::Object => Ok((open(place, limit, true, nodes, stack)?, rest)),
+        Opening::String => {
+            let (text, behind) = take_string(place, skip, rest)?;
+            Ok((add_scalar(Node::String(text), nodes, stack), behind))
+        }
+        Opening::Literal => {
+            let node = literal(place, &rest[skip..])?;
+            Ok((add_scalar(Node::Static(node), nodes, stack), rest))
+        }
+        Opening::Number => {
+            let (word, behind) = take_word(skip, rest);
+            let node = number_node(place, word)?;
+            Ok((add_scalar(node, nodes, stack), behind))
+        }
+        Opening::Nothing => Err(Stop {
+            kind: unexpected,
+            place,
+        }),
+    }
+}
+
+/// Reads the token that begins at `skip`.
+fn step<'i>(
+    state: State,
+    place: usize,
+    skip: usize,
+    limit: usize,
+    rest: &'i mut [u8],
+    nodes: &mut Vec<Node<'i>>,
+    stack: &mut Vec<Frame>,
+) -> Result<(State, &'i mut [u8]), Stop>
+    requires goes_on { state ≢ State.End }
+    requires at { (c : Config) × IsAt c state (entries nodes.old.items) stack.old.items }
+    requires within { skip < length rest.old }
+    requires body { slice_index rest.old skip ≡ 0x22 → IsUtf8 (string_body (drop (skip + 1) rest.old)) }
+    requires fits { place + length rest.old < 2 ^ 64 }
+    requires nodes { vec_len nodes.old < vec_capacity nodes.old }
+    requires stack { vec_len stack.old < limit → vec_len stack.old < vec_capacity stack.old }
+    ensures steps { (c : Config) (before : List ℕ) → IsAt c state (entries nodes.old.items) stack.old.items
+        → Steps (λ p. p.0) limit place (reading_from limit c (token_of place before (drop skip rest.entry.now))) result (entries nodes.new.items) stack.new.items }
+    ensures carriers { (ts : List Token) (before : List ℕ) → HaveCarriers ts nodes.old.items
+        → OnOk result (HaveCarriers (ts ++ token_of place before (drop skip rest.entry.now) ∷ []) nodes.new.items) }
+    ensures rest { (before : List ℕ) → IfOk result (λ p. IsBehind skip (token_of place before (drop skip rest.entry.now)) rest.entry.now p.1.now) }
+    ensures stops { IfErr result (StopsAt place skip rest.entry.now) }
+    ensures capacity { (vec_capacity nodes.new ≡ vec_capacity nodes.old) × (vec_capacity stack.new ≡ vec_capacity stack.old) }
+{
+    match state.role(rest[skip]) {
+        Role::Close => Ok((close(nodes, stack), rest)),
+        Role::Separator(next) => Ok((next, rest)),
+        Role::Key => {
+            let (key, behind) = take_string(place, skip, rest)?;
+            nodes.push_reserved(Node::String(key));
+            Ok((State::Colon, behind))
+        }
+        Role::Value => read_value(state.unexpected(), place, skip, limit, rest, nodes, stack),
+        Role::Unexpected => Err(Stop {
+            kind: state.unexpected(),
+            place,
+        }),
+    }
+}
+
+/// Reads the tokens of a text: appends the nodes of its tree, or answers its first fault.
+///
+/// The places are the positions of the text. The vectors are empty, and have room: the nodes for as many as there are
+/// places, the stack for as many frames as there are places or levels, whichever are fewer.
+pub(crate) fn descend<'i>(
+    input: &'i mut [u8],
+    places: &[u32],
+    limit: usize,
+    nodes: &mut Vec<Node<'i>>,
+    stack: &mut Vec<Frame>,
+) -> Result<(), Error>
+    requires scanned { scan_fault input.old ≡ None }
+    requires places { places.now ≡ positions input.old }
+    requires short { length input.old ≤ longest }
+    requires empty { (nodes.old.items ≡ []) × (stack.old.items ≡ []) }
+    requires nodes { length places.now ≤ vec_capacity nodes.old }
+    requires stack { min limit (length places.now) ≤ vec_capacity stack.old }
+    ensures found { MatchResult result
+        (λ _. (t : Tree) × (last : ℕ) × (tree_value limit ErrorType.InternalError 0 (tokens input.entry.now) ≡ Ok (t, left last [])) × (entries nodes.new.items ≡ listing t))
+        (λ e. stop_fault input.entry.now (descent (tokens input.entry.now) limit) ≡ Some e) }
+    ensures carriers { OnOk result (HaveCarriers (tokens input.entry.now) nodes.new.items) }
+{
+    let len = input.len();
+    let mut rest = input;
+    let mut state = State::Value;
+    let mut last = (0, 0);
+    for place in places {
+        if state.is_end() {
+            let (place, byte) = last;
+            return Err(Error::at(left_kind(nodes), place, byte));
+        }
+        let place = *place as usize;
+        let skip = place - (len - rest.len());
+        let byte = rest[skip];
+        match step(state, place, skip, limit, rest, nodes, stack) {
+            Ok((next, behind)) => {
+                state = next;
+                rest = behind;
+            }
+            Err(stop) => return Err(stop.error(place, byte)),
+        }
+        last = (place, byte);
+    }
+    if state.is_end() {
+        Ok(())
+    } else {
+        let (place, byte) = last;
+        Err(Error::at(ErrorType::Syntax, place, byte))
+    }
+}
+
+/// The kind of the fault where tokens are left behind a root with these nodes.
+fn left_kind(nodes: &[Node<'_>]) -> ErrorType
+    ensures { (t : Tree) → entries nodes.now ≡ listing t → result ≡ left_kind_of t }
+{
+    match nodes.first() {
+        Some(Node::Array { .. } | Node::Object { .. }) => ErrorType::InternalError,
+        _ => ErrorType::TrailingData,
+    }
+}

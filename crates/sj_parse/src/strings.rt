@@ -1,0 +1,98 @@
+//! Strings, decoded where they stand in the input.
+ghost use Rattle.std.specs.Prelude.{◌≡◌, ◌≢◌, ℕ, ◌+◌, ◌<◌, ◌≤◌, ◌^◌, Some, None, length, take, slice_index, MatchResult, IsUtf8};
+ghost use Rattle.sj_parse.specs.Escapes.{bad_escape};
+ghost use Rattle.sj_parse.specs.inside.Decoded.{decoded};
+
+use crate::characters::write_character;
+use crate::escapes::read_escape;
+use crate::stop::Stop;
+use memchr::memchr;
+
+/// Decodes the body of a string in place and returns its text, which borrows from these bytes. The body begins at
+/// `place`, in bytes from the start of the input.
+///
+/// # Errors
+///
+/// The first bad escape. The bytes before it may be rewritten then.
+pub(crate) fn decode<'a>(place: usize, body: &'a mut [u8]) -> Result<&'a str, Stop>
+    requires utf8 { IsUtf8 body.old }
+    requires place { place + length body.old < 2 ^ 64 }
+    ensures { MatchResult result
+        (λ text. (bad_escape place body.entry.now ≡ None) × (text.now ≡ decoded body.entry.now))
+        (λ stop. bad_escape place body.entry.now ≡ Some stop) }
+{
+    let Some(first) = memchr(b'\\', body) else {
+        return Ok(unsafe { std::str::from_utf8_unchecked(body) });
+    };
+    let len = decode_from(first, place, body)?;
+    let text: &'a [u8] = body;
+    Ok(unsafe { std::str::from_utf8_unchecked(&text[..len]) })
+}
+
+// Decodes a body whose first backslash is not before `first`, and returns the length of its text.
+fn decode_from(first: usize, place: usize, body: &mut [u8]) -> Result<usize, Stop>
+    requires within { first ≤ length body.old }
+    requires none { (k : ℕ) → k < first → slice_index body.old k ≢ 0x5c }
+    requires place { place + length body.old < 2 ^ 64 }
+    ensures { MatchResult result
+        (λ len. (len ≤ length body.new) × (bad_escape place body.old ≡ None)
+        × (take len body.new ≡ decoded body.old))
+        (λ stop. bad_escape place body.old ≡ Some stop) }
+{
+    let mut read = first;
+    let mut written = first;
+    while read < body.len() {
+        if body[read] == b'\\' {
+            let escaped = match read_escape(&body[read + 1..]) {
+                Ok(escaped) => escaped,
+                Err(kind) => {
+                    return Err(Stop {
+                        kind,
+                        place: place + read,
+                    });
+                }
+            };
+            written += write_character(escaped.character, &mut body[written..]);
+            read += 1 + escaped.len;
+        } else {
+            body[written] = body[read];
+            written += 1;
+            read += 1;
+        }
+    }
+    Ok(written)
+}
+
+#[cfg(test)]
+mod tests {
+    use super::*;
+    use sj_base::ErrorType;
+    use std::test::Fail;
+
+    #[test]
+    fn bodies(rt: HostRuntime) -> Result<(), Fail> {
+        for (body, expected) in [
+            (r#"plain é"#, Ok("plain é")),
+            (
+                r#"\"\\\/\b\f\n\r\t\u001F."#,
+                Ok("\"\\/\u{8}\u{c}\n\r\t\u{1f}."),
+            ),
+            (r#"é\ud83d\ude00\u0041\u20AC"#, Ok("é😀A€")),
+            (r#"a\qb"#, Err((ErrorType::InvalidEscape, 101))),
+            (r#"\u12G4"#, Err((ErrorType::InvalidUnicodeEscape, 100))),
+            (
+                r#"é\ud83d\u0041"#,
+                Err((ErrorType::InvalidUnicodeCodepoint, 102)),
+            ),
+            (
+                r#"\n\ude00"#,
+                Err((ErrorType::InvalidUnicodeCodepoint, 102)),
+            ),
+        ] {
+            let mut bytes = body.as_bytes().to_vec(rt.alloc())?;
+            let text = decode(100, bytes.as_mut_slice()).map_err(|stop| (stop.kind, stop.place));
+            assert!(rt; text == expected, "{body}");
+        }
+        Ok(())
+    }
+}
