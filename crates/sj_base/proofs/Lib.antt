@@ -6,7 +6,7 @@ pub mod NumberBytes
 pub mod Bodies
 mod Cuts
 mod Values
-mod Meanings
+pub mod Meanings
 pub mod Quotes
 mod Decimals
 mod Compact

@@ -51,7 +51,6 @@ pub enum ErrorType {
     /// A surrogate that isn't part of a pair.
     InvalidUnicodeCodepoint,
     KeyMustBeAString,
-    /// An input that is no document within the limits, where no other kind says why.
     NoStructure,
     Parser,
     /// An input without a token.

@@ -3,7 +3,7 @@ use Rattle.std.proofs.Common.{◌≡◌, ℕ, zero, suc, ◌+◌, ◌<◌, ◌�
 use Rattle.std.specs.Prelude.{◌==◌, if◌then◌else◌, slice_index, IsUtf8}
 use Rattle.std.specs.List.{list_all}
 use Rattle.std.proofs.Math.Seq.{drop-cons}
-use Rattle.std.proofs.lemmas.Bool.{cases_Bool, eqb-true, and_right, and_parts, or_parts, not-true, false≢true}
+use Rattle.std.proofs.lemmas.Bool.{cases_Bool, eqb-true, and_right, and_parts, not-true, false≢true}
 use Rattle.sj_scan.specs.Positions.{is_whitespace, is_operator}
 use Rattle.sj_parse.specs.Token.{Token, tokens, word}
 use Rattle.sj_parse.specs.Numbers.{is_number}
@@ -12,6 +12,7 @@ use Rattle.sj_parse.specs.inside.Step.{string_body, reach}
 use Rattle.sj_parse.proofs.Bodies.{body_from, body-body_from}
 use Rattle.sj_parse.proofs.FirstToken.{utf8_cut}
 use Rattle.sj_parse.proofs.NumberLemmas.{is_word-number}
+use Rattle.sj_parse.proofs.Pieces.{and_true, word_byte}
 use Rattle.sj_parse.proofs.Walk.{walk, tokens-walk, escapes, separates, begins, inside_behind, is_quote, token_from}
 
 -- These tokens stand from that place on, or later.
@@ -75,10 +76,6 @@ ahead_at : (bytes : List ℕ) (e i s : Bool) (n : ℕ) (bs : List ℕ) (ts : Lis
 ahead_at bytes e i s n bs ts is apart are =
     record { escaped = e; inside = i; separated = s; place = n; apart = apart; beyond = omega arith; are = are ∙ ap (λ (ys : List ℕ). (walk e i s n ys).tokens) is }
 
-and_true : (b : Bool) → (b && true) ≡ b
-and_true true = refl
-and_true false = refl
-
 -- inside a string no token begins before the next real quote
 string_ahead : (bytes : List ℕ) (e s : Bool) (n : ℕ) (bs : List ℕ) (ts : List Token) → bs ≡ drop n bytes → (e && s) ≡ false → ts ≡ (walk e true s n bs).tokens → Ahead bytes (n + length (body_from e bs)) ts
 string_ahead bytes e s n [] ts is apart are = ahead_before bytes (n + 0) n ts (omega arith) (ahead_at bytes e true s n [] ts is apart are)
@@ -94,19 +91,6 @@ string_ahead bytes false s n (b ∷ bs) ts is apart are = elim (cases_Bool (b ==
       let more = ahead_before bytes (n + suc (length (body_from (b == 0x5c) bs))) (suc n + length (body_from (b == 0x5c) bs)) ts (omega arith) k in
       rw (q, and_true (b == 0x5c)) more
 ]
-
-record WordByte (b : ℕ) : Type 0 where
-  space : is_whitespace b ≡ false
-  operator : is_operator b ≡ false
-  quote : (b == 0x22) ≡ false
-  backslash : (b == 0x5c) ≡ false
-
-word_byte : (b : ℕ) → is_word_byte b ≡ true → WordByte b
-word_byte b h =
-    let p = or_parts (is_whitespace b || is_operator b || b == 0x22) (b == 0x5c) (not-true _ h) in
-    let q = or_parts (is_whitespace b || is_operator b) (b == 0x22) p.0 in
-    let r = or_parts (is_whitespace b) (is_operator b) q.0 in
-    record { space = r.0; operator = r.1; quote = q.1; backslash = p.1 }
 
 -- no token begins inside a word of word bytes
 word_ahead : (bytes : List ℕ) (n : ℕ) (bs : List ℕ) (ts : List Token) → bs ≡ drop n bytes → list_all is_word_byte (word bs) ≡ true → ts ≡ (walk false false false n bs).tokens → Ahead bytes (n + length (word bs)) ts

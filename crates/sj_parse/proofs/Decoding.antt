@@ -1,5 +1,5 @@
 -- Decoding in place: what is read and written so far.
-use Rattle.std.specs.Prelude.{◌-◌, true, nat_lt, unwrap_or, ◌≡◌, ◌≢◌, ℕ, zero, suc, ◌<◌, ◌≤◌, ◌+◌, List, [], ◌∷◌, ◌++◌, length, take, drop, Some, None, Result, Ok, Err, encode_utf8}
+use Rattle.std.specs.Prelude.{◌-◌, true, nat_lt, unwrap_or, ◌≡◌, ◌≢◌, ℕ, zero, suc, ◌<◌, ◌≤◌, ◌+◌, List, [], ◌∷◌, ◌++◌, length, take, drop, None, Ok, encode_utf8}
 use Rattle.std.specs.Char.{len_utf8}
 use Rattle.std.specs.List.{AllByRecursion}
 use Rattle.std.proofs.Common.{take_at, refl, sym, ap, ◌∙◌, subst, arith, append_assoc, append-nil, set, get_or, length-append, length-drop, take-append-drop, drop-drop}
@@ -7,10 +7,9 @@ use Rattle.std.proofs.lemmas.List.{drop_more, drop_all, take_more_set, drop-set-
 use Rattle.std.proofs.lemmas.Bool.{agree_below_at, ltb-true}
 use Rattle.std.proofs.lemmas.Str.{length-encode, len_utf8_bounds, len_utf8_ascii}
 use Rattle.std.proofs.Math.Seq.{take-append-add, drop-append-add}
-use Rattle.sj_base.specs.declared.error.ErrorType.{ErrorType}
 use Rattle.sj_base.specs.Characters.{CharacterForm, raw, short, unit, pair, short_character, hex_value, IsCharacterForm, form_bytes, form_character}
 use Rattle.sj_base.proofs.Utf8.{letter_ascii}
-use Rattle.sj_parse.specs.Escapes.{stop, escape, past_escape, bad_escape, bad_escape_behind}
+use Rattle.sj_parse.specs.Escapes.{escape, bad_escape}
 use Rattle.sj_parse.specs.inside.Decoded.{escaped_character, decoded}
 use Rattle.sj_parse.proofs.EscapeForms.{IsEscape, Escape, escape_form}
 use Rattle.sj_parse.proofs.FormSteps.{decoded-escape, bad_escape-escape, decoded-raw, bad_escape-raw}
@@ -161,10 +160,3 @@ decoding_ends place read written old now d h =
       d.stops ∙ ap (λ (bs : List ℕ). bad_escape (read + place) bs) none,
       sym (d.text ∙ ap (λ (bs : List ℕ). take written now ++ decoded bs) none ∙ append-nil (take written now)),
     )
-
-pub decoding_stops : (place read written : ℕ) (old now : List ℕ) → Decoding place read written old now → read < length now → get_or now read 0 ≡ 0x5c → (kind : ErrorType) → escape (drop (read + 1) now) ≡ Err kind → bad_escape place old ≡ Some (stop kind (place + read))
-decoding_stops place read written old now d h slash kind e =
-    let sum : read + place ≡ place + read = omega arith in
-    d.stops ∙ ap (λ (bs : List ℕ). bad_escape (read + place) bs) (at_slash place read written old now d h slash)
-    ∙ ap (λ (q : Result ℕ ErrorType). past_escape q (read + place) (λ m. bad_escape_behind m (suc (read + place)) (drop (read + 1) now))) e
-    ∙ ap (λ p. Some (stop kind p)) sum

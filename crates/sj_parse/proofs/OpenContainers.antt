@@ -12,7 +12,7 @@ use Rattle.sj_tape.specs.Nodes.{node_entry, entries}
 use Rattle.sj_tape.specs.declared.node.Node.{Node}
 use Rattle.sj_tape.specs.declared.node.Node.TheVariants.{Object, Array}
 use Rattle.sj_parse.specs.declared.containers.Frame.{Frame}
-use Rattle.sj_parse.specs.declared.stage_two.State.TheVariants.{FirstItem, ItemEnd, FirstMember, MemberEnd, End}
+use Rattle.sj_parse.specs.declared.stage_two.State.TheVariants.{FirstItem, ItemEnd, FirstMember, MemberEnd}
 use Rattle.sj_parse.specs.Token.{Token}
 use Rattle.sj_parse.specs.Nodes.{makes_node, HasCarrier, HaveCarriers}
 use Rattle.sj_parse.specs.inside.Machine.{append_items, append_members, Waiting, array_of, object_of, Config, first_item, first_member, opened, frame_entry, config_state, config_entries, config_stack, waiting_entries, waiting_stack, array_entries, object_entries, array_frame, object_frame, after_value, IsAt}
@@ -114,11 +114,6 @@ after_value-state [] t rest f e = absurd (no_snoc rest f e)
 after_value-state (array_of xs ∷ ws) t rest f e = ap (λ (g : Frame). if g.is_object then MemberEnd else ItemEnd) (sym (snoc_parts (waiting_stack ws) rest (array_frame xs ws) f e).1)
 after_value-state (object_of ms k ∷ ws) t rest f e = ap (λ (g : Frame). if g.is_object then MemberEnd else ItemEnd) (sym (snoc_parts (waiting_stack ws) rest (object_frame ms ws) f e).1)
 
-pub after_value-root : (ws : List Waiting) (t : Tree) → waiting_stack ws ≡ [] → (config_stack (after_value ws t) ≡ []) × (config_state (after_value ws t) ≡ End)
-after_value-root [] t e = (refl, refl)
-after_value-root (array_of xs ∷ ws) t e = absurd (no_snoc (waiting_stack ws) (array_frame xs ws) (sym e))
-after_value-root (object_of ms k ∷ ws) t e = absurd (no_snoc (waiting_stack ws) (object_frame ms ws) (sym e))
-
 -- what a container holds is fewer than the entries
 pub frame_len : (ws : List Waiting) (rest : List Frame) (f : Frame) → waiting_stack ws ≡ rest ++ f ∷ [] → f.len + 1 ≤ length (waiting_entries ws)
 frame_len [] rest f e = absurd (no_snoc rest f e)
@@ -150,11 +145,6 @@ carriers-one ts nodes t n makes has h =
     let made : filter makes_node (t ∷ []) ≡ t ∷ [] = ap (λ (b : Bool). if b then t ∷ [] else []) makes in
     subst (λ (us : List Token). AllZip HasCarrier us (nodes ++ n ∷ [])) (sym (filter-append makes_node ts (t ∷ []) ∙ ap (λ (us : List Token). filter makes_node ts ++ us) made))
     (AllZip-append HasCarrier (filter makes_node ts) nodes (t ∷ []) (n ∷ []) h (has, tt))
-
-pub carriers-none : (ts : List Token) (nodes : List Node) (t : Token) → makes_node t ≡ false → HaveCarriers ts nodes → HaveCarriers (ts ++ t ∷ []) nodes
-carriers-none ts nodes t makes h =
-    let made : filter makes_node (t ∷ []) ≡ [] = ap (λ (b : Bool). if b then t ∷ [] else []) makes in
-    subst (λ (us : List Token). AllZip HasCarrier us nodes) (sym (filter-append makes_node ts (t ∷ []) ∙ ap (λ (us : List Token). filter makes_node ts ++ us) made ∙ append-nil (filter makes_node ts))) h
 
 pub carriers-set : (ts : List Token) (nodes : List Node) (i : ℕ) (n : Node) → ((t : Token) → HasCarrier t n) → HaveCarriers ts nodes → HaveCarriers ts (set nodes i n)
 carriers-set ts nodes i n has h = go (filter makes_node ts) nodes i h

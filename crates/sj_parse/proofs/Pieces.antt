@@ -108,7 +108,7 @@ quote_free : (q x : Bool) → (if q then false else x) ≡ true → (q ≡ false
 quote_free true x h = absurd (false≢true h)
 quote_free false x h = (refl, h)
 
-and_true : (b : Bool) → (b && true) ≡ b
+pub and_true : (b : Bool) → (b && true) ≡ b
 and_true true = refl
 and_true false = refl
 
@@ -145,13 +145,13 @@ Ends-walk s n (b ∷ bs) h = elim (or_cases (is_whitespace b) (is_operator b) h)
   | inr e ↦ operator_step s n b bs e ∙ sym (operator_step true n b bs e)
 ]
 
-record WordByte (b : ℕ) : Type 0 where
-  space : is_whitespace b ≡ false
-  operator : is_operator b ≡ false
-  quote : (b == 0x22) ≡ false
-  backslash : (b == 0x5c) ≡ false
+pub record WordByte (b : ℕ) : Type 0 where
+  pub space : is_whitespace b ≡ false
+  pub operator : is_operator b ≡ false
+  pub quote : (b == 0x22) ≡ false
+  pub backslash : (b == 0x5c) ≡ false
 
-word_byte : (b : ℕ) → is_word_byte b ≡ true → WordByte b
+pub word_byte : (b : ℕ) → is_word_byte b ≡ true → WordByte b
 word_byte b h =
     let p = or_parts (is_whitespace b || is_operator b || b == 0x22) (b == 0x5c) (not-true _ h) in
     let q = or_parts (is_whitespace b || is_operator b) (b == 0x22) p.0 in

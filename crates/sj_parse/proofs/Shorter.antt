@@ -188,13 +188,6 @@ shorter-tree_value limit kind last ts t l e = subst (λ (r : Reading Tree). Leav
 pub shorter-member : (limit : ℕ) (kind : ErrorType) (last : ℕ) (ts : List Token) (m : List ℕ × Tree) (l : Left) → on_token (tree_of_expected_member (tree_value limit) kind) last ts ≡ Ok (m, l) → length l.tokens < length ts
 shorter-member limit kind last ts m l e = subst (λ (r : Reading (List ℕ × Tree)). LeavesFewer (length ts) r) e (fewer_on_token (tree_of_expected_member (tree_value limit) kind) (fewer_expected_member (tree_value limit) (takes_token limit) kind) last ts)
 
-from_forget : {A : Type 0} (n : ℕ) (r : Reading A) (l : Left) → forget r ≡ Ok l → LeavesFewer n r → length l.tokens < n
-from_forget n (Ok p) l e h = let same : p.1 ≡ l = cc in subst (λ (k : Left). length k.tokens < n) same h
-from_forget n (Err s) l e h = absurd cc
-
-pub shorter-value : (limit : ℕ) (kind : ErrorType) (last : ℕ) (ts : List Token) (l : Left) → value limit kind last ts ≡ Ok l → length l.tokens < length ts
-shorter-value limit kind last ts l e = from_forget (length ts) (tree_value limit kind last ts) l (sym (forget-tree_value limit kind last ts) ∙ e) (takes_token limit kind last ts)
-
 -- Behind an item or a member any number of steps that is as large as that of the tokens does.
 pub tree_of_more_items-enough : (limit n m last : ℕ) (ts : List Token) → length ts ≤ n → length ts ≤ m → tree_of_more_items (tree_value limit) n last ts ≡ tree_of_more_items (tree_value limit) m last ts
 tree_of_more_items-enough limit = enough_items (tree_value limit) (takes_token limit)

@@ -23,7 +23,7 @@ use Rattle.sj_parse.specs.Fault.{generic}
 abbrev pub IsTapeOf : List ℕ → ℕ → List Node → Type 0
 IsTapeOf bytes limit nodes = (t : Tree) × Document bytes limit t × (entries nodes ≡ listing t) × HaveCarriers (tokens bytes) nodes
 
--- The first fault, or lack of memory, which may come in place of any answer.
+-- The first fault, or lack of memory. (Where lack of memory can't come, a clause of the call says so.)
 abbrev pub IsErrorOf : Option Error → Error → Type 0
 IsErrorOf found e = (found ≡ Some e) ⊎ (e ≡ generic OutOfMemory)
 

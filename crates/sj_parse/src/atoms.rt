@@ -1,26 +1,27 @@
 //! Tests of literals.
-ghost use Rattle.std.specs.Prelude.{◌≡◌, ◌||◌, codes};
-ghost use Rattle.sj_scan.specs.Positions.{is_whitespace, is_operator};
+ghost use Rattle.std.specs.Prelude.{◌≡◌, codes};
 ghost use Rattle.sj_parse.specs.Atoms.{ends_word, is_atom};
 
-/// Returns whether the bytes begin with `true`, before whitespace, an operator or the end
-/// (`simd_json::stage2::is_valid_true_atom`).
+use crate::bytes::is_separator;
+
+/// Returns `true` if the bytes begin with `true`, before whitespace, an operator or the end. Port of
+/// `simd_json::stage2::is_valid_true_atom`.
 pub fn is_valid_true_atom(bytes: &[u8]) -> bool
     ensures { result ≡ is_atom (codes "true") bytes.now }
 {
     is_atom(b"true", bytes)
 }
 
-/// Returns whether the bytes begin with `false`, before whitespace, an operator or the end
-/// (`simd_json::stage2::is_valid_false_atom`).
+/// Returns `true` if the bytes begin with `false`, before whitespace, an operator or the end. Port of
+/// `simd_json::stage2::is_valid_false_atom`.
 pub fn is_valid_false_atom(bytes: &[u8]) -> bool
     ensures { result ≡ is_atom (codes "false") bytes.now }
 {
     is_atom(b"false", bytes)
 }
 
-/// Returns whether the bytes begin with `null`, before whitespace, an operator or the end
-/// (`simd_json::stage2::is_valid_null_atom`).
+/// Returns `true` if the bytes begin with `null`, before whitespace, an operator or the end. Port of
+/// `simd_json::stage2::is_valid_null_atom`.
 pub fn is_valid_null_atom(bytes: &[u8]) -> bool
     ensures { result ≡ is_atom (codes "null") bytes.now }
 {
@@ -44,15 +45,6 @@ fn ends_word(bytes: &[u8]) -> bool
         Some(byte) => is_separator(*byte),
         None => true,
     }
-}
-
-fn is_separator(byte: u8) -> bool
-    ensures { result ≡ (is_whitespace byte || is_operator byte) }
-{
-    matches!(
-        byte,
-        b' ' | b'\t' | b'\n' | b'\r' | b'{' | b'}' | b'[' | b']' | b':' | b','
-    )
 }
 
 #[cfg(test)]

@@ -12,7 +12,7 @@ const BYTES_PER_POSITION: usize = 128;
 /// Room that one text after another is read in, and the limit of depth under which they are read. Port of
 /// `simd_json::Buffers`.
 ///
-/// Buffers can be used again after any error.
+/// Buffers can be used again after any error, and their room for positions never shrinks.
 #[derive(Debug, Drop)]
 pub struct Buffers {
     pub(crate) positions: Vec<u32>,
@@ -21,10 +21,10 @@ pub struct Buffers {
 }
 
 impl Buffers {
-    /// Creates buffers with the limit [`DEFAULT_MAX_DEPTH`], in levels.
+    /// Creates buffers with the limit [`DEFAULT_MAX_DEPTH`], in levels. Port of `simd_json::Buffers::new`.
     ///
     /// `input_len` is the expected length of a text in bytes. Room for one position in 128 bytes is reserved at once;
-    /// reading a text that has more reserves more. Port of `simd_json::Buffers::new`.
+    /// reading a text that has more reserves more.
     ///
     /// # Errors
     ///
@@ -37,9 +37,10 @@ impl Buffers {
         Buffers::with_max_depth(alloc, input_len, DEFAULT_MAX_DEPTH)
     }
 
-    /// Creates buffers with a limit of depth, in levels: 0 allows scalars alone, 1 containers of scalars too.
+    /// Creates buffers with a limit of depth, in levels: 0 allows scalars alone, 1 containers of scalars too. Port of
+    /// `simd_json::Buffers::with_max_depth`.
     ///
-    /// `input_len` is as in [`Buffers::new`]. Port of `simd_json::Buffers::with_max_depth`.
+    /// `input_len` is as in [`Buffers::new`].
     ///
     /// # Errors
     ///
@@ -61,16 +62,24 @@ impl Buffers {
         })
     }
 
+    /// Returns the limit of depth under which texts are read, in levels.
+    pub fn max_depth(&self) -> usize
+        ensures { result ≡ buffer_limit self.now }
+    {
+        self.max_depth
+    }
+
     /// Returns the allocator of the buffers.
     pub(crate) fn allocator(&self) -> Global {
         *self.positions.allocator()
     }
 
-    /// Returns the positions of the text that was scanned last: the indices, in bytes, at which its tokens begin.
+    /// Returns the positions of the text that was scanned last: the indices, in bytes, at which its tokens begin. Port of
+    /// `simd_json::Buffers::structural_indexes`.
     ///
     /// They are empty before the first scan, after a scan that found a fault (`InvalidUtf8`, `Eof`, or `Syntax` without a
     /// character), and after one that lacked memory. A call that ends with `InputTooLarge` or `InsufficientPadding` scans
-    /// nothing and leaves them. Port of `simd_json::Buffers::structural_indexes`.
+    /// nothing and leaves them.
     pub fn structural_indexes(&self) -> &[u32]
         ensures { result.now ≡ buffer_positions self.now }
     {

@@ -3,8 +3,8 @@ ghost use Rattle.std.specs.Prelude.{◌≡◌, ◌≤◌, ◌++◌, length, take
 ghost use Rattle.std.specs.Char.{IsScalar, len_utf8};
 ghost use Rattle.sj_base.specs.Characters.{IsHex, hex_value};
 
-/// Returns the number that the first four bytes spell as hexadecimal digits of either case
-/// (`simd_json::charutils::hex_to_u32_nocheck`). Bytes behind them are ignored.
+/// Returns the number that the first four bytes spell as hexadecimal digits of either case, or `None` if they spell
+/// none. Bytes behind them are ignored. Port of `simd_json::charutils::hex_to_u32_nocheck`.
 pub fn hex_to_u32(bytes: &[u8]) -> Option<u32>
     ensures { SomeIff result (IsHex (take 4 bytes.now)) (hex_value (take 4 bytes.now)) }
 {
@@ -19,8 +19,8 @@ pub fn hex_to_u32(bytes: &[u8]) -> Option<u32>
     Some(number)
 }
 
-/// Writes a character's UTF-8 to the front of `out` and returns its length in bytes
-/// (`simd_json::charutils::codepoint_to_utf8`). For a surrogate and past U+10FFFF it returns 0 and writes nothing.
+/// Writes a character's UTF-8 to the front of `out`, which has at least 4 bytes, and returns its length in bytes. For a
+/// surrogate and past U+10FFFF it returns 0 and writes nothing. Port of `simd_json::charutils::codepoint_to_utf8`.
 pub fn codepoint_to_utf8(cp: u32, out: &mut [u8]) -> usize
     requires { 4 ≤ length out.old }
     ensures character { IsScalar cp → (result ≡ len_utf8 cp)

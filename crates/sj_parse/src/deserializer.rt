@@ -1,11 +1,12 @@
 //! A tape whose nodes are taken one by one.
-ghost use Rattle.std.specs.Prelude.{◌≡◌, ◌≢◌, ◌↔◌, ◌+◌, ◌<◌, ◌≤◌, [], Some, IsTrue, IfOk, length, slice_get};
+ghost use Rattle.std.specs.Prelude.{◌≡◌, ◌≢◌, ◌↔◌, ◌+◌, ◌<◌, ◌≤◌, [], Some, Err, IsTrue, IfOk, length, slice_get};
 ghost use Rattle.sj_base.specs.Tree.{IsValidTree};
 ghost use Rattle.sj_base.specs.Spelling.{longest};
 ghost use Rattle.sj_base.specs.declared.TheConstants.{DEFAULT_MAX_DEPTH};
+ghost use Rattle.sj_base.specs.declared.error.ErrorType.TheVariants.{InputTooLarge};
 ghost use Rattle.sj_tape.specs.Views.{tape_nodes, tape_tree, value_nodes, value_tree};
-ghost use Rattle.sj_parse.specs.Fault.{fault};
-ghost use Rattle.sj_parse.specs.Answers.{Answers, Leaves, buffer_positions, buffer_limit, deserializer_nodes, deserializer_next};
+ghost use Rattle.sj_parse.specs.Fault.{generic, fault};
+ghost use Rattle.sj_parse.specs.Answers.{Answers, Leaves, buffer_positions, buffer_limit, buffer_room, deserializer_nodes, deserializer_next};
 
 use crate::Result;
 use crate::buffers::Buffers;
@@ -31,6 +32,7 @@ impl<'de> Deserializer<'de> {
         ensures answers { Answers deserializer_nodes s.entry.now DEFAULT_MAX_DEPTH (fault s.entry.now DEFAULT_MAX_DEPTH) result }
         ensures not_empty { IfOk result (λ d. deserializer_nodes d ≢ []) }
         ensures start { IfOk result (λ d. deserializer_next d ≡ 0) }
+        ensures too_large { longest < length s.entry.now → result ≡ Err (generic InputTooLarge) }
     {
         Ok(Deserializer::from_tape(to_tape(alloc, s)?))
     }
@@ -50,9 +52,11 @@ impl<'de> Deserializer<'de> {
             Answers deserializer_nodes s.entry.now limit (fault s.entry.now limit) result }
         ensures not_empty { IfOk result (λ d. deserializer_nodes d ≢ []) }
         ensures start { IfOk result (λ d. deserializer_next d ≡ 0) }
+        ensures too_large { longest < length s.entry.now → result ≡ Err (generic InputTooLarge) }
         ensures scanned { length s.entry.now ≤ longest → Leaves s.entry.now result (buffer_positions buffers.new) }
         ensures not_scanned { longest < length s.entry.now → buffer_positions buffers.new ≡ buffer_positions buffers.old }
         ensures limit { buffer_limit buffers.new ≡ buffer_limit buffers.old }
+        ensures room { buffer_room buffers.old ≤ buffer_room buffers.new }
     {
         Ok(Deserializer::from_tape(to_tape_with_buffers(alloc, s, buffers)?))
     }
@@ -109,7 +113,8 @@ impl<'de> Deserializer<'de> {
         self.tape.is_empty()
     }
 
-    /// Returns a view of the whole document. To test the condition, call [`Deserializer::is_empty`]. Port of `simd_json::Deserializer::as_value`.
+    /// Returns a view of the whole document. To test the condition, call [`Deserializer::is_empty`]. Port of
+    /// `simd_json::Deserializer::as_value`.
     pub fn as_value(&self) -> Value<'_, 'de>
         requires { deserializer_nodes self.now ≢ [] }
         ensures nodes { value_nodes result ≡ deserializer_nodes self.now }

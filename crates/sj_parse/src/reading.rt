@@ -3,14 +3,14 @@
 //! A call tests the length of the input, and in the padded form the padding, and then scans it: these faults are about
 //! the whole text, and stand at index 0 without a character. Then it reserves all the room that the descent over the
 //! tokens needs. The faults of the descent name a byte, and the first one is the answer.
-ghost use Rattle.std.specs.Prelude.{◌≡◌, ◌≢◌, ℕ, ◌+◌, ◌<◌, ◌≤◌, ◌⊎◌, List, [], None, IfErr, IfOk, OnOk, OnErr, length, take, min, vec_capacity};
+ghost use Rattle.std.specs.Prelude.{◌≡◌, ◌≢◌, ℕ, ◌+◌, ◌<◌, ◌≤◌, ◌⊎◌, List, [], None, Err, IfErr, IfOk, OnOk, OnErr, length, take, min, vec_capacity};
 ghost use Rattle.sj_base.specs.Spelling.{longest};
 ghost use Rattle.sj_base.specs.declared.TheConstants.{DEFAULT_MAX_DEPTH};
 ghost use Rattle.sj_scan.specs.Positions.{positions};
 ghost use Rattle.sj_scan.specs.Scan.{scan_fault};
 ghost use Rattle.sj_tape.specs.Views.{tape_nodes};
 ghost use Rattle.sj_parse.specs.Fault.{generic, scan_kind, fault, padding, padded_fault};
-ghost use Rattle.sj_parse.specs.Answers.{Answers, IsErrorOf, Leaves, buffer_positions, buffer_limit};
+ghost use Rattle.sj_parse.specs.Answers.{Answers, IsErrorOf, Leaves, buffer_positions, buffer_limit, buffer_room};
 
 use crate::Result;
 use crate::buffers::Buffers;
@@ -24,7 +24,8 @@ use std::mem;
 
 /// Reads a text into a tape, under the limit of [`sj_base::DEFAULT_MAX_DEPTH`] levels. Port of `simd_json::to_tape`.
 ///
-/// Strings are decoded where they stand, so the bytes of the text are rewritten, also where the call ends with an error.
+/// Strings are decoded where they stand, so the bytes of the text may be rewritten, also where the call ends with an
+/// error.
 ///
 /// # Errors
 ///
@@ -32,11 +33,14 @@ use std::mem;
 /// more than `u32::MAX` bytes, `InvalidUtf8`, `Syntax` for a string that isn't closed or holds a byte below 0x20, and
 /// `Eof` for a text without a token. The others have the index and the character of the byte at fault: `Syntax` for a
 /// container beyond the limit of levels and for a text that is cut short, and the kinds that name what was expected or
-/// what is invalid there. `OutOfMemory` may stand in the place of any answer, if there is no memory.
+/// what is invalid there. `OutOfMemory`, about the whole text too, may come in place of any answer but `InputTooLarge`,
+/// if there is no memory.
 pub fn to_tape<'de>(alloc: Global, s: &'de mut [u8]) -> Result<Tape<'de>>
     ensures answers { Answers tape_nodes s.entry.now DEFAULT_MAX_DEPTH (fault s.entry.now DEFAULT_MAX_DEPTH) result }
     ensures not_empty { IfOk result (λ tape. tape_nodes tape ≢ []) }
+    ensures too_large { longest < length s.entry.now → result ≡ Err (generic ErrorType.InputTooLarge) }
 {
+    test_len(s.len())?;
     let mut buffers = Buffers::new(alloc, s.len()).map_err(no_memory)?;
     to_tape_with_buffers(alloc, s, &mut buffers)
 }
@@ -45,7 +49,11 @@ pub fn to_tape<'de>(alloc: Global, s: &'de mut [u8]) -> Result<Tape<'de>>
 ///
 /// # Errors
 ///
-/// Those of [`to_tape`].
+/// Those of [`to_tape`], under the limit of the buffers. The bytes of the text may be rewritten then.
+///
+/// The buffers keep their limit and can be used again. After `InputTooLarge` they have the positions that they had;
+/// after another fault of the whole text none; after one that names a byte those of the text; and after `OutOfMemory`
+/// those of the text, or none if the scan lacked the memory.
 pub fn to_tape_with_buffers<'de>(
     alloc: Global,
     s: &'de mut [u8],
@@ -54,9 +62,11 @@ pub fn to_tape_with_buffers<'de>(
     ensures answers { let limit = buffer_limit buffers.old in
         Answers tape_nodes s.entry.now limit (fault s.entry.now limit) result }
     ensures not_empty { IfOk result (λ tape. tape_nodes tape ≢ []) }
+    ensures too_large { longest < length s.entry.now → result ≡ Err (generic ErrorType.InputTooLarge) }
     ensures scanned { length s.entry.now ≤ longest → Leaves s.entry.now result (buffer_positions buffers.new) }
     ensures not_scanned { longest < length s.entry.now → buffer_positions buffers.new ≡ buffer_positions buffers.old }
     ensures limit { buffer_limit buffers.new ≡ buffer_limit buffers.old }
+    ensures room { buffer_room buffers.old ≤ buffer_room buffers.new }
 {
     let mut tape = Tape::empty(alloc);
     fill_tape(s, buffers, &mut tape)?;
@@ -70,15 +80,18 @@ pub fn to_tape_with_buffers<'de>(
 ///
 /// # Errors
 ///
-/// Those of [`to_tape`]. The tape is empty then.
+/// Those of [`to_tape_with_buffers`], which leave the bytes and the buffers as they do there. The tape is empty then, and
+/// keeps its room.
 pub fn fill_tape<'de>(s: &'de mut [u8], buffers: &mut Buffers, tape: &mut Tape<'de>) -> Result<()>
     ensures answers { let limit = buffer_limit buffers.old in
         Answers (λ _. tape_nodes tape.new) s.entry.now limit (fault s.entry.now limit) result }
     ensures not_empty { OnOk result (tape_nodes tape.new ≢ []) }
     ensures empty { OnErr result (tape_nodes tape.new ≡ []) }
+    ensures too_large { longest < length s.entry.now → result ≡ Err (generic ErrorType.InputTooLarge) }
     ensures scanned { length s.entry.now ≤ longest → Leaves s.entry.now result (buffer_positions buffers.new) }
     ensures not_scanned { longest < length s.entry.now → buffer_positions buffers.new ≡ buffer_positions buffers.old }
     ensures limit { buffer_limit buffers.new ≡ buffer_limit buffers.old }
+    ensures room { buffer_room buffers.old ≤ buffer_room buffers.new }
 {
     let mut nodes = take_room(buffers.allocator(), tape);
     let read = read_nodes(s, buffers, &mut nodes);
@@ -95,7 +108,11 @@ pub fn fill_tape<'de>(s: &'de mut [u8], buffers: &mut Buffers, tape: &mut Tape<'
 /// # Errors
 ///
 /// `InputTooLarge` if `len` is more than `u32::MAX`, then `InsufficientPadding` if fewer bytes stand behind the first
-/// `len` ones, or `s` is shorter than that; then those of [`to_tape`]. The tape is empty then.
+/// `len` ones, or `s` is shorter than that. Nothing is read then: the bytes stay, and the buffers keep their positions.
+///
+/// Then those of [`fill_tape`] for the first `len` bytes, which leave these bytes and the buffers as they do there.
+///
+/// After each of them the tape is empty, and keeps its room.
 pub fn fill_tape_padded<'de>(
     s: &'de mut [u8],
     len: usize,
@@ -106,9 +123,13 @@ pub fn fill_tape_padded<'de>(
         Answers (λ _. tape_nodes tape.new) (take len s.entry.now) limit (padded_fault s.entry.now len limit) result }
     ensures not_empty { OnOk result (tape_nodes tape.new ≢ []) }
     ensures empty { OnErr result (tape_nodes tape.new ≡ []) }
+    ensures too_large { longest < len → result ≡ Err (generic ErrorType.InputTooLarge) }
+    ensures not_padded { len ≤ longest → length s.entry.now < len + padding
+        → result ≡ Err (generic ErrorType.InsufficientPadding) }
     ensures scanned { len ≤ longest → len + padding ≤ length s.entry.now → Leaves (take len s.entry.now) result (buffer_positions buffers.new) }
     ensures not_scanned { ((longest < len) ⊎ (length s.entry.now < len + padding)) → buffer_positions buffers.new ≡ buffer_positions buffers.old }
     ensures limit { buffer_limit buffers.new ≡ buffer_limit buffers.old }
+    ensures room { buffer_room buffers.old ≤ buffer_room buffers.new }
 {
     if let Err(error) = test_padding(s, len) {
         *tape = Tape::from_listing(take_room(buffers.allocator(), tape));
@@ -137,9 +158,11 @@ fn read_nodes<'de>(
     requires { nodes.old.items ≡ [] }
     ensures answers { let limit = buffer_limit buffers.old in
         Answers (λ _. nodes.new.items) s.entry.now limit (fault s.entry.now limit) result }
+    ensures too_large { longest < length s.entry.now → result ≡ Err (generic ErrorType.InputTooLarge) }
     ensures scanned { length s.entry.now ≤ longest → Leaves s.entry.now result (buffer_positions buffers.new) }
     ensures not_scanned { longest < length s.entry.now → buffer_positions buffers.new ≡ buffer_positions buffers.old }
     ensures limit { buffer_limit buffers.new ≡ buffer_limit buffers.old }
+    ensures room { buffer_room buffers.old ≤ buffer_room buffers.new }
 {
     let Buffers {
         positions,
@@ -155,12 +178,12 @@ fn read_nodes<'de>(
 fn scan(text: &[u8], places: &mut Vec<u32>) -> Result<()>
     ensures ok { OnOk result ((length text.now ≤ longest) × (scan_fault text.now ≡ None) × (places.new.items ≡ positions text.now)) }
     ensures err { IfErr result (λ e. (limit : ℕ) → IsErrorOf (fault text.now limit) e) }
+    ensures too_large { longest < length text.now → result ≡ Err (generic ErrorType.InputTooLarge) }
     ensures scanned { length text.now ≤ longest → Leaves text.now result places.new.items }
     ensures not_scanned { longest < length text.now → places.new.items ≡ places.old.items }
+    ensures capacity { vec_capacity places.old ≤ vec_capacity places.new }
 {
-    if text.len() > u32::MAX as usize {
-        return Err(Error::generic(ErrorType::InputTooLarge));
-    }
+    test_len(text.len())?;
     PlainScan.scan(text, places).map_err(scan_error)
 }
 
@@ -183,13 +206,26 @@ fn make_room(
     Ok(())
 }
 
-fn test_padding(s: &[u8], len: usize) -> Result<()>
-    ensures ok { OnOk result ((len ≤ longest) × (len + padding ≤ length s.now)) }
-    ensures err { IfErr result (λ e. ((longest < len) ⊎ (length s.now < len + padding)) × ((limit : ℕ) → padded_fault s.now len limit ≡ Some e)) }
+/// Tests the length of a text, in bytes.
+fn test_len(len: usize) -> Result<()>
+    ensures ok { OnOk result (len ≤ longest) }
+    ensures err { OnErr result (longest < len) }
+    ensures too_large { IfErr result (λ e. e ≡ generic ErrorType.InputTooLarge) }
 {
     if len > u32::MAX as usize {
         return Err(Error::generic(ErrorType::InputTooLarge));
     }
+    Ok(())
+}
+
+/// Tests the length of a text, and then that there is padding behind it.
+fn test_padding(s: &[u8], len: usize) -> Result<()>
+    ensures ok { OnOk result ((len ≤ longest) × (len + padding ≤ length s.now)) }
+    ensures err { IfErr result (λ e. ((longest < len) ⊎ (length s.now < len + padding)) × ((limit : ℕ) → padded_fault s.now len limit ≡ Some e)) }
+    ensures too_large { longest < len → result ≡ Err (generic ErrorType.InputTooLarge) }
+    ensures not_padded { len ≤ longest → length s.now < len + padding → result ≡ Err (generic ErrorType.InsufficientPadding) }
+{
+    test_len(len)?;
     if s.len() < len + INPUT_PADDING {
         return Err(Error::generic(ErrorType::InsufficientPadding));
     }

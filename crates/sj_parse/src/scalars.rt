@@ -1,25 +1,13 @@
 //! Strings, numbers and literals, read where they stand in the input.
 ghost use Rattle.std.specs.Prelude.{◌≡◌, ◌+◌, ◌<◌, ◌≤◌, ◌^◌, ◌∷◌, [], None, Some, true, false, MatchResult, IfErr, IfOk, length, take, drop, slice_index, IsUtf8};
-ghost use Rattle.sj_scan.specs.Positions.{is_whitespace, is_operator};
 ghost use Rattle.sj_parse.specs.Token.{word};
 ghost use Rattle.sj_parse.specs.Escapes.{bad_escape};
 ghost use Rattle.sj_parse.specs.inside.Trees.{decoded};
 ghost use Rattle.sj_parse.specs.inside.Step.{string_body, StopsAt};
 
+use crate::bytes::is_separator;
 use crate::stop::Stop;
 use crate::strings::decode;
-
-fn is_whitespace(byte: u8) -> bool
-    ensures { result ≡ is_whitespace byte }
-{
-    byte == b' ' || byte == b'\t' || byte == b'\n' || byte == b'\r'
-}
-
-fn is_operator(byte: u8) -> bool
-    ensures { result ≡ is_operator byte }
-{
-    byte == b'{' || byte == b'}' || byte == b'[' || byte == b']' || byte == b':' || byte == b','
-}
 
 /// The length of the body that begins the bytes: up to its closing quote, or the end.
 fn body_len(bytes: &[u8]) -> usize
@@ -42,7 +30,7 @@ fn word_len(bytes: &[u8]) -> usize
     ensures word { take result bytes.now ≡ word bytes.now }
 {
     for (place, byte) in bytes.iter().enumerate() {
-        if is_whitespace(*byte) || is_operator(*byte) {
+        if is_separator(*byte) {
             return place;
         }
     }

@@ -132,6 +132,22 @@ fn a_tape_is_filled_again(rt: HostRuntime) -> std::result::Result<(), Fail> {
 }
 
 #[test]
+fn room_of_a_tape_is_used_again(rt: HostRuntime) -> std::result::Result<(), Fail> {
+    let mut first = input(rt.alloc(), "[1,2]")?;
+    let mut second = input(rt.alloc(), "[3")?;
+    let mut third = input(rt.alloc(), "\"a")?;
+    let mut fourth = input(rt.alloc(), r#"{"a":4}"#)?;
+    let mut buffers = Buffers::new(rt.alloc(), 10)?;
+    let mut tape = Tape::from_listing(Vec::with_capacity(rt.alloc(), 100)?);
+    fill_tape(&mut first, &mut buffers, &mut tape)?;
+    assert!(rt; fill_tape(&mut second, &mut buffers, &mut tape).is_err());
+    assert!(rt; fill_tape(&mut third, &mut buffers, &mut tape).is_err());
+    assert!(rt; fill_tape_padded(&mut fourth, 7, &mut buffers, &mut tape).is_err());
+    assert_eq!(rt; tape.into_nodes().capacity(), 100);
+    Ok(())
+}
+
+#[test]
 fn padding_of_any_bytes(rt: HostRuntime) -> std::result::Result<(), Fail> {
     let mut buffers = Buffers::new(rt.alloc(), 2)?;
     for byte in [0, b' ', b'"', b'\\', b']', b'x', 0xff] {

@@ -1,5 +1,5 @@
 //! The scan that reads one byte at a time, the reference for faster ones.
-ghost use Rattle.std.specs.Prelude.{◌≡◌, ℕ, List, [], ◌∷◌, ◌≤◌, None, length, reverse, IfOk, IfErr, OnOk};
+ghost use Rattle.std.specs.Prelude.{◌≡◌, ◌≢◌, ℕ, List, [], ◌∷◌, ◌≤◌, None, length, reverse, vec_capacity, IsOk, IfOk, IfErr, OnOk};
 ghost use Rattle.std.specs.Str.{is_utf8};
 ghost use Rattle.sj_scan.specs.Positions.{is_whitespace, is_operator, is_real_quote, is_position, positions};
 ghost use Rattle.sj_scan.specs.Scan.{is_control, has_control, scan_fault, IsFirstFault};
@@ -30,6 +30,8 @@ fn scan_into(bytes: &[u8], out: &mut Vec<u32>) -> Result<(), ScanFault>
     requires short { length bytes.now ≤ 4294967295 }
     ensures ok { OnOk result ((scan_fault bytes.now ≡ None) × (out.new.items ≡ positions bytes.now)) }
     ensures err { IfErr result (IsFirstFault bytes.now) }
+    ensures room { length bytes.now ≤ vec_capacity out.old → IfErr result (λ fault. fault ≢ ScanFault.Memory) }
+    ensures capacity { vec_capacity out.old ≤ vec_capacity out.new }
 {
     if !is_utf8(bytes) {
         return Err(ScanFault::Utf8);
@@ -66,6 +68,8 @@ fn find_positions(bytes: &[u8], out: &mut Vec<u32>) -> Result<End, AllocError>
     ensures positions { OnOk result (out.new.items ≡ positions bytes.now) }
     ensures state { IfOk result (λ end. Follows (reverse bytes.now) end.state) }
     ensures control { IfOk result (λ end. end.has_control ≡ has_control bytes.now) }
+    ensures room { length bytes.now ≤ vec_capacity out.old → IsOk result }
+    ensures capacity { vec_capacity out.old ≤ vec_capacity out.new }
 {
     let mut state = State::start();
     let mut has_control = false;

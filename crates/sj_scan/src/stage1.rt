@@ -1,9 +1,9 @@
 //! The trait of scans and their errors.
-ghost use Rattle.std.specs.Prelude.{◌≡◌, ◌≤◌, length};
+ghost use Rattle.std.specs.Prelude.{◌≡◌, ◌≢◌, ◌≤◌, IfErr, length, vec_capacity};
 ghost use Rattle.sj_scan.specs.declared.stage1.ScanFault.TheVariants.{Memory};
 ghost use Rattle.sj_scan.specs.Scan.{Scans};
 
-use std::alloc::{AllocError, AllocFailed};
+use std::alloc::AllocError;
 use thiserror::Error;
 
 /// An error of a scan. A text that fails several tests gives the first of them, in the order of the variants.
@@ -21,7 +21,7 @@ pub enum ScanFault {
     /// The text is empty or only whitespace.
     #[error("NoToken")]
     NoToken,
-    /// There was no memory for the positions. This can stand in place of any other answer.
+    /// There was no memory for the positions. It may come in place of any answer where `out` has to grow.
     #[error("Memory")]
     Memory,
 }
@@ -34,19 +34,14 @@ impl From<AllocError> for ScanFault {
     }
 }
 
-impl<T: Drop> From<AllocFailed<T>> for ScanFault {
-    ghost from_gives = { λ _ fault. fault ≡ Memory };
-
-    fn from(_error: AllocFailed<T>) -> ScanFault {
-        ScanFault::Memory
-    }
-}
-
-/// Finds the positions of a text (`simd_json::Stage1Parse`).
+/// Finds the positions of a text. Port of `simd_json::Stage1Parse`.
 pub trait Stage1 {
     /// Replaces the contents of `out` with the positions of a text.
     ///
-    /// Positions are offsets in bytes, in rising order. The text has at most `u32::MAX` bytes.
+    /// Positions are offsets in bytes, in rising order. The text has at most `u32::MAX` bytes, which the caller tests
+    /// first: `bytes.len() <= u32::MAX as usize`.
+    ///
+    /// The capacity of `out` never shrinks. Where it is at least the length of the text in bytes, `Memory` doesn't come.
     ///
     /// # Errors
     ///
@@ -54,5 +49,9 @@ pub trait Stage1 {
     /// no memory for the positions. `out` is then empty.
     fn scan(&mut self, bytes: &[u8], out: &mut Vec<u32>) -> Result<(), ScanFault>
         requires { length bytes.now ≤ 4294967295 }
-        ensures { Scans bytes.now result out.new.items };
+        ensures scans { Scans bytes.now result out.new.items }
+
+        // A text has no more positions than bytes.
+        ensures room { length bytes.now ≤ vec_capacity out.old → IfErr result (λ fault. fault ≢ Memory) }
+        ensures capacity { vec_capacity out.old ≤ vec_capacity out.new };
 }

@@ -147,17 +147,6 @@ fn each_prefix(rt: HostRuntime) -> Result<(), Fail> {
     Ok(())
 }
 
-#[test]
-fn room_is_kept(rt: HostRuntime) -> Result<(), Fail> {
-    let mut out = Vec::with_capacity(rt.alloc(), 100)?;
-    for bytes in [b"[1]".as_slice(), b"[\"", b"\xff", b"2"] {
-        let _len = u32::try_from(bytes.len())?;
-        let _answer = PlainScan.scan(bytes, &mut out);
-        assert!(rt; out.capacity() >= 100);
-    }
-    Ok(())
-}
-
 // RFC 3629, section 4: the first and the last character of each length, and their neighbours.
 #[test]
 fn ends_of_utf8(rt: HostRuntime) -> Result<(), Fail> {
@@ -187,20 +176,6 @@ fn ends_of_utf8(rt: HostRuntime) -> Result<(), Fail> {
         let wanted = (!is_utf8).then_some(ScanFault::Utf8);
         assert_eq!(rt; found.err(), wanted, "{character:?}");
     }
-    Ok(())
-}
-
-// Each `?` converts another of the errors of memory.
-fn push_zero(numbers: &mut Vec<u32>) -> Result<(), ScanFault> {
-    numbers.reserve(1)?;
-    Ok(numbers.push(0)?)
-}
-
-#[test]
-fn errors_of_memory_convert(rt: HostRuntime) -> Result<(), Fail> {
-    let mut numbers = Vec::new(rt.alloc());
-    assert_eq!(rt; push_zero(&mut numbers), Ok(()));
-    assert_eq!(rt; numbers.as_slice(), [0].as_slice());
     Ok(())
 }
 

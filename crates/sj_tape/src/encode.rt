@@ -35,8 +35,8 @@ fn print_value<O: Output>(
     }
     match value.as_scalar() {
         Some(scalar) => print_text(out, &scalar),
-        // This is never reached: a value that isn't a container is a scalar.
-        None => Ok(()),
+        // A value that isn't a container is a scalar.
+        None => unreachable!(),
     }
 }
 

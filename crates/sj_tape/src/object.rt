@@ -27,8 +27,9 @@ pub struct Object<'t, 'i> {
 impl<'t, 'i> Object<'t, 'i> {
     ghost use Rattle.sj_tape.specs.Views.{value_nodes, value_tree, nodes_tree, object_members, object_member, object_runs, pair_tree, pairs_left, keys_left, values_left};
 
-    // Returns the first member, and a view of the members after it.
-    pub(crate) fn split_first(&self) -> Option<(&'i str, Value<'t, 'i>, Object<'t, 'i>)>
+    /// Returns the key and the value of the first member and a view of the members after it, or `None` if the object has no
+    /// members. A repeated key is shown at each of its members.
+    pub fn split_first(&self) -> Option<(&'i str, Value<'t, 'i>, Object<'t, 'i>)>
         ensures members { MatchOption result (object_members self.now ≡ no_members)
             (λ p. object_members self.now ≡ member p.0.now (value_tree p.1) (object_members p.2)) }
         ensures runs { MatchOption result (object_runs self.now ≡ [])

@@ -165,6 +165,7 @@ fn of_depth(rt: HostRuntime) -> Result<(), Fail> {
         let read = to_tape_with_buffers(rt.alloc(), &mut text_bytes, &mut buffers);
         let want = at.map(|(index, byte)| Error::at(ErrorType::Syntax, index, byte));
         assert_eq!(rt; read.err(), want, "on {text} under {limit}");
+        assert_eq!(rt; buffers.max_depth(), limit);
     }
     Ok(())
 }

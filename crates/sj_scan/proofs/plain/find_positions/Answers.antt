@@ -21,4 +21,12 @@ loop-place-preserved c =
       ];
       control = list_any-more (is_control_at bytes) place c.loop-place.has_control c.is_control-has_control.result so_far.control (c.is_control-has_control.ensures (before bytes place) so_far.follows);
       follows = rw more (c.next-state.ensures (before bytes place) so_far.follows);
+      few = elim c.if-is_position.branch [
+        | then-is_position+in_ok-push w ↦ let len = w.in_ok-push.ensures.len in let few = so_far.few in rw w.out-is (omega arith)
+        | else-is_position w ↦ let few = so_far.few in rw w.out-is (omega arith)
+      ];
+      capacity = elim c.if-is_position.branch [
+        | then-is_position+in_ok-push w ↦ let grown = w.in_ok-push.ensures.capacity in let so_far_grown = so_far.capacity in rw w.out-is (omega arith)
+        | else-is_position w ↦ rw w.out-is so_far.capacity
+      ];
     }
