@@ -6,9 +6,9 @@ use Rattle.sj_base.specs.Calls.{Calls}
 use Rattle.sj_base.specs.Output.{AppendsPrefix, WritesAll, WritesPrefix}
 use Rattle.sj_records.specs.Command.{Step}
 use Rattle.sj_records.specs.Step.{Job}
-use Rattle.sj_records.specs.Record.{IsReadAs, IsOutput}
+use Rattle.sj_records.specs.Record.{IsOutput}
 use Rattle.sj_records.specs.Run.{Transfers, Leaves, RecordsOfSome, RecordsOfEnded, RecordsPrefix}
-use Rattle.sj_records.specs.Script.{IsRefusedAs}
+use Rattle.sj_records.specs.Script.{IsReadAs, IsRefusedAs}
 use Rattle.sj_records.specs.declared.form.Form.TheVariants.{Owned}
 use Rattle.sj_records.specs.declared.run_error.RunError.{RunError}
 use Rattle.sj_records.specs.declared.script.ScriptFault.{ScriptFault}

@@ -260,7 +260,12 @@ fn refuses_scripts(rt: HostRuntime) {
             2,
             "records: script: command 0: WrongCount\n",
         ),
-        (Ok("x"), 2, "records: script: NoStructure at 0\n"),
+        (Ok(r#"["a"#), 2, "records: script: Syntax at 0\n"),
+        (
+            Ok(r#"[["get",[01]]]"#),
+            2,
+            "records: script: InvalidNumber at 9\n",
+        ),
     ] {
         let mut output = Narrow::new(rt.alloc(), usize::MAX, false);
         let given = Given { words: RUN, script };

@@ -1,11 +1,10 @@
 -- Members that are added one by one are those that `keep_members` keeps.
-use Rattle.std.proofs.Common.{◌≡◌, ℕ, Bool, true, false, cond, ◌||◌, List, [], ◌∷◌, ◌++◌, Option, Some, is_some, refl, sym, ap, ◌∙◌}
+use Rattle.std.proofs.Common.{◌≡◌, ℕ, Bool, true, false, cond, ◌||◌, List, Option, Some, is_some, refl, sym, ap, ◌∙◌}
 use Rattle.std.proofs.lemmas.Slice.Eq.{bytes_eq-Decides}
 use Rattle.std.specs.Str.{bytes_eq}
 use Rattle.sj_base.specs.Tree.{Tree, Members, no_members, member}
 use Rattle.sj_base.specs.Path.{member_at}
 use Rattle.sj_base.specs.Keep.{keep, keep_members, without}
-use Rattle.sj_records.specs.inside.Reading.{members_of}
 use Rattle.sj_records.specs.inside.Kept.{has_key, with_last, add_member}
 
 -- ks, and each of these members added to them
@@ -110,8 +109,3 @@ kept_onto-joined ks (member k t ms) =
 
 pub kept_onto-is : (ms : Members) → kept_onto no_members ms ≡ keep_members ms
 kept_onto-is ms = kept_onto-joined no_members ms ∙ beside-no_members (keep_members ms)
-
--- one more of the members behind
-pub kept_onto-push : (ks : Members) (ms : List (List ℕ × Tree)) (m : List ℕ × Tree) → kept_onto ks (members_of (ms ++ m ∷ [])) ≡ add_member (kept_onto ks (members_of ms)) m.0 (keep m.1)
-kept_onto-push ks [] m = refl
-kept_onto-push ks (n ∷ ms) m = kept_onto-push (add_member ks n.0 (keep n.1)) ms m

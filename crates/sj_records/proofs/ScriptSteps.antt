@@ -11,7 +11,7 @@ use Rattle.sj_records.specs.declared.read_error.ReadError.{ReadError}
 use Rattle.sj_records.specs.declared.read_error.ReadError.TheVariants as errors
 use Rattle.sj_records.specs.declared.document.Document.{Document}
 use Rattle.sj_records.specs.Command.{Step, Refusal, command, ◌>>=◌, part_of, parts_of, path_of, get_of, named, command_of, commands_from, commands_of}
-use Rattle.sj_records.specs.inside.ReadErrors.{IsErrorOf}
+use Rattle.sj_records.specs.inside.ReadErrors.{IsFaultOf}
 use Rattle.sj_records.specs.inside.Documents.{document_tree, items_view}
 
 -- what is read behind a front
@@ -34,8 +34,8 @@ parts-more ds i d front part total lt is found so_far =
     let one : read_after front (parts_of (items_view (drop i ds))) ≡ read_after (front ++ part ∷ []) (parts_of (items_view (drop (i + 1) ds))) = rw (items_left ds i d lt is, found) (regroup front part (parts_of (items_view (drop (i + 1) ds)))) in
     sym one ∙ so_far
 
-pub parts-fault : (e : ReadError CommandFault) (ds : List Document) (i : ℕ) (d : Document) (front : List Part) (total : Result (List Part) CommandFault) → i < length ds → d ≡ get_or ds i d → IsErrorOf e (part_of (document_tree d))
-    → read_after front (parts_of (items_view (drop i ds))) ≡ total → IsErrorOf e total
+pub parts-fault : (e : ReadError CommandFault) (ds : List Document) (i : ℕ) (d : Document) (front : List Part) (total : Result (List Part) CommandFault) → i < length ds → d ≡ get_or ds i d → IsFaultOf e (part_of (document_tree d))
+    → read_after front (parts_of (items_view (drop i ds))) ≡ total → IsFaultOf e total
 parts-fault errors.Memory ds i d front total lt is fault so_far = tt
 parts-fault (errors.Refused f) ds i d front total lt is fault so_far =
     let one : read_after front (parts_of (items_view (drop i ds))) ≡ Err f = rw (items_left ds i d lt is, fault) refl in

@@ -1,45 +1,50 @@
--- Each line has a record.
-use Rattle.std.proofs.Common.{◌≡◌, ℕ, ◌≤◌, ◌⊎◌, List, [], ◌∷◌, ◌++◌, length, Option, Some, None, refl, inl, inr, arith}
-use Rattle.std.proofs.lemmas.Bool.{cases_lt}
+-- Each line has exactly one record, and each script is read in exactly one way.
+use Rattle.std.proofs.Common.{◌≡◌, ℕ, List, [], ◌∷◌, ◌++◌, Option, Some, None, Err, refl, sym, ap, ◌∙◌, inl, inr}
 use Rattle.sj_base.specs.Tree.{Tree}
-use Rattle.sj_base.specs.Spelling.{longest}
+use Rattle.sj_base.specs.Spelling.{Document}
 use Rattle.sj_base.specs.Text.{text}
 use Rattle.sj_base.specs.declared.error.Error.{Error}
-use Rattle.sj_base.specs.declared.error.ErrorType.TheVariants.{Eof, NoStructure}
+use Rattle.sj_parse.specs.Fault.{fault}
+use Rattle.sj_parse.proofs.Documents.{fault_or_tree}
+use Rattle.sj_base.proofs.Meanings.{same_tree}
 use Rattle.sj_records.specs.Step.{Job}
-use Rattle.sj_records.specs.inside.Reading.{line_at, after_spaces}
-use Rattle.sj_records.specs.Record.{PlainDocument, IsNoPlainDocument, IsFault, fault_at_no_byte, fault_record, outcome, IsRecord, AreRecords}
-use Rattle.sj_records.proofs.Sound.{line_at-sound}
-use Rattle.sj_records.proofs.Complete.{IsNoPlainDocument-from_none}
-use Rattle.sj_records.proofs.Readings.{AreSpaces-from_after_spaces, after_spaces-from_AreSpaces}
+use Rattle.sj_records.specs.Command.{json, commands_of}
+use Rattle.sj_records.specs.Record.{ComesOf, fault_record, outcome, AreRecords}
+use Rattle.sj_records.specs.Script.{script_limit}
+use Rattle.sj_records.specs.Laws.{ExactlyOne, OneRecord, OneReading}
 
--- a line that is no document has a fault
-fault_from : (line rest : List ℕ) → after_spaces line ≡ rest → (e : Error) × IsFault line e
-fault_from line [] e = (fault_at_no_byte Eof, inl (AreSpaces-from_after_spaces line e, refl))
-fault_from line (b ∷ rest) e = (fault_at_no_byte NoStructure, inr (λ spaces. let none = after_spaces-from_AreSpaces line spaces in absurd cc, refl))
+module _ {A : Type 0} (g : Tree → A) (h : Error → A) (line : List ℕ) (limit : ℕ) where
+  some_outcome : (o : Option Error) → fault line limit ≡ o → (x : A) × ComesOf g h line limit x
+  some_outcome None none = let found = (fault_or_tree line limit).0 none in (g found.0, inl (found.0, found.1, refl))
+  some_outcome (Some e) is = (h e, inr (e, is, refl))
 
--- a line is a document or none
-decided : (line : List ℕ) (limit : ℕ) (o : Option Tree) → length line ≤ longest → line_at limit line ≡ o → ((t : Tree) × PlainDocument line limit t) ⊎ IsNoPlainDocument line limit
-decided line limit None short e = inr (IsNoPlainDocument-from_none limit line e)
-decided line limit (Some t) short e = inl (t, line_at-sound limit line t short e)
+  not_both : (t : Tree) (e : Error) → Document line limit t → fault line limit ≡ Some e → ⊥
+  not_both t e document is = let none = (fault_or_tree line limit).1 (t, document) in absurd cc
 
-pub is_document_or_none : (line : List ℕ) (limit : ℕ) → ((t : Tree) × PlainDocument line limit t) ⊎ IsNoPlainDocument line limit
-is_document_or_none line limit =
-    elim (cases_lt longest (length line)) [
-      | inl long ↦ inr (λ t d. let short = d.document.short in absurd (omega arith))
-      | inr short ↦ decided line limit (line_at limit line) short refl
-    ]
+  one_tree : (t u : Tree) → Document line limit t → Document line limit u → t ≡ u
+  one_tree t u d e = same_tree line t u d.spells e.spells
 
-pub IsRecord-exists : (job : Job) (line : List ℕ) → (bytes : List ℕ) × IsRecord job line bytes
-IsRecord-exists job line =
-    elim (is_document_or_none line job.limit) [
-      | inl found ↦ (text (outcome job found.0), inl (found.0, found.1, refl))
-      | inr none ↦ let fault = fault_from line (after_spaces line) refl in (text (fault_record fault.0), inr (none, (fault.0, fault.1, refl)))
-    ]
+  same_error : (d e : Error) → Some d ≡ Some e → d ≡ e
+  same_error d e is = cc
+
+  same_outcome : (x y : A) → ComesOf g h line limit x → ComesOf g h line limit y → y ≡ x
+  same_outcome x y (inl a) (inl b) = b.2 ∙ ap g (one_tree b.0 a.0 b.1 a.1) ∙ sym a.2
+  same_outcome x y (inl a) (inr b) = absurd (not_both a.0 b.0 a.1 b.1)
+  same_outcome x y (inr a) (inl b) = absurd (not_both b.0 a.0 b.1 a.1)
+  same_outcome x y (inr a) (inr b) = b.2 ∙ ap h (same_error b.0 a.0 (sym b.1 ∙ a.1)) ∙ sym a.2
+
+  one_outcome : ExactlyOne (ComesOf g h line limit)
+  one_outcome = let some = some_outcome (fault line limit) refl in (some.0, some.1, λ y read. same_outcome some.0 y some.1 read)
+
+pub one_record : OneRecord
+one_record job line = one_outcome (λ t. text (outcome job t)) (λ e. text (fault_record e)) line job.limit
+
+pub one_reading : OneReading
+one_reading bytes = one_outcome commands_of (λ e. Err (json e)) bytes script_limit
 
 pub AreRecords-exist : (job : Job) (ls : List (List ℕ)) → (bytes : List ℕ) × AreRecords job ls bytes
 AreRecords-exist job [] = ([], refl)
 AreRecords-exist job (line ∷ ls) =
-    let first = IsRecord-exists job line in
+    let first = one_record job line in
     let rest = AreRecords-exist job ls in
     (first.0 ++ 0x0a ∷ rest.0, (first.0, rest.0, refl, first.1, rest.1))

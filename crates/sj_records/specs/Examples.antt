@@ -1,19 +1,24 @@
 -- Worked values: lines, the commands of scripts, the depth limit of writes, and records.
 use Rattle.std.specs.Prelude.{◌≡◌, refl, List, pos, negsuc, true, [], ◌∷◌, ◌++◌, Ok, Err, Some, codes}
+use Rattle.std.specs.Char.{encode_utf8}
 use Rattle.std.specs.Fmt.{digits}
-use Rattle.std.proofs.Common.{lit≤}
+use Rattle.std.specs.Str.{chars, is_utf8}
+use Rattle.std.proofs.Common.{lit≤, inr}
 use Rattle.std.proofs.Math.Nat.{not-suc-le_self}
 use Rattle.sj_base.specs.Tree.{Tree, integer, string, list, object, Items, no_items, item, no_members, member}
 use Rattle.sj_base.specs.Path.{key, place}
 use Rattle.sj_base.specs.Number.{signed}
 use Rattle.sj_base.specs.Text.{text}
-use Rattle.sj_base.specs.declared.error.ErrorType.TheVariants.{Eof, NoStructure, ExpectedTrue, ExpectedString, InvalidUtf8}
+use Rattle.sj_base.specs.declared.error.ErrorType.TheVariants.{Eof, ExpectedTrue, InternalError, Syntax}
 use Rattle.sj_records.specs.declared.form.Form.TheVariants.{Owned}
 use Rattle.sj_records.specs.declared.script.CommandFault.TheVariants.{NotAnArray, NoName, UnknownName, WrongCount, BadPath}
 use Rattle.sj_records.specs.Lines.{lines}
-use Rattle.sj_records.specs.Command.{Step, get, command, not_an_array, commands_of}
+use Rattle.sj_records.specs.Command.{Step, get, json, command, not_an_array, commands_of}
 use Rattle.sj_records.specs.Step.{Job, Fits, FitsBelow}
-use Rattle.sj_records.specs.Record.{outcome, fault_at_no_byte, fault_record}
+use Rattle.sj_parse.specs.Descent.{value}
+use Rattle.sj_parse.specs.Fault.{generic}
+use Rattle.sj_records.specs.Record.{outcome, IsRecord}
+use Rattle.sj_records.specs.Script.{IsReadAs}
 
 -- lines
 
@@ -133,25 +138,35 @@ no_command : text (outcome (owned []) minus_zero_and_list) ≡ codes "{\"replies
 unfolding digits
 no_command = refl
 
--- records of faults
+-- lines that are no documents, and their records
 
-blank_line : text (fault_record (fault_at_no_byte Eof)) ≡ codes "{\"error\":\"Eof\",\"index\":0,\"character\":null}"
-unfolding digits
-blank_line = refl
+blank_line : IsRecord (owned []) (codes " ") (codes "{\"error\":\"Eof\",\"index\":0,\"character\":null}")
+unfolding digits is_utf8 chars encode_utf8
+blank_line = inr (generic Eof, refl, refl)
 
-no_document : text (fault_record (fault_at_no_byte NoStructure)) ≡ codes "{\"error\":\"NoStructure\",\"index\":0,\"character\":null}"
-unfolding digits
-no_document = refl
+unclosed_string : IsRecord (owned []) (codes "\"a") (codes "{\"error\":\"Syntax\",\"index\":0,\"character\":null}")
+unfolding digits is_utf8 chars encode_utf8
+unclosed_string = inr (generic Syntax, refl, refl)
 
-fault_at_a_letter : text (fault_record (record { error = ExpectedTrue; index = 0; character = Some 0x74 })) ≡ codes "{\"error\":\"ExpectedTrue\",\"index\":0,\"character\":\"t\"}"
-unfolding digits lib.Utf8.encode
-fault_at_a_letter = refl
+no_value_behind_comma : IsRecord (owned []) (codes "[1,]") (codes "{\"error\":\"InternalError\",\"index\":3,\"character\":\"]\"}")
+unfolding digits is_utf8 chars encode_utf8 value
+no_value_behind_comma = inr (record { error = InternalError; index = 3; character = Some 0x5d }, refl, refl)
 
-fault_at_a_backslash : text (fault_record (record { error = ExpectedString; index = 12; character = Some 0x5c })) ≡ codes "{\"error\":\"ExpectedString\",\"index\":12,\"character\":\"\\\\\"}"
-unfolding digits lib.Utf8.encode
-fault_at_a_backslash = refl
+backslash_at_root : IsRecord (owned []) (codes "\\\"") (codes "{\"error\":\"InternalError\",\"index\":0,\"character\":\"\\\\\"}")
+unfolding digits is_utf8 chars encode_utf8 value
+backslash_at_root = inr (record { error = InternalError; index = 0; character = Some 0x5c }, refl, refl)
 
--- U+00C3, in two bytes
-fault_beyond_ascii : text (fault_record (record { error = InvalidUtf8; index = 3; character = Some 0xc3 })) ≡ codes "{\"error\":\"InvalidUtf8\",\"index\":3,\"character\":\"" ++ 0xc3 ∷ 0x83 ∷ codes "\"}"
-unfolding digits lib.Utf8.encode
-fault_beyond_ascii = refl
+true_before_a_quote : IsRecord (owned []) (codes "[true\"a\"]") (codes "{\"error\":\"ExpectedTrue\",\"index\":1,\"character\":\"t\"}")
+unfolding digits is_utf8 chars encode_utf8 value
+true_before_a_quote = inr (record { error = ExpectedTrue; index = 1; character = Some 0x74 }, refl, refl)
+
+-- U+FEFF and a number: the byte at fault is EF, which is U+00EF as a character, in two bytes
+byte_order_mark : IsRecord (owned []) (0xef ∷ 0xbb ∷ 0xbf ∷ codes "1") (codes "{\"error\":\"InternalError\",\"index\":0,\"character\":\"" ++ 0xc3 ∷ 0xaf ∷ codes "\"}")
+unfolding digits is_utf8 chars encode_utf8 value
+byte_order_mark = inr (record { error = InternalError; index = 0; character = Some 0xef }, refl, refl)
+
+-- a script that is no document
+
+cut_script : IsReadAs (codes "[\"a") (Err (json (generic Syntax)))
+unfolding is_utf8 chars encode_utf8
+cut_script = inr (generic Syntax, refl, refl)

@@ -13,9 +13,9 @@ use Rattle.sj_records.specs.declared.script.Script.{Script}
 use Rattle.sj_records.specs.declared.script.ScriptFault.{ScriptFault}
 use Rattle.sj_records.specs.declared.script.ScriptFault.TheVariants.{Json, NotAnArray, Command as CommandAt, Memory}
 use Rattle.sj_records.specs.declared.form.Form.{Form}
-use Rattle.sj_records.specs.Command.{Step, get, json, not_an_array, command}
+use Rattle.sj_records.specs.Command.{Step, Refusal, get, json, not_an_array, command, commands_of}
 use Rattle.sj_records.specs.Step.{Job}
-use Rattle.sj_records.specs.Record.{IsReadAs}
+use Rattle.sj_records.specs.Record.{ComesOf}
 
 abbrev pub part_view : PathPart → Part
 part_view (Key k) = key (string_bytes k)
@@ -36,6 +36,15 @@ steps_of script = commands_view script.commands.items
 -- a run of the script under the depth limit, with documents in the form
 abbrev pub job_of : Script → ℕ → Form → Job
 job_of script limit form = record { script = steps_of script; limit = limit; form = form }
+
+-- the most levels that a script nests
+abbrev pub script_limit : ℕ
+script_limit = 1024
+
+-- What a script's bytes are read as: the commands of its document, or the first refusal. (Which member of a repeated key
+-- is kept matters to no command: a path has no object.)
+abbrev pub IsReadAs : List ℕ → Result (List Step) Refusal → Type 0
+IsReadAs bytes r = ComesOf commands_of (λ e. Err (json e)) bytes script_limit r
 
 -- The bytes are refused with this fault. `Memory` says nothing of the bytes.
 abbrev pub IsRefusedAs : ScriptFault → List ℕ → Type 0

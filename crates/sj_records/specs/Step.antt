@@ -13,7 +13,7 @@ pub record Job : Type 0 where
   pub limit : ℕ  -- the levels that a document may nest
   pub form : Form  -- how the document is kept meanwhile
 
--- the document, and the trees on which the writes were tested that were not refused, newest first
+-- the document, and for each write that was not refused the tree on which it was tested, newest first
 pub record State : Type 0 where
   pub tree : Tree
   pub bases : List Tree

@@ -3,8 +3,7 @@ ghost use Rattle.sj_records.specs.Command.{part_of, parts_of, path_of, command_o
 ghost use Rattle.sj_base.specs.Tree.{list};
 ghost use Rattle.sj_base.specs.Scalar.{static_tree};
 ghost use Rattle.sj_records.specs.inside.Documents.{document_tree, items_view};
-ghost use Rattle.sj_records.specs.Script.{part_view, path_view};
-ghost use Rattle.sj_records.specs.Script.{command_view, commands_view};
+ghost use Rattle.sj_records.specs.Script.{part_view, path_view, command_view, commands_view};
 ghost use Rattle.sj_records.specs.inside.ReadErrors.{GivesCommand, GivesScript};
 
 use crate::document::Document;
@@ -20,7 +19,7 @@ fn read_part(document: &Document) -> Result<PathPart, ReadError<CommandFault>>
     match document {
         Document::String(key) => Ok(PathPart::Key(key.clone()?)),
         Document::Static(scalar) => read_index(*scalar),
-        Document::Array(_) | Document::Object(_) => Err(ReadError::Refused(CommandFault::BadPath)),
+        _ => Err(ReadError::Refused(CommandFault::BadPath)),
     }
 }
 

@@ -1,28 +1,55 @@
 //! A document that owns its texts.
-ghost use Rattle.std.specs.Prelude.{◌≡◌, ◌++◌, OnOk, OnErr, option_map, string_bytes};
+//!
+//! It is built from a view of a tape. Of members with equal keys only the first is kept.
+ghost use Rattle.std.specs.Prelude.{◌≡◌, ◌++◌, OnOk, IfOk, option_map};
 ghost use Rattle.sj_base.specs.Tree.{list, object};
+ghost use Rattle.sj_base.specs.Keep.{keep, keep_items, keep_members};
 ghost use Rattle.sj_base.specs.Path.{key, place, member_at, child, at};
 ghost use Rattle.sj_base.specs.Text.{text};
+ghost use Rattle.sj_tape.specs.Views.{value_tree, array_items, object_members};
 ghost use Rattle.sj_records.specs.Step.{reply_of};
-ghost use Rattle.sj_records.specs.inside.Documents.{comma};
-ghost use Rattle.sj_records.specs.inside.Documents.{document_tree, items_view, members_view};
+ghost use Rattle.sj_records.specs.inside.Documents.{comma, document_tree, items_view, members_view};
 ghost use Rattle.sj_records.specs.Script.{part_view, path_view};
-ghost use Rattle.sj_records.specs.inside.Kept.{add_member};
 
 use crate::path::PathPart;
-use sj_base::{Scalar, StaticNode, put_string, put_text};
-use std::alloc::AllocError;
+use sj_base::{DecimalBuf, Scalar, StaticNode, put_string, put_text};
+use sj_reads::ValueAsScalar;
+use sj_tape::{Array, Object, Value};
+use std::alloc::{AllocError, Global};
 
 /// A JSON value. An object keeps its members in the order of its text.
 #[derive(Debug, Drop)]
 pub(crate) enum Document {
     Static(StaticNode),
+    Decimal(DecimalBuf),
     String(String),
     Array(Vec<Document>),
     Object(Vec<(String, Document)>),
 }
 
 impl Document {
+    /// Builds the document of a value. Room for the elements of a container is taken once.
+    ///
+    /// The recursion is as deep as the value nests.
+    #[cycle(build)]
+    pub(crate) fn build(alloc: Global, value: Value<'_, '_>) -> Result<Document, AllocError>
+        ensures { IfOk result (λ d. document_tree d ≡ keep (value_tree value.entry)) }
+    {
+        if let Some(items) = value.as_array() {
+            return Ok(Document::Array(build_items(alloc, items)?));
+        }
+        if let Some(members) = value.as_object() {
+            return Ok(Document::Object(build_members(alloc, members)?));
+        }
+        Ok(match value.as_scalar() {
+            Some(Scalar::Static(scalar)) => Document::Static(scalar),
+            Some(Scalar::Text(text)) => Document::String(String::from_str(alloc, text)?),
+            Some(Scalar::Literal(literal)) => Document::Decimal(DecimalBuf::new(alloc, literal)?),
+            // A value that isn't a container is a scalar.
+            None => unreachable!(),
+        })
+    }
+
     /// Returns the value that the path selects.
     pub(crate) fn get<'d>(&'d self, path: &[PathPart]) -> Option<&'d Document>
         ensures { option_map (λ d. document_tree d.now) result
@@ -42,6 +69,7 @@ impl Document {
     {
         match self {
             Document::Static(scalar) => put_text(out, &Scalar::Static(*scalar)),
+            Document::Decimal(literal) => put_text(out, &Scalar::Literal(literal.as_decimal())),
             Document::String(string) => put_text(out, &Scalar::Text(string)),
             Document::Array(items) => put_items(items, out),
             Document::Object(members) => put_members(members, out),
@@ -63,7 +91,7 @@ impl Document {
     {
         match self {
             Document::Object(members) => find(members, name),
-            Document::Static(_) | Document::String(_) | Document::Array(_) => None,
+            _ => None,
         }
     }
 
@@ -72,9 +100,41 @@ impl Document {
     {
         match self {
             Document::Array(items) => items.get(index as usize),
-            Document::Static(_) | Document::String(_) | Document::Object(_) => None,
+            _ => None,
         }
     }
+}
+
+#[cycle(build)]
+fn build_items(alloc: Global, items: Array<'_, '_>) -> Result<Vec<Document>, AllocError>
+    ensures { IfOk result (λ documents. items_view documents.items ≡ keep_items (array_items items.entry)) }
+{
+    let mut documents = Vec::with_capacity(alloc, items.len())?;
+    let mut rest = items;
+    while let Some((item, behind)) = rest.split_first() {
+        documents.push(Document::build(alloc, item)?)?;
+        rest = behind;
+    }
+    Ok(documents)
+}
+
+#[cycle(build)]
+fn build_members(
+    alloc: Global,
+    members: Object<'_, '_>,
+) -> Result<Vec<(String, Document)>, AllocError>
+    ensures { IfOk result (λ kept. members_view kept.items ≡ keep_members (object_members members.entry)) }
+{
+    let mut kept = Vec::with_capacity(alloc, members.len())?;
+    let mut rest = members;
+    while let Some((key, value, behind)) = rest.split_first() {
+        if find(&kept, key).is_none() {
+            let key = String::from_str(alloc, key)?;
+            kept.push((key, Document::build(alloc, value)?))?;
+        }
+        rest = behind;
+    }
+    Ok(kept)
 }
 
 fn find<'d>(members: &'d [(String, Document)], name: &str) -> Option<&'d Document>
@@ -87,22 +147,6 @@ fn find<'d>(members: &'d [(String, Document)], name: &str) -> Option<&'d Documen
         }
     }
     None
-}
-
-/// Adds a member, unless one has its key.
-pub(crate) fn add_member(
-    members: &mut Vec<(String, Document)>,
-    key: String,
-    value: Document,
-) -> Result<(), AllocError>
-    ensures ok { OnOk result (members_view members.new.items
-        ≡ add_member (members_view members.old.items) (string_bytes key) (document_tree value)) }
-    ensures err { OnErr result (members.new.items ≡ members.old.items) }
-{
-    if find(members, &key).is_none() {
-        members.push((key, value))?;
-    }
-    Ok(())
 }
 
 #[cycle(put)]

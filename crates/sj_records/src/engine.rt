@@ -4,24 +4,27 @@ ghost use Rattle.std.specs.Io.KnownBytes.{IsAtEnd};
 ghost use Rattle.sj_records.specs.Lines.{ended, unended, if_any};
 ghost use Rattle.sj_records.specs.Run.{Transfers, Leaves, ReadsFor, WritesFor};
 ghost use Rattle.sj_records.specs.Script.{job_of};
-ghost use Rattle.sj_records.specs.inside.Progress.{HasNoLineFeed, LeavesLines, LeavesBytes, task_job};
+ghost use Rattle.sj_records.specs.inside.Progress.{HasNoLineFeed, LeavesLines, LeavesBytes, task_job, scratch_limit};
 
 use crate::form::Form;
 use crate::run_error::RunError;
 use crate::script::Script;
-use crate::task::{Task, make_record};
+use crate::task::{Scratch, Task, make_record};
 use sj_base::{Output, Sink, Source, WriteFault};
 use std::alloc::{AllocError, Global};
 use std::io::ErrorKind;
 
-/// Splits a piece at its first line feed, into the bytes before and behind it.
-fn split_line(piece: &[u8]) -> Option<(&[u8], &[u8])>
-    ensures { MatchOption result (HasNoLineFeed piece.now)
-        (λ p. (piece.now ≡ p.0.now ++ 0x0a ∷ p.1.now) × HasNoLineFeed p.0.now) }
+/// Splits a piece at its first line feed, into the bytes before it and those behind it, or else returns all of it.
+fn split_line<'p>(piece: &'p mut [u8]) -> (&'p mut [u8], Option<&'p mut [u8]>)
+    ensures free { HasNoLineFeed result.0.now }
+    ensures parts { MatchOption result.1 (piece.entry.now ≡ result.0.now) (λ rest. piece.entry.now ≡ result.0.now ++ 0x0a ∷ rest.now) }
 {
-    let end = memchr::memchr(b'\n', piece)?;
-    let (line, rest) = piece.split_at(end);
-    Some((line, &rest[1..]))
+    let Some(end) = memchr::memchr(b'\n', piece) else {
+        return (piece, None);
+    };
+    let (line, rest) = piece.split_at_mut(end);
+    let (_, behind) = rest.split_at_mut(1);
+    (line, Some(behind))
 }
 
 /// Writes all of the bytes. A prefix of them is written before an error.
@@ -40,79 +43,89 @@ fn write_all<W: Sink>(writer: &mut W, bytes: &[u8]) -> Result<(), RunError>
 struct Pending {
     /// The bytes behind the last line feed.
     line: Vec<u8>,
-    /// Room for a record.
-    record: Vec<u8>,
+    scratch: Scratch,
 }
 
-/// Writes the record of a line. `out` is room for it.
+/// Writes the record of a line. The line is rewritten.
 fn write_record<W: Sink>(
     alloc: Global,
     writer: &mut W,
-    out: &mut Vec<u8>,
-    line: &[u8],
+    scratch: &mut Scratch,
+    line: &mut [u8],
     task: Task<'_>,
 ) -> Result<(), RunError>
+    requires { scratch_limit scratch.old ≡ task.depth }
     ensures stands { LeavesLines result (task_job task.entry) (W.contents writer.old) (W.contents writer.new)
-        [] (line.now ∷ []) }
+        [] (line.old ∷ []) }
+    ensures limit { scratch_limit scratch.new ≡ scratch_limit scratch.old }
     ensures writes { WritesFor result (W.calls writer.old) (W.calls writer.new) }
 {
-    make_record(alloc, out, line, task)?;
-    write_all(writer, out)
+    make_record(alloc, scratch, line, task)?;
+    write_all(writer, &scratch.out)
 }
 
-/// Writes the record of the pending line, of which `end` is the last part, and clears the line.
+/// Writes the record of the pending line, of which `end` is the last part, and clears the line. Both are rewritten.
 fn complete_line<W: Sink>(
     alloc: Global,
     writer: &mut W,
     pending: &mut Pending,
-    end: &[u8],
+    end: &mut [u8],
     task: Task<'_>,
 ) -> Result<(), RunError>
+    requires { scratch_limit pending.old.scratch ≡ task.depth }
     ensures stands { LeavesLines result (task_job task.entry) (W.contents writer.old) (W.contents writer.new)
-        [] ((pending.old.line.items ++ end.now) ∷ []) }
+        [] ((pending.old.line.items ++ end.old) ∷ []) }
     ensures cleared { OnOk result (pending.new.line.items ≡ []) }
+    ensures limit { scratch_limit pending.new.scratch ≡ scratch_limit pending.old.scratch }
     ensures writes { WritesFor result (W.calls writer.old) (W.calls writer.new) }
 {
     if pending.line.is_empty() {
-        return write_record(alloc, writer, &mut pending.record, end, task);
+        return write_record(alloc, writer, &mut pending.scratch, end, task);
     }
     pending.line.extend_from_slice(end)?;
-    write_record(alloc, writer, &mut pending.record, &pending.line, task)?;
+    write_record(alloc, writer, &mut pending.scratch, &mut pending.line, task)?;
     pending.line.clear();
     Ok(())
 }
 
-/// Writes the record of each line that the piece ends, and keeps the bytes behind the last line feed.
+/// Writes the record of each line that the piece ends, and keeps the bytes behind the last line feed. The piece is
+/// rewritten.
 fn process_piece<W: Sink>(
     alloc: Global,
     writer: &mut W,
     pending: &mut Pending,
-    piece: &[u8],
+    piece: &mut [u8],
     task: Task<'_>,
 ) -> Result<(), RunError>
-    requires { HasNoLineFeed pending.old.line.items }
-    ensures stands { let lines = ended (pending.old.line.items ++ piece.now) in
+    requires clean { HasNoLineFeed pending.old.line.items }
+    requires limit { scratch_limit pending.old.scratch ≡ task.depth }
+    ensures stands { let lines = ended (pending.old.line.items ++ piece.old) in
         LeavesLines result (task_job task.entry) (W.contents writer.old) (W.contents writer.new) lines lines }
     ensures kept { OnOk result
-        (pending.new.line.items ≡ unended (pending.old.line.items ++ piece.now)) }
+        (pending.new.line.items ≡ unended (pending.old.line.items ++ piece.old)) }
+    ensures limit { scratch_limit pending.new.scratch ≡ scratch_limit pending.old.scratch }
     ensures writes { WritesFor result (W.calls writer.old) (W.calls writer.new) }
 {
     let mut rest = piece;
-    while let Some((end, more)) = split_line(rest) {
+    loop {
+        let (end, behind) = split_line(rest);
+        let Some(behind) = behind else {
+            pending.line.extend_from_slice(end)?;
+            return Ok(());
+        };
         complete_line(alloc, writer, pending, end, task)?;
-        rest = more;
+        rest = behind;
     }
-    pending.line.extend_from_slice(rest)?;
-    Ok(())
 }
 
-/// Writes the record of a last line that no line feed ends.
+/// Writes the record of a last line that no line feed ends. The line is rewritten.
 fn finish<W: Sink>(
     alloc: Global,
     writer: &mut W,
     pending: &mut Pending,
     task: Task<'_>,
 ) -> Result<(), RunError>
+    requires { scratch_limit pending.old.scratch ≡ task.depth }
     ensures stands { LeavesLines result (task_job task.entry) (W.contents writer.old) (W.contents writer.new)
         [] (if_any pending.old.line.items) }
     ensures writes { WritesFor result (W.calls writer.old) (W.calls writer.new) }
@@ -120,7 +133,7 @@ fn finish<W: Sink>(
     if pending.line.is_empty() {
         return Ok(());
     }
-    write_record(alloc, writer, &mut pending.record, &pending.line, task)
+    write_record(alloc, writer, &mut pending.scratch, &mut pending.line, task)
 }
 
 /// The most bytes that one read gives.
@@ -153,13 +166,13 @@ fn run_within<R: Source, W: Sink>(
 {
     let mut pending = Pending {
         line: Vec::new(alloc),
-        record: Vec::new(alloc),
+        scratch: Scratch::new(alloc, task.depth)?,
     };
     let mut piece = zeros(alloc, PIECE_LEN)?;
     for _ in 0..max_reads {
         match reader.read(&mut piece) {
             Ok(0) => return finish(alloc, writer, &mut pending, task),
-            Ok(taken) => process_piece(alloc, writer, &mut pending, &piece[..taken], task)?,
+            Ok(taken) => process_piece(alloc, writer, &mut pending, &mut piece[..taken], task)?,
             Err(e) if e.kind() == ErrorKind::Interrupted => {}
             Err(_) => return Err(RunError::Read),
         }
@@ -171,11 +184,11 @@ fn run_within<R: Source, W: Sink>(
 ///
 /// The record of a JSON document that nests at most `depth` levels has the replies to the script's commands and
 /// the document after them. The record of any other line says why it is not a document. An interrupted read is tried
-/// again; an interrupted write is not. Nothing is flushed.
+/// again; an interrupted write is not. Nothing is flushed. The recursion is as deep as a line's document nests.
 ///
 /// # Errors
 ///
-/// See `RunError` for each error and what is written before it.
+/// See [`RunError`] for each error and what is written before it.
 pub fn run<R: Source, W: Sink>(
     alloc: Global,
     reader: &mut R,

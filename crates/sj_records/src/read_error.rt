@@ -1,7 +1,9 @@
 //! Why reading stops.
 ghost use Rattle.std.specs.Prelude.{◌≡◌};
 ghost use Rattle.sj_records.specs.declared.read_error.ReadError.TheVariants.{Memory};
+ghost use Rattle.sj_records.specs.inside.ReadErrors.{IsReadError};
 
+use sj_base::{Error, ErrorType};
 use std::alloc::{AllocError, AllocFailed};
 
 /// An allocation failed, or what was read is refused.
@@ -24,5 +26,17 @@ impl<T, U: Drop> From<AllocFailed<U>> for ReadError<T> {
 
     fn from(_e: AllocFailed<U>) -> ReadError<T> {
         ReadError::Memory
+    }
+}
+
+/// The error of a call that reads a text.
+impl From<Error> for ReadError<Error> {
+    ghost from_gives = { IsReadError };
+
+    fn from(error: Error) -> ReadError<Error> {
+        match error.error() {
+            ErrorType::OutOfMemory => ReadError::Memory,
+            _ => ReadError::Refused(error),
+        }
     }
 }

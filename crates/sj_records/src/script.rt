@@ -1,20 +1,16 @@
 //! Scripts: their commands, and why bytes are no script.
 ghost use Rattle.std.specs.Prelude.{◌≡◌, ◌<◌, Ok, length, slice_get, Some, IfOk, IfErr, IsTrue, ◌↔◌};
 ghost use Rattle.sj_records.specs.declared.script.ScriptFault.TheVariants.{Memory};
-ghost use Rattle.sj_records.specs.Record.{IsReadAs};
-ghost use Rattle.sj_records.specs.Script.{command_view, steps_of, IsRefusedAs, AppendsOrLeaves, fault_text, command_fault_name};
+ghost use Rattle.sj_records.specs.Script.{IsReadAs, command_view, steps_of, IsRefusedAs, AppendsOrLeaves, fault_text, command_fault_name};
 ghost use Rattle.sj_records.specs.inside.Progress.{AppendsOrGrows};
+ghost use Rattle.sj_records.specs.inside.ReadErrors.{IsScriptFault};
 
 use crate::commands::read_commands;
+use crate::document::Document;
 use crate::path::PathPart;
-use crate::read_error::ReadError;
-use crate::reader::read_document;
-use crate::task::fault_of;
-use sj_base::{Error, put_int};
+use sj_base::{Error, ErrorType, put_int};
+use sj_parse::to_tape;
 use std::alloc::{AllocError, AllocFailed, Global};
-
-/// The depth limit of scripts, in levels.
-const SCRIPT_DEPTH: usize = 1024;
 
 /// One command of a script.
 #[derive(Debug, Drop)]
@@ -46,7 +42,7 @@ pub enum CommandFault {
 /// Why a script is refused: its first fault.
 #[derive(Clone, Copy, Debug, PartialEq, Eq, thiserror::Error)]
 pub enum ScriptFault {
-    /// The bytes are not a JSON document of at most 1024 levels.
+    /// The bytes are not a JSON document of at most 1024 levels and `u32::MAX` bytes.
     #[error("Json")]
     Json(Error),
     /// The document is not an array.
@@ -58,6 +54,17 @@ pub enum ScriptFault {
     /// An allocation failed.
     #[error("Memory")]
     Memory,
+}
+
+impl From<Error> for ScriptFault {
+    ghost from_gives = { IsScriptFault };
+
+    fn from(error: Error) -> ScriptFault {
+        match error.error() {
+            ErrorType::OutOfMemory => ScriptFault::Memory,
+            _ => ScriptFault::Json(error),
+        }
+    }
 }
 
 impl From<AllocError> for ScriptFault {
@@ -138,23 +145,19 @@ pub struct Script {
 impl Script {
     /// Reads a script: a JSON array of commands, each an array of its name and its arguments.
     ///
-    /// The bytes may be rewritten. A script nests at most 1024 levels.
+    /// The bytes are rewritten. A script nests at most 1024 levels.
     ///
     /// # Errors
     ///
     /// Returns the first fault of the script, or `ScriptFault::Memory` if an allocation failed.
     pub fn read(alloc: Global, bytes: &mut [u8]) -> Result<Script, ScriptFault>
-        ensures ok { IfOk result (λ script. IsReadAs bytes.old (Ok (steps_of script))) }
-        ensures refused { IfErr result (λ fault. IsRefusedAs fault bytes.old) }
+        ensures ok { IfOk result (λ script. IsReadAs bytes.entry.now (Ok (steps_of script))) }
+        ensures refused { IfErr result (λ fault. IsRefusedAs fault bytes.entry.now) }
     {
-        match read_document(alloc, bytes, SCRIPT_DEPTH) {
-            Ok(document) => {
-                let commands = read_commands(alloc, &document)?;
-                Ok(Script { commands })
-            }
-            Err(ReadError::Refused(())) => Err(ScriptFault::Json(fault_of(bytes))),
-            Err(ReadError::Memory) => Err(ScriptFault::Memory),
-        }
+        let tape = to_tape(alloc, bytes)?;
+        let document = Document::build(alloc, tape.as_value())?;
+        let commands = read_commands(alloc, &document)?;
+        Ok(Script { commands })
     }
 
     /// Returns the number of commands.
@@ -171,7 +174,7 @@ impl Script {
         self.commands.is_empty()
     }
 
-    /// Returns the command at this index, from 0.
+    /// Returns the command at this index, from 0. `place` has to be below [`Script::len`].
     pub fn command(&self, place: usize) -> &Command
         requires { place < length (steps_of self.now) }
         ensures { slice_get (steps_of self.now) place ≡ Some (command_view result.now) }

@@ -1,18 +1,20 @@
 //! The record of one line, in bytes.
-ghost use Rattle.std.specs.Prelude.{◌≡◌, ℕ, List, ◌∷◌, [], ◌++◌, OnOk};
+ghost use Rattle.std.specs.Prelude.{◌≡◌, ℕ, List, ◌∷◌, [], ◌++◌, Some, OnOk, IfOk, IfErr};
 ghost use Rattle.sj_base.specs.Tree.{list};
 ghost use Rattle.sj_base.specs.Text.{text};
-ghost use Rattle.sj_records.specs.Record.{IsFault, fault_record, record_of, character_of};
+ghost use Rattle.sj_parse.specs.Answers.{buffer_limit};
+ghost use Rattle.sj_parse.specs.Fault.{fault};
+ghost use Rattle.sj_records.specs.Record.{IsRecord, fault_record, record_of, character_of};
 ghost use Rattle.sj_records.specs.inside.Documents.{document_tree};
-ghost use Rattle.sj_records.specs.Record.{IsRecord};
-ghost use Rattle.sj_records.specs.inside.Progress.{task_job, replies_to};
+ghost use Rattle.sj_records.specs.inside.ReadErrors.{IsKept, IfRefused};
+ghost use Rattle.sj_records.specs.inside.Progress.{task_job, replies_to, scratch_limit};
 
 use crate::document::{Document, put_comma, put_reply};
 use crate::form::Form;
 use crate::read_error::ReadError;
-use crate::reader::{is_blank, read_document};
 use crate::script::{Command, Script};
-use sj_base::{Error, ErrorType, put_int, put_string};
+use sj_base::{Error, put_int, put_string};
+use sj_parse::{Buffers, to_tape_with_buffers};
 use std::alloc::{AllocError, Global};
 
 /// What is done to each line.
@@ -24,36 +26,92 @@ pub(crate) struct Task<'s> {
     pub(crate) form: Form,
 }
 
-/// Writes the record of a line and a line feed to `out`, in place of what `out` held.
+/// Room that is kept from one line to the next.
+#[derive(Drop)]
+pub(crate) struct Scratch {
+    /// Room to read a line in, and the limit of levels.
+    pub(crate) buffers: Buffers,
+    /// The record of the last line.
+    pub(crate) out: Vec<u8>,
+}
+
+impl Scratch {
+    /// Creates room under a limit of depth, in levels.
+    pub(crate) fn new(alloc: Global, depth: usize) -> Result<Scratch, AllocError>
+        ensures { IfOk result (λ scratch. scratch_limit scratch ≡ depth) }
+    {
+        Ok(Scratch {
+            // No line is known yet, so no room is taken.
+            buffers: Buffers::with_max_depth(alloc, 0, depth)?,
+            out: Vec::new(alloc),
+        })
+    }
+}
+
+/// Makes the record of a line, and a line feed, in place of the record of the line before. The line is rewritten.
 pub(crate) fn make_record(
     alloc: Global,
-    out: &mut Vec<u8>,
-    line: &[u8],
+    scratch: &mut Scratch,
+    line: &mut [u8],
     task: Task<'_>,
 ) -> Result<(), AllocError>
-    ensures { OnOk result ((bytes : List ℕ) × (out.new.items ≡ bytes ++ 0x0a ∷ [])
-        × IsRecord (task_job task.entry) line.now bytes) }
+    requires { scratch_limit scratch.old ≡ task.depth }
+    ensures holds { OnOk result ((bytes : List ℕ) × (scratch.new.out.items ≡ bytes ++ 0x0a ∷ [])
+        × IsRecord (task_job task.entry) line.old bytes) }
+    ensures limit { scratch_limit scratch.new ≡ scratch_limit scratch.old }
 {
+    let Scratch { buffers, out } = scratch;
     out.clear();
-    put_record(alloc, out, line, task)?;
+    put_record(alloc, buffers, out, line, task)?;
     out.push(b'\n')?;
     Ok(())
 }
 
 fn put_record(
     alloc: Global,
+    buffers: &mut Buffers,
     out: &mut Vec<u8>,
-    line: &[u8],
+    line: &mut [u8],
     task: Task<'_>,
 ) -> Result<(), AllocError>
-    ensures { OnOk result ((bytes : List ℕ) × (out.new.items ≡ out.old.items ++ bytes)
-        × IsRecord (task_job task.entry) line.now bytes) }
+    requires { buffer_limit buffers.old ≡ task.depth }
+    ensures holds { OnOk result ((bytes : List ℕ) × (out.new.items ≡ out.old.items ++ bytes)
+        × IsRecord (task_job task.entry) line.old bytes) }
+    ensures limit { buffer_limit buffers.new ≡ buffer_limit buffers.old }
 {
-    match read_document(alloc, line, task.depth) {
+    match read_document(alloc, buffers, line) {
         Ok(document) => put_outcome(&document, task, out),
-        Err(ReadError::Refused(())) => put_fault_record(fault_of(line), out),
+        Err(ReadError::Refused(fault)) => put_fault_record(fault, out),
         Err(ReadError::Memory) => Err(AllocError),
     }
+}
+
+/// The most positions for which room is kept from one line to the next.
+const KEPT_POSITIONS: usize = 1 << 20;
+
+/// Gives back the room of a long line, which is needed no longer once the line was read.
+fn release(alloc: Global, buffers: &mut Buffers) -> Result<(), AllocError>
+    ensures { buffer_limit buffers.new ≡ buffer_limit buffers.old }
+{
+    if buffers.structural_indexes().len() > KEPT_POSITIONS {
+        *buffers = Buffers::with_max_depth(alloc, 0, buffers.max_depth())?;
+    }
+    Ok(())
+}
+
+/// Reads the document of a line under the limit of the buffers. The line is rewritten.
+fn read_document(
+    alloc: Global,
+    buffers: &mut Buffers,
+    line: &mut [u8],
+) -> Result<Document, ReadError<Error>>
+    ensures found { IfOk result (λ d. IsKept line.old (buffer_limit buffers.old) (document_tree d)) }
+    ensures refused { IfErr result (λ e. IfRefused e (λ why. fault line.old (buffer_limit buffers.old) ≡ Some why)) }
+    ensures limit { buffer_limit buffers.new ≡ buffer_limit buffers.old }
+{
+    let tape = to_tape_with_buffers(alloc, line, buffers)?;
+    release(alloc, buffers)?;
+    Ok(Document::build(alloc, tape.as_value())?)
 }
 
 /// Appends the record of a document: the replies to the script's commands, and then the document.
@@ -82,17 +140,6 @@ fn put_replies(document: &Document, task: Task<'_>, out: &mut Vec<u8>) -> Result
     }
     out.push(b']')?;
     Ok(())
-}
-
-/// Returns why a line is not a document.
-pub(crate) fn fault_of(line: &[u8]) -> Error
-    ensures { IsFault line.now result }
-{
-    if is_blank(line) {
-        Error::generic(ErrorType::Eof)
-    } else {
-        Error::generic(ErrorType::NoStructure)
-    }
 }
 
 fn put_fault_record(fault: Error, out: &mut Vec<u8>) -> Result<(), AllocError>

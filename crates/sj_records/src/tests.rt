@@ -1,9 +1,14 @@
 //! Worked lines and scripts, the display texts of errors, and readers and writers that fail.
 ghost use Rattle.std.specs.Prelude.{◌≡◌};
 
+mod documents;
+mod faults;
+mod lines;
+mod rows;
+
 use super::*;
 use sj_base::{Counted, Error, ErrorType};
-use std::alloc::Global;
+use std::alloc::{AllocError, Global};
 use std::io;
 use std::io::{ErrorKind, Read, Write};
 use std::marker::Brand;
@@ -153,8 +158,43 @@ fn expect(
     assert_eq!(rt; output.as_slice(), records.as_bytes(), "{stream} by {step}");
 }
 
-const NO_DOCUMENT: &str = r#"{"error":"NoStructure","index":0,"character":null}
-"#;
+// A stream of lines, and their records.
+#[derive(Drop)]
+struct Stream {
+    bytes: Vec<u8>,
+    records: String,
+}
+
+impl Stream {
+    fn new(alloc: Global) -> Stream {
+        Stream {
+            bytes: Vec::new(alloc),
+            records: String::new(alloc),
+        }
+    }
+
+    // Adds a line behind spaces, and its record.
+    fn add(&mut self, spaces: usize, line: &[u8], record: &str) -> Result<(), AllocError> {
+        for _ in 0..spaces {
+            self.bytes.push(b' ')?;
+        }
+        self.bytes.extend_from_slice(line)?;
+        self.bytes.push(b'\n')?;
+        self.records.push_str(record)?;
+        self.records.push('\n')
+    }
+
+    // Looks for the records under the empty script, where the lines come in pieces of `step` bytes.
+    fn check(&self, rt: &impl Abort, alloc: Global, depth: usize, step: usize) {
+        let script = script_of(alloc, "[]").expect(rt, "a script");
+        let mut output = Vec::new(alloc);
+        let input = Pieces::new(&self.bytes, step);
+        let result = run_on(alloc, input, &mut output, &script, depth);
+        assert_eq!(rt; result, Ok(()));
+        let written = std::str::from_utf8(&output);
+        assert_eq!(rt; written, Ok(self.records.as_str()), "by {step}");
+    }
+}
 
 // The record of each line under a script.
 #[test]
@@ -207,42 +247,36 @@ null"#,
     }
 }
 
-// The records of streams under the empty script and a depth limit.
+// What the empty script writes for streams that end with a line feed and without one.
 #[test]
 fn streams(rt: HostRuntime) {
-    for (stream, depth, records) in [
-        ("", LIMIT, ""),
+    for (stream, records) in [
+        ("", ""),
         (
             "\n",
-            LIMIT,
-            "{\"error\":\"Eof\",\"index\":0,\"character\":null}\n",
+            r#"{"error":"Eof","index":0,"character":null}
+"#,
         ),
-        ("null", LIMIT, "{\"replies\":[],\"document\":null}\n"),
-        ("1\r\n", LIMIT, "{\"replies\":[],\"document\":1}\n"),
-        ("[[]]", 2, "{\"replies\":[],\"document\":[[]]}\n"),
-        ("[[]]", 1, NO_DOCUMENT),
-        ("7", 0, "{\"replies\":[],\"document\":7}\n"),
-        ("[]", 0, NO_DOCUMENT),
         (
-            "18446744073709551615",
-            0,
-            "{\"replies\":[],\"document\":18446744073709551615}\n",
+            "null",
+            r#"{"replies":[],"document":null}
+"#,
         ),
-        ("18446744073709551616", 0, NO_DOCUMENT),
         (
-            "-9223372036854775808",
-            0,
-            "{\"replies\":[],\"document\":-9223372036854775808}\n",
+            "1\r\n",
+            r#"{"replies":[],"document":1}
+"#,
         ),
-        ("-9223372036854775809", 0, NO_DOCUMENT),
-        ("[01]", 9, NO_DOCUMENT),
-        ("[1,]", 9, NO_DOCUMENT),
-        ("[1.5]", 9, NO_DOCUMENT),
-        (r#"{"a":1,}"#, 9, NO_DOCUMENT),
-        ("1 2", 9, NO_DOCUMENT),
-        (r#""a\n""#, 9, NO_DOCUMENT),
+        (
+            "[1]\n[",
+            r#"{"replies":[],"document":[1]}
+{"error":"Syntax","index":0,"character":"["}
+"#,
+        ),
     ] {
-        expect(&rt, rt.alloc(), "[]", stream, depth, 65536, records);
+        for step in [1, 2, 65536] {
+            expect(&rt, rt.alloc(), "[]", stream, LIMIT, step, records);
+        }
     }
 }
 
@@ -253,15 +287,36 @@ fn command_fault(fault: CommandFault) -> ScriptFault {
 #[test]
 fn refused_scripts(rt: HostRuntime) -> Result<(), Fail> {
     let alloc = rt.alloc();
-    let none = Error::generic(ErrorType::NoStructure);
-    let blank = Error::generic(ErrorType::Eof);
     let second = ScriptFault::Command {
         place: 1,
         fault: CommandFault::UnknownName,
     };
     for (script, fault, text) in [
-        ("time", ScriptFault::Json(none), "NoStructure at 0"),
-        (" ", ScriptFault::Json(blank), "Eof at 0"),
+        (
+            "time",
+            ScriptFault::Json(Error::at(ErrorType::ExpectedTrue, 0, b't')),
+            "ExpectedTrue at 0",
+        ),
+        (
+            " ",
+            ScriptFault::Json(Error::generic(ErrorType::Eof)),
+            "Eof at 0",
+        ),
+        (
+            r#"["a"#,
+            ScriptFault::Json(Error::generic(ErrorType::Syntax)),
+            "Syntax at 0",
+        ),
+        (
+            r#"[["get",["\q"]]]"#,
+            ScriptFault::Json(Error::at(ErrorType::InvalidEscape, 10, b'\\')),
+            "InvalidEscape at 10",
+        ),
+        (
+            r#"[["get",[18446744073709551616]]]"#,
+            ScriptFault::Json(Error::at(ErrorType::InvalidNumber, 9, b'1')),
+            "InvalidNumber at 9",
+        ),
         ("{}", ScriptFault::NotAnArray, "NotAnArray"),
         (
             "[7]",
@@ -293,12 +348,35 @@ fn refused_scripts(rt: HostRuntime) -> Result<(), Fail> {
             command_fault(CommandFault::BadPath),
             "command 0: BadPath",
         ),
+        (
+            r#"[["get",[1.0]]]"#,
+            command_fault(CommandFault::BadPath),
+            "command 0: BadPath",
+        ),
     ] {
         let found = script_of(alloc, script).err();
         assert_eq!(rt; found, Some(fault), "{script}");
         let mut out = Vec::from_slice(alloc, b"is ")?;
         fault.put_fault(&mut out)?;
         assert_eq!(rt; &out[3..], text.as_bytes(), "{script}");
+    }
+    Ok(())
+}
+
+// A script nests at most 1024 levels.
+#[test]
+fn levels_of_scripts(rt: HostRuntime) -> Result<(), Fail> {
+    let alloc = rt.alloc();
+    let too_deep = ScriptFault::Json(Error::at(ErrorType::Syntax, 1024, b'['));
+    for (levels, fault) in [
+        (1024, command_fault(CommandFault::NoName)),
+        (1025, too_deep),
+    ] {
+        let mut script = Vec::new(alloc);
+        script.resize(levels, b'[')?;
+        script.resize(2 * levels, b']')?;
+        let found = Script::read(alloc, &mut script).err();
+        assert_eq!(rt; found, Some(fault), "of {levels} levels");
     }
     Ok(())
 }

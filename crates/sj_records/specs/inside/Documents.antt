@@ -3,11 +3,14 @@ use Rattle.std.specs.Prelude.{ℕ, zero, suc, List, [], ◌∷◌, map}
 use Rattle.std.specs.declared.alloc.Global.{Global}
 use Rattle.std.specs.declared.string.String.{String}
 use Rattle.std.specs.String.{string_bytes}
-use Rattle.sj_base.specs.Tree.{Tree, string, list, object, Items, Members, no_members, member}
-use Rattle.sj_base.specs.Scalar.{static_tree}
-use Rattle.sj_records.specs.inside.Reading.{items_of}
+use Rattle.sj_base.specs.Tree.{Tree, decimal, string, list, object, Items, no_items, item, Members, no_members, member}
+use Rattle.sj_base.specs.Scalar.{static_tree, decimal_buf_text}
 use Rattle.sj_records.specs.declared.document.Document.{Document, fold-Document}
 use Rattle.sj_records.specs.declared.document.Document.TheOpen.{Document-F}
+
+abbrev pub items_of : List Tree → Items
+items_of [] = no_items
+items_of (t ∷ ts) = item t (items_of ts)
 
 -- a member, with its key as its bytes
 abbrev pub pairs_members : List (String Global × Tree) → Members
@@ -17,6 +20,7 @@ pairs_members (m ∷ ms) = member (string_bytes m.0) m.1 (pairs_members ms)
 -- one level, with each value inside already seen as its tree
 abbrev pub tree_step : Document-F Tree → Tree
 tree_step (Document-F.Static s) = static_tree s
+tree_step (Document-F.Decimal d) = decimal (decimal_buf_text d)
 tree_step (Document-F.String s) = string (string_bytes s)
 tree_step (Document-F.Array v) = list (items_of v.items)
 tree_step (Document-F.Object v) = object (pairs_members v.items)

@@ -19,13 +19,16 @@ returns-in-Ok-eq0-clause-stands g c =
     Running-ended (task_job c.args.task) _ _ _ _ _ _ c.loop.pending.line.items c.finish.result c.loop.invariant.running nothing c.finish.ensures.stands
 
 pub process_piece-requires : goal.process_piece-requires
-process_piece-requires g c = Running-clean (task_job c.args.task) _ _ _ _ c.loop.pending.line.items c.loop.invariant.running
+process_piece-requires g c = record {
+  clean = Running-clean (task_job c.args.task) _ _ _ _ c.loop.pending.line.items c.loop.invariant.running;
+  limit = c.loop.invariant.limit;
+}
 
 pub returns-in_err-process_piece-in-Ok-clause-stands : goal.returns-in_err-process_piece-in-Ok-clause-stands
 returns-in_err-process_piece-in-Ok-clause-stands g c =
     let p = err_from_is_err_and c.from_residual-in_err-process_piece-in-Ok.result c.from_residual-in_err-process_piece-in-Ok.ensures.1 in
-    let piece = take c.in-Ok.taken c.deref.result.now in
-    let whole : c.deref.result.now ≡ c.read.new.buf = c.deref.ensures.value ∙ take_at c.read.new.buf (drop (length c.read.new.buf) c.loop.piece.items) c.loop.piece.len (omega arith) in
+    let piece = take c.in-Ok.taken c.deref_mut-in-Ok.result.now in
+    let whole : c.deref_mut-in-Ok.result.now ≡ c.read.new.buf = c.deref_mut-in-Ok.ensures.value ∙ take_at c.read.new.buf (drop (length c.read.new.buf) c.loop.piece.items) c.loop.piece.len (omega arith) in
     let given : Consumes (g.R.Source.remaining c.loop.reader) (g.R.Source.remaining c.read.new.self) piece = rw whole c.in-Ok.ensures.bytes.0 in
     rw (p.1, p.2)
     (Running-piece_failed (task_job c.args.task) _ _ _ _ _ _ c.loop.pending.line.items piece c.in_err-process_piece-in-Ok.field-0.0 c.loop.invariant.running given c.in_err-process_piece-in-Ok.ensures.stands)
@@ -37,15 +40,16 @@ loop-preserved g c =
     elim c.match-read.branch [
       | in-Ok+in_ok-process_piece-in-Ok w ↦
           let fed = w.in_ok-process_piece-in-Ok.ensures in
-          let piece = take w.in-Ok.taken w.deref.result.now in
-          let whole : w.deref.result.now ≡ c.read.new.buf = w.deref.ensures.value ∙ take_at c.read.new.buf (drop (length c.read.new.buf) c.loop.piece.items) c.loop.piece.len (omega arith) in
+          let piece = take w.in-Ok.taken w.deref_mut-in-Ok.result.now in
+          let whole : w.deref_mut-in-Ok.result.now ≡ c.read.new.buf = w.deref_mut-in-Ok.ensures.value ∙ take_at c.read.new.buf (drop (length c.read.new.buf) c.loop.piece.items) c.loop.piece.len (omega arith) in
           let given : Consumes (g.R.Source.remaining c.loop.reader) (g.R.Source.remaining c.read.new.self) piece = rw whole w.in-Ok.ensures.bytes.0 in
           record {
             running = rw (w.writer-is, w.pending-is) (Running-more (task_job c.args.task) _ _ _ _ _ _ c.loop.pending.line.items piece _ so_far.running given fed.stands fed.kept);
             goes_on = GoesOn-then (reads c.args.reader.now) (reads c.loop.reader) (reads c.read.new.self) so_far.goes_on (GoesOn-some (reads c.loop.reader) (reads c.read.new.self) c.read.new.buf w.in-Ok.taken (omega arith) w.in-Ok.ensures.ok_counts);
             made = w.in-Ok.ensures.made ∙ omega arith;
             written = rw w.writer-is (fed.writes ∙ so_far.written);
-            room = so_far.room;
+            limit = rw w.pending-is (fed.limit ∙ so_far.limit);
+            room = rw w.piece-is so_far.room;
           }
       | in-Err w ↦
           let kind : w.kind.result ≡ Interrupted = same_true the_type (search rules) _ _ (sym w.eq.ensures ∙ w.if-eq.true) in
@@ -55,6 +59,7 @@ loop-preserved g c =
             goes_on = GoesOn-then (reads c.args.reader.now) (reads c.loop.reader) (reads c.read.new.self) so_far.goes_on (GoesOn-interrupted (reads c.loop.reader) (reads c.read.new.self) (w.in-Err.ensures.err_counts.0 interrupted));
             made = w.in-Err.ensures.made ∙ omega arith;
             written = rw w.writer-is so_far.written;
-            room = so_far.room;
+            limit = rw w.pending-is so_far.limit;
+            room = rw w.piece-is so_far.room;
           }
     ]

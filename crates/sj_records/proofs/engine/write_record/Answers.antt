@@ -5,5 +5,5 @@ use Rattle.sj_records.proofs.engine.write_record.Goals as goal
 
 pub returns-clause-stands : goal.returns-clause-stands
 returns-clause-stands g c =
-    let made = c.in_ok-make_record.ensures in
+    let made = c.in_ok-make_record.ensures.holds in
     LeavesLines-written (task_job c.args.task) _ _ c.args.line.now made.0 _ c.write_all.result (c.deref.ensures.value ∙ made.1) made.2 c.write_all.ensures.stands

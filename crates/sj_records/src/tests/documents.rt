@@ -1,0 +1,113 @@
+//! Documents of lines: numbers and texts as they are kept and printed, and members that are found by their texts.
+use super::{LIMIT, Stream, expect};
+use std::test::Fail;
+
+// Documents, each with its compact text.
+const DOCUMENTS: [(&str, &str); 24] = [
+    ("null", "null"),
+    ("true", "true"),
+    ("false", "false"),
+    ("-0", "0"),
+    ("-7", "-7"),
+    ("18446744073709551615", "18446744073709551615"),
+    ("-9223372036854775808", "-9223372036854775808"),
+    ("1.50", "1.50"),
+    ("-0e0", "-0e0"),
+    ("1E+5", "1E+5"),
+    ("[ 0.0 , -0.10e-07 , 1e999999 ]", "[0.0,-0.10e-07,1e999999]"),
+    ("18446744073709551616.0", "18446744073709551616.0"),
+    (r#"{"a":-1.0E-0}"#, r#"{"a":-1.0E-0}"#),
+    (r#""\u00e9\n\/""#, "\"\u{e9}\\n/\""),
+    (r#""\"\\\/\b\f\n\r\t""#, r#""\"\\/\b\f\n\r\t""#),
+    (
+        r#""\u0000\u0008\u0009\u000A\u000b\u000C\u000d\u001F\u0022\u005c""#,
+        r#""\u0000\b\t\n\u000b\f\r\u001f\"\\""#,
+    ),
+    (r#""\u0020\u007f\u0080\u07FF""#, "\" \u{7f}\u{80}\u{7ff}\""),
+    (
+        r#""\u0800\ud7ff\uE000\uffff""#,
+        "\"\u{800}\u{d7ff}\u{e000}\u{ffff}\"",
+    ),
+    (r#""\ud800\udc00\uDBFF\uDFFF""#, "\"\u{10000}\u{10ffff}\""),
+    (
+        "\"\u{7f}\u{e9}\u{20ac}\u{1f600}\"",
+        "\"\u{7f}\u{e9}\u{20ac}\u{1f600}\"",
+    ),
+    (r#"{ "\u0061\"" : [ ] , "" : { } }"#, r#"{"a\"":[],"":{}}"#),
+    (r#"{"a":1,"\u0061":2}"#, r#"{"a":1}"#),
+    (
+        r#"[{"\u0061":{"b":1,"\u0062":2},"c":3,"a":4}]"#,
+        r#"[{"a":{"b":1},"c":3}]"#,
+    ),
+    ("\t[1 ,2\r, {} ]\t\r", "[1,2,{}]"),
+];
+
+// Each document by itself, and behind 1 to 130 spaces.
+#[test]
+fn in_compact_form(rt: HostRuntime) -> Result<(), Fail> {
+    for (line, text) in DOCUMENTS {
+        let record = format!(in rt.alloc(); r#"{{"replies":[],"document":{text}}}"#)?;
+        let mut lines = Stream::new(rt.alloc());
+        for spaces in 0..131 {
+            lines.add(spaces, line.as_bytes(), &record)?;
+            if spaces == 0 {
+                lines.check(&rt, rt.alloc(), LIMIT, 65536);
+            }
+        }
+        lines.check(&rt, rt.alloc(), LIMIT, 65536);
+    }
+    Ok(())
+}
+
+// Members are found by their decoded keys, in lines and in scripts. Of repeated keys the first is kept.
+#[test]
+fn by_path(rt: HostRuntime) -> Result<(), Fail> {
+    for (script, line, record) in [
+        (
+            r#"[["get",["a"]],["\u0067et",["\u0061"]]]"#,
+            r#"{"\u0061":1.50}"#,
+            r#"{"replies":[[1.50],[1.50]],"document":{"a":1.50}}"#,
+        ),
+        (
+            r#"[["get",["a"]]]"#,
+            r#"{"a":1,"\u0061":2}"#,
+            r#"{"replies":[[1]],"document":{"a":1}}"#,
+        ),
+        (
+            r#"[["get",["a"]]]"#,
+            r#"{"\u0061":1,"a":2,"b":3}"#,
+            r#"{"replies":[[1]],"document":{"a":1,"b":3}}"#,
+        ),
+        (
+            r#"[["get",["\"\\\/\n"]],["get",["\"\\/n"]]]"#,
+            r#"{"\u0022\u005C\u002f\u000a":"\u000a"}"#,
+            r#"{"replies":[["\n"],[]],"document":{"\"\\/\n":"\n"}}"#,
+        ),
+        (
+            r#"[["get",["😀",0]],["get",["\ud83d\ude00",1]],["get",[0,"😀"]]]"#,
+            r#"{"\uD83D\uDE00":[-0e0,1E+5]}"#,
+            r#"{"replies":[[-0e0],[1E+5],[]],"document":{"😀":[-0e0,1E+5]}}"#,
+        ),
+        (
+            r#"[["get",[""]],["get",["\u0000"]],["get",[]]]"#,
+            r#"{"\u0000":0,"":1}"#,
+            r#"{"replies":[[1],[0],[{"\u0000":0,"":1}]],"document":{"\u0000":0,"":1}}"#,
+        ),
+        (
+            r#"[["get",["a","a"]],["get",["a"]]]"#,
+            r#"{"a":{"\u0061":1,"a":2},"\u0061":{"a":3}}"#,
+            r#"{"replies":[[1],[{"a":1}]],"document":{"a":{"a":1}}}"#,
+        ),
+        (
+            r#"[["get",[1,2]],["get",[1,3]]]"#,
+            r#"[0,[0.5,"\t",1.5e2]]"#,
+            r#"{"replies":[[1.5e2],[]],"document":[0,[0.5,"\t",1.5e2]]}"#,
+        ),
+    ] {
+        let record = format!(in rt.alloc(); "{record}\n")?;
+        for step in [1, 65536] {
+            expect(&rt, rt.alloc(), script, line, LIMIT, step, &record);
+        }
+    }
+    Ok(())
+}
