@@ -1,43 +1,115 @@
-// The same work as `records` on the script [["get",["package"]],["get",["depends",0]]], with simdjson's DOM:
+// The work of `records` on the script [["get",["package"]],["get",["depends",0]]], done with simdjson's DOM:
 //     g++ -O3 -march=native bench/simdjson.cpp -lsimdjson -o simdjson && ./simdjson < big.jsonl > expected.jsonl
+//
+// Lines are parsed where they were read, and all that is made is kept from line to line: the input, the parser, the
+// printer and the output. A line that is no document gives {"error":true}, since simdjson says no place of a fault.
 #include <simdjson.h>
 
-#include <cstdio>
-#include <iostream>
+#include <cstring>
 #include <string>
+#include <string_view>
+#include <vector>
+
+#include <unistd.h>
 
 using namespace simdjson;
 
-static void append(std::string &out, const dom::element &value) { out += minify(value); }
+// Bytes that wait for one write.
+class Output {
+public:
+    void put(std::string_view text) { bytes.append(text); }
 
-int main() {
-    std::ios::sync_with_stdio(false);
-    dom::parser parser;
-    std::string line;
-    std::string out;
-    while (std::getline(std::cin, line)) {
-        line.reserve(line.size() + SIMDJSON_PADDING);
+    bool is_full() const { return bytes.size() >= FULL; }
+
+    bool write_out() {
+        size_t done = 0;
+        while (done < bytes.size()) {
+            ssize_t taken = write(STDOUT_FILENO, bytes.data() + done, bytes.size() - done);
+            if (taken <= 0) {
+                return false;
+            }
+            done += taken;
+        }
+        bytes.clear();
+        return true;
+    }
+
+private:
+    static constexpr size_t FULL = 65536;
+    std::string bytes;
+};
+
+class Records {
+public:
+    // Appends the record of a line. SIMDJSON_PADDING bytes behind the line have to be readable.
+    void put(const char *line, size_t len, Output &out) {
         dom::element document;
-        if (parser.parse(line.data(), line.size(), false).get(document)) {
-            out += "{\"error\":true}\n";
-            continue;
+        if (parser.parse(line, len, false).get(document)) {
+            out.put("{\"error\":true}\n");
+            return;
         }
-        out += "{\"replies\":[[";
-        dom::element found;
-        if (!document.at_key("package").get(found)) {
-            append(out, found);
-        }
-        out += "],[";
-        if (!document.at_key("depends").at(0).get(found)) {
-            append(out, found);
-        }
-        out += "]],\"document\":";
-        append(out, document);
-        out += "}\n";
-        if (out.size() > 65536) {
-            std::fwrite(out.data(), 1, out.size(), stdout);
-            out.clear();
+        out.put("{\"replies\":[[");
+        put_found(document.at_key("package"), out);
+        out.put("],[");
+        put_found(document.at_key("depends").at(0), out);
+        out.put("]],\"document\":");
+        put_value(document, out);
+        out.put("}\n");
+    }
+
+private:
+    dom::parser parser;
+    internal::string_builder<> printer;
+
+    void put_value(dom::element value, Output &out) {
+        printer.clear();
+        printer.append(value);
+        out.put(printer.str());
+    }
+
+    void put_found(simdjson_result<dom::element> found, Output &out) {
+        dom::element value;
+        if (!found.get(value)) {
+            put_value(value, out);
         }
     }
-    std::fwrite(out.data(), 1, out.size(), stdout);
+};
+
+int main() {
+    constexpr size_t PIECE = 65536;
+    std::vector<char> input(PIECE + SIMDJSON_PADDING);
+    size_t kept = 0; // the bytes of a line whose end wasn't read yet
+    Records records;
+    Output out;
+    for (;;) {
+        size_t room = input.size() - SIMDJSON_PADDING;
+        if (kept == room) {
+            room *= 2;
+            input.resize(room + SIMDJSON_PADDING);
+        }
+        ssize_t taken = read(STDIN_FILENO, input.data() + kept, room - kept);
+        if (taken < 0) {
+            return 1;
+        }
+        if (taken == 0) {
+            break;
+        }
+        const char *line = input.data();
+        const char *rest = line + kept;
+        const char *end = rest + taken;
+        while (const void *feed = std::memchr(rest, '\n', end - rest)) {
+            rest = static_cast<const char *>(feed);
+            records.put(line, rest - line, out);
+            if (out.is_full() && !out.write_out()) {
+                return 1;
+            }
+            line = ++rest;
+        }
+        kept = end - line;
+        std::memmove(input.data(), line, kept);
+    }
+    if (kept > 0) {
+        records.put(input.data(), kept, out);
+    }
+    return out.write_out() ? 0 : 1;
 }
