@@ -2,7 +2,6 @@
 ghost use Rattle.std.specs.Prelude.{◌≢◌, [], IfOk};
 ghost use Rattle.sj_tape.specs.Views.{tape_nodes};
 
-mod faults;
 mod nodes;
 
 use super::*;

@@ -158,6 +158,11 @@ fn expect(
     assert_eq!(rt; output.as_slice(), records.as_bytes(), "{stream} by {step}");
 }
 
+// The two parts of a row of a table: a line, and what is wanted for it.
+fn split_row(row: &str) -> Result<(&str, &str), Fail> {
+    Ok(row.split_once(" => ").ok_or("a row without ` => `")?)
+}
+
 // A stream of lines, and their records.
 #[derive(Drop)]
 struct Stream {

@@ -1,28 +1,33 @@
 //! Documents of lines: numbers and texts as they are kept and printed, and members that are found by their texts.
-use super::{LIMIT, Stream, expect};
+use super::{LIMIT, Stream, expect, split_row};
+use std::alloc::Global;
+use std::process::Abort;
 use std::test::Fail;
 
-// Documents, each with its compact text.
-const DOCUMENTS: [(&str, &str); 24] = [
-    ("null", "null"),
-    ("true", "true"),
-    ("false", "false"),
-    ("-0", "0"),
-    ("-7", "-7"),
-    ("18446744073709551615", "18446744073709551615"),
-    ("-9223372036854775808", "-9223372036854775808"),
-    ("1.50", "1.50"),
-    ("-0e0", "-0e0"),
-    ("1E+5", "1E+5"),
-    ("[ 0.0 , -0.10e-07 , 1e999999 ]", "[0.0,-0.10e-07,1e999999]"),
-    ("18446744073709551616.0", "18446744073709551616.0"),
-    (r#"{"a":-1.0E-0}"#, r#"{"a":-1.0E-0}"#),
-    (r#""\u00e9\n\/""#, "\"\u{e9}\\n/\""),
-    (r#""\"\\\/\b\f\n\r\t""#, r#""\"\\/\b\f\n\r\t""#),
-    (
-        r#""\u0000\u0008\u0009\u000A\u000b\u000C\u000d\u001F\u0022\u005c""#,
-        r#""\u0000\b\t\n\u000b\f\r\u001f\"\\""#,
-    ),
+// Documents and their compact texts.
+const DOCUMENTS: &str = r#"
+null => null
+true => true
+false => false
+-0 => 0
+-7 => -7
+18446744073709551615 => 18446744073709551615
+-9223372036854775808 => -9223372036854775808
+1.50 => 1.50
+-0e0 => -0e0
+1E+5 => 1E+5
+[ 0.0 , -0.10e-07 , 1e999999 ] => [0.0,-0.10e-07,1e999999]
+18446744073709551616.0 => 18446744073709551616.0
+{"a":-1.0E-0} => {"a":-1.0E-0}
+"\u00e9\n\/" => "é\n/"
+"\"\\\/\b\f\n\r\t" => "\"\\/\b\f\n\r\t"
+"\u0000\u0008\u0009\u000A\u000b\u000C\u000d\u001F\u0022\u005c" => "\u0000\b\t\n\u000b\f\r\u001f\"\\"
+{ "\u0061\"" : [ ] , "" : { } } => {"a\"":[],"":{}}
+{"a":1,"\u0061":2} => {"a":1}
+[{"\u0061":{"b":1,"\u0062":2},"c":3,"a":4}] => [{"a":{"b":1},"c":3}]"#;
+
+// The same with characters that can't be seen in a table.
+const UNSEEN_DOCUMENTS: [(&str, &str); 5] = [
     (r#""\u0020\u007f\u0080\u07FF""#, "\" \u{7f}\u{80}\u{7ff}\""),
     (
         r#""\u0800\ud7ff\uE000\uffff""#,
@@ -33,28 +38,31 @@ const DOCUMENTS: [(&str, &str); 24] = [
         "\"\u{7f}\u{e9}\u{20ac}\u{1f600}\"",
         "\"\u{7f}\u{e9}\u{20ac}\u{1f600}\"",
     ),
-    (r#"{ "\u0061\"" : [ ] , "" : { } }"#, r#"{"a\"":[],"":{}}"#),
-    (r#"{"a":1,"\u0061":2}"#, r#"{"a":1}"#),
-    (
-        r#"[{"\u0061":{"b":1,"\u0062":2},"c":3,"a":4}]"#,
-        r#"[{"a":{"b":1},"c":3}]"#,
-    ),
     ("\t[1 ,2\r, {} ]\t\r", "[1,2,{}]"),
 ];
 
-// Each document by itself, and behind 1 to 130 spaces.
+// Looks for the record of a document by itself, and behind 1 to 130 spaces.
+fn check_document(rt: &impl Abort, alloc: Global, line: &str, text: &str) -> Result<(), Fail> {
+    let record = format!(in alloc; r#"{{"replies":[],"document":{text}}}"#)?;
+    let mut lines = Stream::new(alloc);
+    for spaces in 0..131 {
+        lines.add(spaces, line.as_bytes(), &record)?;
+        if spaces == 0 {
+            lines.check(rt, alloc, LIMIT, 65536);
+        }
+    }
+    lines.check(rt, alloc, LIMIT, 65536);
+    Ok(())
+}
+
 #[test]
 fn in_compact_form(rt: HostRuntime) -> Result<(), Fail> {
-    for (line, text) in DOCUMENTS {
-        let record = format!(in rt.alloc(); r#"{{"replies":[],"document":{text}}}"#)?;
-        let mut lines = Stream::new(rt.alloc());
-        for spaces in 0..131 {
-            lines.add(spaces, line.as_bytes(), &record)?;
-            if spaces == 0 {
-                lines.check(&rt, rt.alloc(), LIMIT, 65536);
-            }
-        }
-        lines.check(&rt, rt.alloc(), LIMIT, 65536);
+    for row in DOCUMENTS.lines().skip(1) {
+        let (line, text) = split_row(row)?;
+        check_document(&rt, rt.alloc(), line, text)?;
+    }
+    for (line, text) in UNSEEN_DOCUMENTS {
+        check_document(&rt, rt.alloc(), line, text)?;
     }
     Ok(())
 }

@@ -1,113 +1,68 @@
 //! Worked lines, each with its record under the empty script.
-use super::{LIMIT, Stream};
+use super::{LIMIT, Stream, split_row};
+use std::alloc::Global;
+use std::process::Abort;
 use std::test::Fail;
 
-const ROWS: [(&[u8], &str); 25] = [
-    (
-        b"time",
-        r#"{"error":"ExpectedTrue","index":0,"character":"t"}"#,
-    ),
-    (
-        b"[true, falsy]",
-        r#"{"error":"ExpectedFalse","index":7,"character":"f"}"#,
-    ),
-    (b"", r#"{"error":"Eof","index":0,"character":null}"#),
-    // Bytes 63 and 64 are backslashes. A bracket stands in the string behind them.
-    (
-        br#"["aaaaaaaaaaaaaaaaaaaaaaaaaaaaaaaaaaaaaaaaaaaaaaaaaaaaaaaaaaaaa\\]"]"#,
-        r#"{"replies":[],"document":["aaaaaaaaaaaaaaaaaaaaaaaaaaaaaaaaaaaaaaaaaaaaaaaaaaaaaaaaaaaaa\\]"]}"#,
-    ),
-    (
-        br#"["\ud83d\ude00","\u0041"]"#,
-        r#"{"replies":[],"document":["😀","A"]}"#,
-    ),
-    (
-        br#"["\ud83d"]"#,
-        r#"{"error":"InvalidUnicodeCodepoint","index":2,"character":"\\"}"#,
-    ),
-    (
-        b"[1,]",
-        r#"{"error":"InternalError","index":3,"character":"]"}"#,
-    ),
-    (
-        br#"{"a":1,}"#,
-        r#"{"error":"ExpectedObjectKey","index":7,"character":"}"}"#,
-    ),
-    (
-        b"1 2",
-        r#"{"error":"TrailingData","index":0,"character":"1"}"#,
-    ),
-    (
-        b"[] 1",
-        r#"{"error":"InternalError","index":1,"character":"]"}"#,
-    ),
-    (
-        b"[18446744073709551615,-9223372036854775808]",
-        r#"{"replies":[],"document":[18446744073709551615,-9223372036854775808]}"#,
-    ),
-    (
-        b"[18446744073709551616]",
-        r#"{"error":"InvalidNumber","index":1,"character":"1"}"#,
-    ),
-    (
-        b"\"\xff",
-        r#"{"error":"InvalidUtf8","index":0,"character":null}"#,
-    ),
-    (br#""a"#, r#"{"error":"Syntax","index":0,"character":null}"#),
-    (
-        br#"{"a":[1"#,
-        r#"{"error":"Syntax","index":6,"character":"1"}"#,
-    ),
-    (b"[1,", r#"{"error":"Syntax","index":2,"character":","}"#),
-    (
-        br#"["\"\\\/\b\f\n\r\t\u001F"]"#,
-        r#"{"replies":[],"document":["\"\\/\b\f\n\r\t\u001f"]}"#,
-    ),
-    (
-        br#"["a\qb"]"#,
-        r#"{"error":"InvalidEscape","index":3,"character":"\\"}"#,
-    ),
-    (
-        br#"["\u12G4"]"#,
-        r#"{"error":"InvalidUnicodeEscape","index":2,"character":"\\"}"#,
-    ),
-    (
-        b"[01]",
-        r#"{"error":"InvalidNumber","index":1,"character":"0"}"#,
-    ),
-    (
-        br#"["a"b]"#,
-        r#"{"error":"ExpectedArrayComma","index":4,"character":"b"}"#,
-    ),
-    // No string begins behind an odd number of backslashes, also where they stand outside strings.
-    (
-        br#"\""#,
-        r#"{"error":"InternalError","index":0,"character":"\\"}"#,
-    ),
-    // A string ends no word.
-    (
-        br#"[true"a"]"#,
-        r#"{"error":"ExpectedTrue","index":1,"character":"t"}"#,
-    ),
-    (
-        br#"[1"a"]"#,
-        r#"{"error":"InvalidNumber","index":1,"character":"1"}"#,
-    ),
-    (b"[-0, 1.50]", r#"{"replies":[],"document":[0,1.50]}"#),
-];
+// Each row is a line and its record.
+const ROWS: &str = r#"
+time => {"error":"ExpectedTrue","index":0,"character":"t"}
+[true, falsy] => {"error":"ExpectedFalse","index":7,"character":"f"}
+ => {"error":"Eof","index":0,"character":null}
+["\ud83d\ude00","\u0041"] => {"replies":[],"document":["😀","A"]}
+["\ud83d"] => {"error":"InvalidUnicodeCodepoint","index":2,"character":"\\"}
+[1,] => {"error":"InternalError","index":3,"character":"]"}
+{"a":1,} => {"error":"ExpectedObjectKey","index":7,"character":"}"}
+1 2 => {"error":"TrailingData","index":0,"character":"1"}
+[] 1 => {"error":"InternalError","index":1,"character":"]"}
+[18446744073709551615,-9223372036854775808] => {"replies":[],"document":[18446744073709551615,-9223372036854775808]}
+[18446744073709551616] => {"error":"InvalidNumber","index":1,"character":"1"}
+"a => {"error":"Syntax","index":0,"character":null}
+{"a":[1 => {"error":"Syntax","index":6,"character":"1"}
+[1, => {"error":"Syntax","index":2,"character":","}
+["\"\\\/\b\f\n\r\t\u001F"] => {"replies":[],"document":["\"\\/\b\f\n\r\t\u001f"]}
+["a\qb"] => {"error":"InvalidEscape","index":3,"character":"\\"}
+["\u12G4"] => {"error":"InvalidUnicodeEscape","index":2,"character":"\\"}
+[01] => {"error":"InvalidNumber","index":1,"character":"0"}
+["a"b] => {"error":"ExpectedArrayComma","index":4,"character":"b"}
+\" => {"error":"InternalError","index":0,"character":"\\"}
+[true"a"] => {"error":"ExpectedTrue","index":1,"character":"t"}
+[1"a"] => {"error":"InvalidNumber","index":1,"character":"1"}
+[-0, 1.50] => {"replies":[],"document":[0,1.50]}"#;
+
+// Bytes 63 and 64 are backslashes. A bracket stands in the string behind them.
+const BACKSLASHES_AT_64: &str =
+    r#"["aaaaaaaaaaaaaaaaaaaaaaaaaaaaaaaaaaaaaaaaaaaaaaaaaaaaaaaaaaaaa\\]"]"#;
+
+// Looks for the record of a line by itself, and adds both to a stream of many.
+fn check_row(
+    rt: &impl Abort,
+    alloc: Global,
+    all: &mut Stream,
+    line: &[u8],
+    record: &str,
+) -> Result<(), Fail> {
+    let mut one = Stream::new(alloc);
+    one.add(0, line, record)?;
+    for step in [1, 63, 65536] {
+        one.check(rt, alloc, LIMIT, step);
+    }
+    all.add(0, line, record)?;
+    Ok(())
+}
 
 // Each line by itself, and all in one stream.
 #[test]
 fn of_worked_lines(rt: HostRuntime) -> Result<(), Fail> {
     let mut all = Stream::new(rt.alloc());
-    for (line, record) in ROWS {
-        let mut one = Stream::new(rt.alloc());
-        one.add(0, line, record)?;
-        all.add(0, line, record)?;
-        for step in [1, 63, 65536] {
-            one.check(&rt, rt.alloc(), LIMIT, step);
-        }
+    for row in ROWS.lines().skip(1) {
+        let (line, record) = split_row(row)?;
+        check_row(&rt, rt.alloc(), &mut all, line.as_bytes(), record)?;
     }
+    let record = format!(in rt.alloc(); r#"{{"replies":[],"document":{BACKSLASHES_AT_64}}}"#)?;
+    check_row(&rt, rt.alloc(), &mut all, BACKSLASHES_AT_64.as_bytes(), &record)?;
+    let not_utf8 = r#"{"error":"InvalidUtf8","index":0,"character":null}"#;
+    check_row(&rt, rt.alloc(), &mut all, b"\"\xff", not_utf8)?;
     for step in [1, 63, 65536] {
         all.check(&rt, rt.alloc(), LIMIT, step);
     }
