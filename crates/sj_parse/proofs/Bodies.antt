@@ -1,5 +1,5 @@
 -- Bodies of strings and words, byte by byte.
-use Rattle.std.proofs.Common.{◌≡◌, ℕ, zero, suc, ◌+◌, ◌<◌, Bool, true, false, not, ◌&&◌, List, [], ◌∷◌, ◌++◌, length, take, drop, refl, sym, ap, ◌∙◌, arith, append-nil, append_assoc, add-one, inr, Option, Some, Result, Ok, Err}
+use Rattle.std.proofs.Common.{◌≡◌, ℕ, zero, suc, ◌+◌, ◌<◌, ◌≤◌, ne_eqb, Bool, true, false, not, ◌&&◌, List, [], ◌∷◌, ◌++◌, length, take, drop, refl, sym, ap, ◌∙◌, arith, append-nil, append_assoc, add-one, inr, Option, Some, Result, Ok, Err}
 use Rattle.std.proofs.lemmas.Bool.{eqb-true}
 use Rattle.std.proofs.lemmas.List.{get_or-drop}
 use Rattle.sj_base.specs.declared.error.ErrorType.{ErrorType}
@@ -10,7 +10,7 @@ use Rattle.std.proofs.Math.Seq.{take-suc, drop-cons, drop-length}
 use Rattle.sj_scan.specs.Positions.{is_odd, is_whitespace, is_operator, backslashes, is_real_quote}
 use Rattle.sj_scan.proofs.States.{is_odd-run}
 use Rattle.sj_parse.specs.Token.{word, body}
-use Rattle.sj_parse.specs.inside.Step.{string_body, StopsAt}
+use Rattle.sj_parse.specs.inside.Step.{string_body, IsPlain, StopsAt}
 
 -- the bytes up to a quote that isn't escaped; the flag says whether the first byte is escaped
 abbrev pub body_from : Bool → List ℕ → List ℕ
@@ -117,3 +117,18 @@ string_stop-at place skip bs s bad =
     let there = h.at in
     let same : skip + 1 + h.index ≡ skip + suc h.index = omega arith in
     inr (h.index, omega arith, ap (λ (i : ℕ). slice_index bs i) (sym same) ∙ sym (get_or-drop (skip + 1) bs h.index 0) ∙ sym (body-front (0x22 ∷ []) (drop (skip + 1) bs) h.index h.within) ∙ h.is)
+
+-- a body goes on past bytes that end none and begin no escape
+pub body_from-plain : (n : ℕ) (bytes : List ℕ) → n ≤ length bytes → ((k : ℕ) → k < n → IsPlain (slice_index bytes k)) → body_from false bytes ≡ take n bytes ++ body_from false (drop n bytes)
+body_from-plain zero bytes h plain = refl
+body_from-plain (suc n) [] h plain = absurd (omega (arith, h))
+body_from-plain (suc n) (b ∷ bs) h plain =
+    let p = plain 0 (omega arith) in
+    ap (λ (stop : Bool). if stop && true then [] else b ∷ body_from (b == 0x5c && true) bs) (ne_eqb b 0x22 p.0)
+    ∙ ap (λ (e : Bool). b ∷ body_from (e && true) bs) (ne_eqb b 0x5c p.1)
+    ∙ ap (λ (ys : List ℕ). b ∷ ys) (body_from-plain n bs (omega arith) (λ k lt. plain (suc k) (omega arith)))
+
+pub body-plain : (n : ℕ) (bytes : List ℕ) → n ≤ length bytes → ((k : ℕ) → k < n → IsPlain (slice_index bytes k)) → string_body bytes ≡ take n bytes ++ string_body (drop n bytes)
+body-plain n bytes h plain =
+    body-body_from (0x22 ∷ []) bytes ∙ body_from-plain n bytes h plain
+    ∙ ap (λ (ys : List ℕ). take n bytes ++ ys) (sym (body-body_from (0x22 ∷ []) (drop n bytes)))

@@ -11,6 +11,7 @@ pub fn is_integer(byte: u8) -> bool
 }
 
 /// Returns `true` if the byte is whitespace or an operator, and so ends a word.
+#[inline(always)]
 pub(crate) fn is_separator(byte: u8) -> bool
     ensures { result ≡ (is_whitespace byte || is_operator byte) }
 {

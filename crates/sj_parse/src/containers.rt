@@ -25,6 +25,7 @@ pub(crate) struct Frame {
 
 impl Frame {
     /// The node of the container, with that many nodes beneath.
+    #[inline(always)]
     fn node<'i>(self, count: usize) -> Node<'i>
         ensures entry { node_entry result ≡ frame_entry self count }
         ensures carrier { (t : Token) → HasCarrier t result }
@@ -39,6 +40,7 @@ impl Frame {
 }
 
 /// Counts the value that was read in the container that holds it.
+#[inline(always)]
 pub(crate) fn after_value(stack: &mut Vec<Frame>) -> State
     requires { (ws : List Waiting) × (stack.old.items ≡ waiting_stack ws) × (length (waiting_entries ws) < 2 ^ 64) }
     ensures state { (ws : List Waiting) (t : Tree) → stack.old.items ≡ waiting_stack ws → result ≡ config_state (after_value ws t) }
@@ -62,6 +64,7 @@ pub(crate) fn after_value(stack: &mut Vec<Frame>) -> State
 }
 
 /// Opens a container at its node.
+#[inline(always)]
 pub(crate) fn open<'i>(
     place: usize,
     limit: usize,
@@ -97,6 +100,7 @@ pub(crate) fn open<'i>(
 }
 
 /// Closes the innermost container: its node gets its counts.
+#[inline(always)]
 pub(crate) fn close(nodes: &mut Vec<Node<'_>>, stack: &mut Vec<Frame>) -> State
     requires { Closes (entries nodes.old.items) stack.old.items }
     ensures array { (xs : Items) (ws : List Waiting) → entries nodes.old.items ≡ array_entries xs ws → stack.old.items ≡ waiting_stack ws ++ array_frame xs ws ∷ []
@@ -115,6 +119,7 @@ pub(crate) fn close(nodes: &mut Vec<Node<'_>>, stack: &mut Vec<Frame>) -> State
 }
 
 /// Adds the node of a scalar, and counts it in the container that holds it.
+#[inline(always)]
 pub(crate) fn add_scalar<'i>(
     node: Node<'i>,
     nodes: &mut Vec<Node<'i>>,

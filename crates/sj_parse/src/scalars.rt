@@ -1,13 +1,23 @@
 //! Strings, numbers and literals, read where they stand in the input.
-ghost use Rattle.std.specs.Prelude.{◌≡◌, ◌+◌, ◌<◌, ◌≤◌, ◌^◌, ◌∷◌, [], None, Some, true, false, MatchResult, IfErr, IfOk, length, take, drop, slice_index, IsUtf8};
+ghost use Rattle.std.specs.Prelude.{◌≡◌, ◌≢◌, ℕ, ◌+◌, ◌<◌, ◌≤◌, ◌^◌, ◌∷◌, [], None, Some, true, false, MatchResult, IfErr, IfOk, length, take, drop, slice_index, IsUtf8};
 ghost use Rattle.sj_parse.specs.Token.{word};
 ghost use Rattle.sj_parse.specs.Escapes.{bad_escape};
 ghost use Rattle.sj_parse.specs.inside.Trees.{decoded};
-ghost use Rattle.sj_parse.specs.inside.Step.{string_body, StopsAt};
+ghost use Rattle.sj_parse.specs.inside.Step.{string_body, IsPlain, StopsAt};
 
 use crate::bytes::is_separator;
 use crate::stop::Stop;
 use crate::strings::decode;
+use memchr::memchr2;
+
+/// The number of bytes before the first quote or backslash, or of all bytes if there is none.
+#[inline(always)]
+fn plain_len(bytes: &[u8]) -> usize
+    ensures within { result ≤ length bytes.now }
+    ensures plain { (k : ℕ) → k < result → IsPlain (slice_index bytes.now k) }
+{
+    memchr2(b'"', b'\\', bytes).unwrap_or(bytes.len())
+}
 
 /// The length of the body that begins the bytes: up to its closing quote, or the end.
 fn body_len(bytes: &[u8]) -> usize
@@ -24,7 +34,20 @@ fn body_len(bytes: &[u8]) -> usize
     bytes.len()
 }
 
+/// The length of the body that begins the bytes, and a number of its first bytes that are no backslashes: all of them if
+/// the body has none.
+#[inline(always)]
+fn find_body(bytes: &[u8]) -> (usize, usize)
+    ensures body { take result.0 bytes.now ≡ string_body bytes.now }
+    ensures within { (result.1 ≤ result.0) × (result.0 ≤ length bytes.now) }
+    ensures plain { (k : ℕ) → k < result.1 → slice_index bytes.now k ≢ 0x5c }
+{
+    let plain = plain_len(bytes);
+    (plain + body_len(&bytes[plain..]), plain)
+}
+
 /// The length of the word that begins the bytes: up to whitespace, an operator or the end.
+#[inline(always)]
 fn word_len(bytes: &[u8]) -> usize
     ensures within { result ≤ length bytes.now }
     ensures word { take result bytes.now ≡ word bytes.now }
@@ -38,6 +61,7 @@ fn word_len(bytes: &[u8]) -> usize
 }
 
 /// The text of the string whose opening quote stands at `skip`, and the input from the closing quote on.
+#[inline(always)]
 pub(crate) fn take_string<'i>(
     place: usize,
     skip: usize,
@@ -52,14 +76,15 @@ pub(crate) fn take_string<'i>(
     ensures stops { IfErr result (StopsAt place skip rest.entry.now) }
     ensures rest { IfOk result (λ p. p.1.now ≡ drop (skip + 1 + length (string_body (drop (skip + 1) rest.entry.now))) rest.entry.now) }
 {
-    let len = body_len(&rest[skip + 1..]);
     let (_, from_body) = rest.split_at_mut(skip + 1);
+    let (len, plain) = find_body(from_body);
     let (body, behind) = from_body.split_at_mut(len);
-    let text = decode(place + 1, body)?;
+    let text = decode(place + 1, plain, body)?;
     Ok((text, behind))
 }
 
 /// The word that begins at `skip`, and the input behind it.
+#[inline(always)]
 pub(crate) fn take_word<'i>(skip: usize, rest: &'i mut [u8]) -> (&'i [u8], &'i mut [u8])
     requires { skip ≤ length rest.old }
     ensures word { result.0.now ≡ word (drop skip rest.entry.now) }

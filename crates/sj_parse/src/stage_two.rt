@@ -42,6 +42,7 @@ pub(crate) enum State {
 
 impl State {
     /// The kind of the fault where something else comes.
+    #[inline(always)]
     fn unexpected(self) -> ErrorType
         ensures { result ≡ unexpected_kind self }
     {
@@ -57,12 +58,14 @@ impl State {
         }
     }
 
+    #[inline(always)]
     fn is_end(self) -> bool
         ensures { result ≡ is_end self }
     {
         matches!(self, State::End)
     }
 
+    #[inline(always)]
     fn role(self, byte: u8) -> Role
         ensures { result ≡ role_of self byte }
     {
@@ -107,6 +110,7 @@ enum Opening {
     Nothing,
 }
 
+#[inline(always)]
 fn begins(byte: u8) -> Opening
     ensures { Begins byte result }
 {
@@ -121,6 +125,7 @@ fn begins(byte: u8) -> Opening
 }
 
 /// The value of the literal that begins the bytes.
+#[inline(always)]
 fn literal(place: usize, bytes: &[u8]) -> Result<StaticNode, Stop>
     requires some { 0 < length bytes.now }
     requires letter { let b = slice_index bytes.now 0 in (b ≡ 0x74) ⊎ ((b ≡ 0x66) ⊎ (b ≡ 0x6e)) }
@@ -156,6 +161,7 @@ fn literal(place: usize, bytes: &[u8]) -> Result<StaticNode, Stop>
 }
 
 /// The node, or a fault of this kind.
+#[inline(always)]
 fn node_if(
     is_valid: bool,
     node: StaticNode,
@@ -172,6 +178,7 @@ fn node_if(
 }
 
 /// The node of the number that the word is.
+#[inline(always)]
 fn number_node<'i>(place: usize, word: &'i [u8]) -> Result<Node<'i>, Stop>
     ensures { MatchResult result (IsNumberNode word.now)
         (λ s. (is_number word.now ≡ false) × (s ≡ stop ErrorType.InvalidNumber place)) }
@@ -183,6 +190,7 @@ fn number_node<'i>(place: usize, word: &'i [u8]) -> Result<Node<'i>, Stop>
 }
 
 /// Reads the value that begins at `skip`: a scalar whole, of a container its bracket.
+#[inline(always)]
 fn read_value<'i>(
     unexpected: ErrorType,
     place: usize,
@@ -230,6 +238,7 @@ fn read_value<'i>(
 }
 
 /// Reads the token that begins at `skip`.
+#[inline(always)]
 fn step<'i>(
     state: State,
     place: usize,

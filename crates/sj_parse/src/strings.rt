@@ -6,25 +6,27 @@ ghost use Rattle.sj_parse.specs.inside.Decoded.{decoded};
 use crate::characters::write_character;
 use crate::escapes::read_escape;
 use crate::stop::Stop;
-use memchr::memchr;
 
 /// Decodes the body of a string in place and returns its text, which borrows from these bytes. The body begins at
-/// `place`, in bytes from the start of the input.
+/// `place`, in bytes from the start of the input, and its first `plain` bytes are no backslashes.
 ///
 /// # Errors
 ///
 /// The first bad escape. The bytes before it may be rewritten then.
-pub(crate) fn decode<'a>(place: usize, body: &'a mut [u8]) -> Result<&'a str, Stop>
+#[inline(always)]
+pub(crate) fn decode<'a>(place: usize, plain: usize, body: &'a mut [u8]) -> Result<&'a str, Stop>
     requires utf8 { IsUtf8 body.old }
+    requires within { plain ≤ length body.old }
+    requires none { (k : ℕ) → k < plain → slice_index body.old k ≢ 0x5c }
     requires place { place + length body.old < 2 ^ 64 }
     ensures { MatchResult result
         (λ text. (bad_escape place body.entry.now ≡ None) × (text.now ≡ decoded body.entry.now))
         (λ stop. bad_escape place body.entry.now ≡ Some stop) }
 {
-    let Some(first) = memchr(b'\\', body) else {
+    if plain == body.len() {
         return Ok(unsafe { std::str::from_utf8_unchecked(body) });
-    };
-    let len = decode_from(first, place, body)?;
+    }
+    let len = decode_from(plain, place, body)?;
     let text: &'a [u8] = body;
     Ok(unsafe { std::str::from_utf8_unchecked(&text[..len]) })
 }
@@ -90,7 +92,7 @@ mod tests {
             ),
         ] {
             let mut bytes = body.as_bytes().to_vec(rt.alloc())?;
-            let text = decode(100, bytes.as_mut_slice()).map_err(|stop| (stop.kind, stop.place));
+            let text = decode(100, 0, bytes.as_mut_slice()).map_err(|stop| (stop.kind, stop.place));
             assert!(rt; text == expected, "{body}");
         }
         Ok(())

@@ -1,5 +1,5 @@
 -- What one step of stage two answers, for the token that it reads.
-use Rattle.std.specs.Prelude.{◌≡◌, ℕ, ◌+◌, ◌<◌, ◌≤◌, ◌==◌, if◌then◌else◌, Bool, true, false, List, [], ◌∷◌, ◌++◌, ◌⊎◌, length, drop, slice_index, Result, Ok, Err, None, suc}
+use Rattle.std.specs.Prelude.{◌≡◌, ◌≢◌, ℕ, ◌+◌, ◌<◌, ◌≤◌, ◌==◌, if◌then◌else◌, Bool, true, false, List, [], ◌∷◌, ◌++◌, ◌⊎◌, length, drop, slice_index, Result, Ok, Err, None, suc}
 use Rattle.sj_base.specs.declared.error.ErrorType.{ErrorType}
 use Rattle.sj_base.specs.declared.error.ErrorType.TheVariants.{InternalError, Syntax, ExpectedArrayContent, ExpectedObjectContent, ExpectedObjectKey, ExpectedObjectColon, ExpectedArrayComma, ExpectedMapComma, TrailingData}
 use Rattle.sj_tape.specs.Listing.{Entry, listing}
@@ -59,6 +59,10 @@ role_of End b = role.Unexpected
 -- the body of a string whose opening quote stands directly before these bytes
 abbrev pub string_body : List ℕ → List ℕ
 string_body bs = body (0x22 ∷ []) bs
+
+-- It ends no body, and begins no escape.
+abbrev pub IsPlain : ℕ → Type 0
+IsPlain b = (b ≢ 0x22) × (b ≢ 0x5c)
 
 -- the token at that place, from what stands before it, and from its bytes with what follows them
 abbrev pub token_of : ℕ → List ℕ → List ℕ → Token

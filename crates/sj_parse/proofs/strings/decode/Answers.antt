@@ -1,17 +1,16 @@
-use Rattle.std.specs.Prelude.{ℕ, List, length}
-use Rattle.std.proofs.Common.{◌∙◌, sym, get_or, arith, subst}
-use Rattle.std.proofs.lemmas.Bool.{eq-eqb}
+use Rattle.std.specs.Prelude.{ℕ, List}
+use Rattle.std.proofs.Common.{◌∙◌, sym, arith, subst}
 use Rattle.std.proofs.lemmas.List.{take_all}
 use Rattle.std.specs.Prelude.{IsUtf8}
 use Rattle.sj_parse.proofs.Decoding.{decoding_starts, decoding_ends}
 use Rattle.sj_parse.proofs.StringLemmas.{IsUtf8-decoded}
 use Rattle.sj_parse.proofs.strings.decode.Goals as goal
 
-pub returns-in_default : goal.returns-in_default
-returns-in_default c =
-    let d = decoding_starts c.args.place (length c.args.body.now) c.args.body.now (omega arith) (λ k lt e. c.in_default.ensures k (omega arith) lt (eq-eqb (get_or c.args.body.now k 0) 0x5c e)) in
-    let ends = decoding_ends c.args.place (length c.args.body.now) (length c.args.body.now) c.args.body.now c.args.body.now d (omega arith) in
-    (ends.0, c.from_utf8_unchecked.ensures ∙ sym (take_all (length c.args.body.now) c.args.body.now (omega arith)) ∙ ends.1)
+pub returns-then-plain-body : goal.returns-then-plain-body
+returns-then-plain-body c =
+    let d = decoding_starts c.args.place c.args.plain c.args.body.now c.requires.within c.requires.none in
+    let ends = decoding_ends c.args.place c.args.plain c.args.plain c.args.body.now c.args.body.now d (omega arith) in
+    (ends.0, c.from_utf8_unchecked.ensures ∙ sym (take_all c.args.plain c.args.body.now (omega arith)) ∙ ends.1)
 
 pub from_utf8_unchecked-requires-2 : goal.from_utf8_unchecked-requires-2
 from_utf8_unchecked-requires-2 c =
