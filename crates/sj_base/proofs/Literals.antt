@@ -1,19 +1,20 @@
--- A text is accepted byte by byte exactly if it is a decimal literal.
-use Rattle.std.specs.Prelude.{◌≡◌, ◌≢◌, ℕ, ◌≤◌, ◌<◌, ◌⊎◌, Bool, true, false, cond, ◌==◌, ◌||◌, nat_le, List, [], ◌∷◌, ◌++◌}
+-- The tests on the parts of a number hold exactly of what the grammar says.
+use Rattle.std.specs.Prelude.{◌≡◌, ◌≢◌, ℕ, ◌<◌, ◌≤◌, ◌⊎◌, Bool, true, false, not, ◌&&◌, ◌||◌, ◌==◌, nat_le, List, [], ◌∷◌, ◌++◌, ◌+◌, length, drop, slice_index}
 use Rattle.std.specs.List.{AllByRecursion}
 use Rattle.std.specs.Char.{is_ascii_digit, IsAsciiDigit}
-use Rattle.std.proofs.Common.{refl, sym, ap, ◌∙◌, subst, inl, inr, arith}
+use Rattle.std.specs.Str.{all_ascii_digits}
+use Rattle.std.proofs.Math.Seq.{drop-cons}
+use Rattle.std.proofs.Common.{add-one, refl, sym, ap, ap₂, ◌∙◌, inl, inr, arith}
 use Rattle.std.proofs.Math.Bool.{Bool-set}
 use Rattle.std.proofs.Math.Logic.{∥∥₁_elim}
-use Rattle.std.proofs.lemmas.Bool.{and_parts, and_from, or_cases, or_from, eqb-true, ne_eqb, leb-true, le-leb, cond-true, cond-false}
+use Rattle.std.proofs.lemmas.Bool.{leb-true, le-leb, cases_Bool, cases_eq, and_parts, and_from, or_cases, or_left, or_right, or_from, not-true, not_from_false, eqb-true, eqb-false, eq-eqb, ne_eqb}
 use Rattle.sj_base.specs.Number.{minus, IsDigits, IsWhole, IsFraction, IsExponent, IsDecimal}
-use Rattle.sj_base.specs.inside.Parts.{next_part, accepted}
-use Rattle.sj_base.specs.declared.part.Part.{Part}
-use Rattle.sj_base.specs.declared.part.Part.TheVariants.{Start, Minus, Zero, Whole, Point, Fraction, Letter, Sign, Exponent, Wrong}
+use Rattle.sj_base.proofs.Fronts.{NotFirst}
+use Rattle.sj_base.proofs.NumberBytes.{no_minus, whole_digits, fraction_start, exponent_start}
+use Rattle.sj_base.specs.NumberTests.{is_empty, is_negative, magnitude, unsigned, front_digits, behind_digits, is_digits, is_whole, is_exponent, is_fraction_or_exponent, is_decimal}
 
--- All bytes are digits.
-abbrev AreDigits : List ℕ → Type 0
-AreDigits ds = AllByRecursion IsAsciiDigit ds
+abbrev pub IsSign : List ℕ → Type 0
+IsSign sign = (sign ≡ []) ⊎ ((sign ≡ 0x2b ∷ []) ⊎ (sign ≡ 0x2d ∷ []))
 
 pub from_test : (b : ℕ) → is_ascii_digit b ≡ true → IsAsciiDigit b
 from_test b e = let p = and_parts (nat_le 48 b) (nat_le b 57) e in (leb-true 48 b p.0, leb-true b 57 p.1)
@@ -21,288 +22,265 @@ from_test b e = let p = and_parts (nat_le 48 b) (nat_le b 57) e in (leb-true 48 
 pub to_test : (b : ℕ) → IsAsciiDigit b → is_ascii_digit b ≡ true
 to_test b h = and_from (nat_le 48 b) (nat_le b 57) (le-leb 48 b h.0) (le-leb b 57 h.1)
 
--- A `cond` is one of its branches.
-chosen : (t : Bool) (p q : Part) (bs : List ℕ) → accepted (cond t p q) bs ≡ true → ((t ≡ true) × (accepted p bs ≡ true)) ⊎ ((t ≡ false) × (accepted q bs ≡ true))
-chosen true p q bs e = inl (refl, e)
-chosen false p q bs e = inr (refl, e)
-
-nothing_wrong : (bs : List ℕ) → accepted Wrong bs ≡ true → ⊥
-nothing_wrong [] e = absurd cc
-nothing_wrong (b ∷ bs) e = nothing_wrong bs e
-
--- a `cond` between a part and `Wrong`
-required : (t : Bool) (p : Part) (bs : List ℕ) → accepted (cond t p Wrong) bs ≡ true → (t ≡ true) × (accepted p bs ≡ true)
-required true p bs e = (refl, e)
-required false p bs e = absurd (nothing_wrong bs e)
-
--- ---- The texts that are accepted from each part on.
-
-exponent_digits : (bs : List ℕ) → accepted Exponent bs ≡ true → AreDigits bs
-exponent_digits [] e = tt
-exponent_digits (b ∷ bs) e = let r = required (is_ascii_digit b) Exponent bs e in (from_test b r.0, exponent_digits bs r.1)
-
-sign_digits : (bs : List ℕ) → accepted Sign bs ≡ true → IsDigits bs
-sign_digits [] e = absurd cc
-sign_digits (b ∷ bs) e = let r = required (is_ascii_digit b) Exponent bs e in (omega arith, (from_test b r.0, exponent_digits bs r.1))
-
-abbrev pub IsSign : List ℕ → Type 0
-IsSign sign = (sign ≡ []) ⊎ ((sign ≡ 0x2b ∷ []) ⊎ (sign ≡ 0x2d ∷ []))
-
--- behind the letter of an exponent
-record Power (bs : List ℕ) : Type 0 where
-  sign : List ℕ
-  ds : List ℕ
-  parts : bs ≡ sign ++ ds
-  is_sign : IsSign sign
-  digits : IsDigits ds
-
-signed_power : (b : ℕ) (bs : List ℕ) → (b ≡ 0x2b) ⊎ (b ≡ 0x2d) → accepted Sign bs ≡ true → Power (b ∷ bs)
-signed_power b bs (inl same) e = record { sign = 0x2b ∷ []; ds = bs; parts = ap (λ x. x ∷ bs) same; is_sign = inr (inl refl); digits = sign_digits bs e }
-signed_power b bs (inr same) e = record { sign = 0x2d ∷ []; ds = bs; parts = ap (λ x. x ∷ bs) same; is_sign = inr (inr refl); digits = sign_digits bs e }
-
 pub one_of : (b x y : ℕ) → (b == x || b == y) ≡ true → (b ≡ x) ⊎ (b ≡ y)
 one_of b x y e = elim (or_cases (b == x) (b == y) e) [ inl h ↦ inl (eqb-true b x h) | inr h ↦ inr (eqb-true b y h) ]
 
-letter_power : (bs : List ℕ) → accepted Letter bs ≡ true → Power bs
-letter_power [] e = absurd cc
-letter_power (b ∷ bs) e =
-    elim (chosen (b == 0x2b || b == 0x2d) Sign (cond (is_ascii_digit b) Exponent Wrong) bs e) [
-      | inl h ↦ signed_power b bs (one_of b 0x2b 0x2d h.0) h.1
-      | inr h ↦ record { sign = []; ds = b ∷ bs; parts = refl; is_sign = inl refl; digits = sign_digits (b ∷ bs) h.1 }
+-- ---- digits
+
+pub AllDigits-from_test : (ds : List ℕ) → all_ascii_digits ds ≡ true → AllByRecursion IsAsciiDigit ds
+AllDigits-from_test [] e = tt
+AllDigits-from_test (d ∷ ds) e = let p = and_parts (is_ascii_digit d) (all_ascii_digits ds) e in (from_test d p.0, AllDigits-from_test ds p.1)
+
+pub all_digits-from_AllDigits : (ds : List ℕ) → AllByRecursion IsAsciiDigit ds → all_ascii_digits ds ≡ true
+all_digits-from_AllDigits [] h = refl
+all_digits-from_AllDigits (d ∷ ds) h = and_from (is_ascii_digit d) (all_ascii_digits ds) (to_test d h.0) (all_digits-from_AllDigits ds h.1)
+
+pub IsDigits-from_is_digits : (ds : List ℕ) → is_digits ds ≡ true → IsDigits ds
+IsDigits-from_is_digits [] e = absurd cc
+IsDigits-from_is_digits (d ∷ ds) e = (omega arith, AllDigits-from_test (d ∷ ds) e)
+
+pub is_digits-from_IsDigits : (ds : List ℕ) → IsDigits ds → is_digits ds ≡ true
+is_digits-from_IsDigits [] h = let some : 0 < 0 = h.0 in absurd (omega arith)
+is_digits-from_IsDigits (d ∷ ds) h = all_digits-from_AllDigits (d ∷ ds) h.1
+
+is_empty-nil : (xs : List ℕ) → is_empty xs ≡ true → xs ≡ []
+is_empty-nil [] e = refl
+is_empty-nil (x ∷ xs) e = absurd cc
+
+-- ---- whole numbers
+
+pub IsWhole-from_is_whole : (ds : List ℕ) → is_whole ds ≡ true → IsWhole ds
+IsWhole-from_is_whole [] e = absurd cc
+IsWhole-from_is_whole (d ∷ ds) e =
+    let p = and_parts (is_ascii_digit d && all_ascii_digits ds) (is_empty ds || not (d == 0x30)) e in
+    let q = and_parts (is_ascii_digit d) (all_ascii_digits ds) p.0 in
+    let digit = from_test d q.0 in
+    let low : 48 ≤ d = digit.0 in
+    let others = AllDigits-from_test ds q.1 in
+    elim (cases_eq d 0x30) [
+      | inl same ↦ elim (or_cases (is_empty ds) (not (d == 0x30)) p.1) [
+        | inl alone ↦ inl (ap₂ (λ (x : ℕ) (xs : List ℕ). x ∷ xs) same (is_empty-nil ds alone))
+        | inr other ↦ absurd (eqb-false d 0x30 (not-true (d == 0x30) other) same)
+      ]
+      | inr other ↦ inr (d, ds, refl, omega arith, digit.1, others)
     ]
 
-exponent_from : (b : ℕ) (bs : List ℕ) → (b == 0x65 || b == 0x45) ≡ true → accepted Letter bs ≡ true → IsExponent (b ∷ bs)
-exponent_from b bs letter e =
-    let p = letter_power bs e in
-    inr (b, p.sign, p.ds, ap (λ (xs : List ℕ). b ∷ xs) p.parts, one_of b 0x65 0x45 letter, p.is_sign, p.digits)
+pub is_whole-from_IsWhole : (ds : List ℕ) → IsWhole ds → is_whole ds ≡ true
+is_whole-from_IsWhole ds (inl e) = ap is_whole e
+is_whole-from_IsWhole ds (inr (d, others, e, low, high, digits)) =
+    ap is_whole e ∙ and_from (is_ascii_digit d && all_ascii_digits others) (is_empty others || not (d == 0x30))
+    (and_from (is_ascii_digit d) (all_ascii_digits others) (to_test d (omega (arith, low), high)) (all_digits-from_AllDigits others digits))
+    (or_right (is_empty others) (not (d == 0x30)) (not_from_false (d == 0x30) (ne_eqb d 0x30 (λ same. omega (arith, low, same)))))
 
--- digits, and then an exponent or nothing
-record Digits_exponent (bs : List ℕ) : Type 0 where
-  ds : List ℕ
-  exponent : List ℕ
-  parts : bs ≡ ds ++ exponent
-  digits : AreDigits ds
-  is_exponent : IsExponent exponent
+-- ---- exponents and fractions
 
-digits_more : (b : ℕ) (bs : List ℕ) → IsAsciiDigit b → Digits_exponent bs → Digits_exponent (b ∷ bs)
-digits_more b bs d h = record { ds = b ∷ h.ds; exponent = h.exponent; parts = ap (λ (xs : List ℕ). b ∷ xs) h.parts; digits = (d, h.digits); is_exponent = h.is_exponent }
+-- a sign, or none, in front
+unsigned_parts : (bs : List ℕ) → (sign : List ℕ) × (bs ≡ sign ++ unsigned bs) × IsSign sign
+unsigned_parts [] = ([], refl, inl refl)
+unsigned_parts (b ∷ bs) = elim (cases_Bool (b == 0x2b || b == 0x2d)) [
+  | inl e ↦ elim (one_of b 0x2b 0x2d e) [
+    | inl same ↦ (0x2b ∷ [], rw e (ap (λ (x : ℕ). x ∷ bs) same), inr (inl refl))
+    | inr same ↦ (0x2d ∷ [], rw e (ap (λ (x : ℕ). x ∷ bs) same), inr (inr refl))
+  ]
+  | inr e ↦ ([], rw e refl, inl refl)
+]
 
-fraction_rest : (bs : List ℕ) → accepted Fraction bs ≡ true → Digits_exponent bs
-fraction_rest [] e = record { ds = []; exponent = []; parts = refl; digits = tt; is_exponent = inl refl }
-fraction_rest (b ∷ bs) e =
-    elim (chosen (is_ascii_digit b) Fraction (cond (b == 0x65 || b == 0x45) Letter Wrong) bs e) [
-      | inl h ↦ digits_more b bs (from_test b h.0) (fraction_rest bs h.1)
-      | inr h ↦ let r = required (b == 0x65 || b == 0x45) Letter bs h.1 in
-          record { ds = []; exponent = b ∷ bs; parts = refl; digits = tt; is_exponent = exponent_from b bs r.0 r.1 }
-    ]
+-- digits have no sign in front
+unsigned-digits : (sign ds : List ℕ) → IsSign sign → IsDigits ds → unsigned (sign ++ ds) ≡ ds
+unsigned-digits sign [] s h = let some : 0 < 0 = h.0 in absurd (omega arith)
+unsigned-digits sign (d ∷ ds) (inl e) h =
+    let low : 48 ≤ d = h.1.0.0 in
+    let none = or_from (d == 0x2b) (d == 0x2d) (ne_eqb d 0x2b (λ same. omega arith)) (ne_eqb d 0x2d (λ same. omega arith)) in
+    rw e (rw none refl)
+unsigned-digits sign (d ∷ ds) (inr (inl e)) h = rw e refl
+unsigned-digits sign (d ∷ ds) (inr (inr e)) h = rw e refl
+
+pub IsExponent-from_is_exponent : (bs : List ℕ) → is_exponent bs ≡ true → IsExponent bs
+IsExponent-from_is_exponent [] e = absurd cc
+IsExponent-from_is_exponent (b ∷ bs) e =
+    let p = and_parts (b == 0x65 || b == 0x45) (is_digits (unsigned bs)) e in
+    let u = unsigned_parts bs in
+    inr (b, u.0, unsigned bs, ap (λ (xs : List ℕ). b ∷ xs) u.1, one_of b 0x65 0x45 p.0, u.2, IsDigits-from_is_digits (unsigned bs) p.1)
+
+-- The grammar's exponent may be nothing.
+pub is_exponent-from_IsExponent : (bs : List ℕ) → IsExponent bs → (is_empty bs || is_exponent bs) ≡ true
+is_exponent-from_IsExponent bs (inl e) = ap (λ (xs : List ℕ). is_empty xs || is_exponent xs) e
+is_exponent-from_IsExponent bs (inr (b, sign, ds, e, letter, s, digits)) =
+    ap (λ (xs : List ℕ). is_empty xs || is_exponent xs) e
+    ∙ and_from (b == 0x65 || b == 0x45) (is_digits (unsigned (sign ++ ds))) (is_letter letter)
+    (ap is_digits (unsigned-digits sign ds s digits) ∙ is_digits-from_IsDigits ds digits)
+  where
+    is_letter : (b ≡ 0x65) ⊎ (b ≡ 0x45) → (b == 0x65 || b == 0x45) ≡ true
+    is_letter (inl same) = or_left (b == 0x65) (b == 0x45) (eq-eqb b 0x65 same)
+    is_letter (inr same) = or_right (b == 0x65) (b == 0x45) (eq-eqb b 0x45 same)
+
+-- the digits in front, and what stands behind them
+pub digits_parts : (bs : List ℕ) → bs ≡ front_digits bs ++ behind_digits bs
+digits_parts [] = refl
+digits_parts (b ∷ bs) = elim (cases_Bool (is_ascii_digit b)) [
+  | inl e ↦ rw e (ap (λ (xs : List ℕ). b ∷ xs) (digits_parts bs))
+  | inr e ↦ rw e refl
+]
+
+-- one more digit, or none
+pub digits-more : (bytes : List ℕ) (i : ℕ) → i < length bytes → is_ascii_digit (slice_index bytes i) ≡ true → (front_digits (drop i bytes) ≡ slice_index bytes i ∷ front_digits (drop (i + 1) bytes)) × (behind_digits (drop i bytes) ≡ behind_digits (drop (i + 1) bytes))
+digits-more bytes i h digit = rw (drop-cons bytes i 0 h, digit, add-one i) (refl, refl)
+
+pub digits-end : (bytes : List ℕ) (i : ℕ) → i < length bytes → is_ascii_digit (slice_index bytes i) ≡ false → (front_digits (drop i bytes) ≡ []) × (behind_digits (drop i bytes) ≡ drop i bytes)
+digits-end bytes i h none = rw (drop-cons bytes i 0 h, none) (refl, refl)
+
+pub front_digits-all : (bs : List ℕ) → all_ascii_digits (front_digits bs) ≡ true
+front_digits-all [] = refl
+front_digits-all (b ∷ bs) = elim (cases_Bool (is_ascii_digit b)) [
+  | inl e ↦ rw e (and_from (is_ascii_digit b) (all_ascii_digits (front_digits bs)) e (front_digits-all bs))
+  | inr e ↦ rw e refl
+]
+
+all_ascii_digits-behind : (bs : List ℕ) → is_empty (behind_digits bs) ≡ all_ascii_digits bs
+all_ascii_digits-behind [] = refl
+all_ascii_digits-behind (b ∷ bs) = elim (cases_Bool (is_ascii_digit b)) [
+  | inl e ↦ rw e (all_ascii_digits-behind bs)
+  | inr e ↦ rw e refl
+]
+
+pub is_digits-parts : (bs : List ℕ) → (not (is_empty (front_digits bs)) && is_empty (behind_digits bs)) ≡ is_digits bs
+is_digits-parts [] = refl
+is_digits-parts (b ∷ bs) = elim (cases_Bool (is_ascii_digit b)) [
+  | inl e ↦ rw e (all_ascii_digits-behind bs)
+  | inr e ↦ rw e refl
+]
+
+and_true : (b : Bool) → (b && true) ≡ b
+and_true true = refl
+and_true false = refl
+
+pub is_digits-front : (bs : List ℕ) → not (is_empty (front_digits bs)) ≡ is_digits (front_digits bs)
+is_digits-front bs = sym (ap (λ (b : Bool). not (is_empty (front_digits bs)) && b) (front_digits-all bs) ∙ and_true (not (is_empty (front_digits bs))))
+
+pub is_empty-length : (xs : List ℕ) → (length xs == 0) ≡ is_empty xs
+is_empty-length [] = refl
+is_empty-length (x ∷ xs) = ne_eqb (length (x ∷ xs)) 0 (λ e. omega (arith, e))
+
+-- no digit in front
+no_digits : (r : List ℕ) → NotFirst IsAsciiDigit r → (front_digits r ≡ []) × (behind_digits r ≡ r)
+no_digits [] h = (refl, refl)
+no_digits (b ∷ r) h = elim (cases_Bool (is_ascii_digit b)) [
+  | inl e ↦ absurd (h (from_test b e))
+  | inr e ↦ (rw e refl, rw e refl)
+]
+
+-- digits, up to a byte that is none
+pub digits-append : (ds r : List ℕ) → AllByRecursion IsAsciiDigit ds → NotFirst IsAsciiDigit r → (front_digits (ds ++ r) ≡ ds) × (behind_digits (ds ++ r) ≡ r)
+digits-append [] r h stop = no_digits r stop
+digits-append (d ∷ ds) r h stop =
+    let k = digits-append ds r h.1 stop in
+    let t = to_test d h.0 in
+    (rw t (ap (λ (xs : List ℕ). d ∷ xs) k.0), rw t k.1)
 
 -- a fraction, an exponent or both
-record Tail (bs : List ℕ) : Type 0 where
-  fraction : List ℕ
-  exponent : List ℕ
-  parts : bs ≡ fraction ++ exponent
-  is_fraction : IsFraction fraction
-  is_exponent : IsExponent exponent
-  has_one : bs ≢ []
+pub record Tail (bs : List ℕ) : Type 0 where
+  pub fraction : List ℕ
+  pub exponent : List ℕ
+  pub parts : bs ≡ fraction ++ exponent
+  pub is_fraction : IsFraction fraction
+  pub is_exponent : IsExponent exponent
 
-point_tail : (bs : List ℕ) → accepted Point bs ≡ true → Tail (0x2e ∷ bs)
-point_tail [] e = absurd cc
-point_tail (b ∷ bs) e =
-    let r = required (is_ascii_digit b) Fraction bs e in
-    let h = digits_more b bs (from_test b r.0) (fraction_rest bs r.1) in
-    let rest = fraction_rest bs r.1 in
+pub Tail-from_is_fraction_or_exponent : (bs : List ℕ) → is_fraction_or_exponent bs ≡ true → Tail bs × (bs ≢ [])
+Tail-from_is_fraction_or_exponent [] e = absurd cc
+Tail-from_is_fraction_or_exponent (b ∷ bs) e = elim (cases_Bool (b == 0x2e)) [
+  | inl point ↦
+      let p = and_parts (is_digits (front_digits bs)) (is_empty (behind_digits bs) || is_exponent (behind_digits bs)) (rw point at e) in (
+        record {
+          fraction = 0x2e ∷ front_digits bs;
+          exponent = behind_digits bs;
+          parts = ap₂ (λ (x : ℕ) (xs : List ℕ). x ∷ xs) (eqb-true b 0x2e point) (digits_parts bs);
+          is_fraction = inr (front_digits bs, refl, IsDigits-from_is_digits (front_digits bs) p.0);
+          is_exponent = elim (or_cases (is_empty (behind_digits bs)) (is_exponent (behind_digits bs)) p.1) [
+            | inl none ↦ inl (is_empty-nil (behind_digits bs) none)
+            | inr some ↦ IsExponent-from_is_exponent (behind_digits bs) some
+          ];
+        },
+        λ same. absurd cc,
+      )
+  | inr other ↦ (
     record {
-      fraction = 0x2e ∷ b ∷ rest.ds;
-      exponent = rest.exponent;
-      parts = ap (λ (xs : List ℕ). 0x2e ∷ b ∷ xs) rest.parts;
-      is_fraction = inr (b ∷ rest.ds, refl, (omega arith, (from_test b r.0, rest.digits)));
-      is_exponent = rest.is_exponent;
-      has_one = λ same. absurd cc;
+      fraction = [];
+      exponent = b ∷ bs;
+      parts = refl;
+      is_fraction = inl refl;
+      is_exponent = IsExponent-from_is_exponent (b ∷ bs) (rw other at e);
+    },
+    λ same. absurd cc,
+  )
+]
+
+-- an exponent begins with no point
+exponent_alone : (x : List ℕ) → IsExponent x → x ≢ [] → is_fraction_or_exponent x ≡ true
+exponent_alone x (inl e) some = absurd (some e)
+exponent_alone x (inr (b, sign, ds, e, letter, s, digits)) some =
+    let whole = is_exponent-from_IsExponent (b ∷ (sign ++ ds)) (inr (b, sign, ds, refl, letter, s, digits)) in
+    ap is_fraction_or_exponent e ∙ rw (ne_eqb b 0x2e (no_point letter)) whole
+  where
+    no_point : (b ≡ 0x65) ⊎ (b ≡ 0x45) → b ≡ 0x2e → ⊥
+    no_point (inl same) point = omega arith
+    no_point (inr same) point = omega arith
+
+pub is_fraction_or_exponent-from_Tail : (fraction exponent : List ℕ) → IsFraction fraction → IsExponent exponent → fraction ++ exponent ≢ [] → is_fraction_or_exponent (fraction ++ exponent) ≡ true
+is_fraction_or_exponent-from_Tail fraction exponent (inl e) x some =
+    ap (λ (xs : List ℕ). is_fraction_or_exponent (xs ++ exponent)) e ∙ exponent_alone exponent x (λ none. some (ap (λ (xs : List ℕ). xs ++ exponent) e ∙ none))
+is_fraction_or_exponent-from_Tail fraction exponent (inr (ds, e, digits)) x some =
+    let k = digits-append ds exponent digits.1 (exponent_start exponent x) in
+    ap (λ (xs : List ℕ). is_fraction_or_exponent (xs ++ exponent)) e
+    ∙ and_from (is_digits (front_digits (ds ++ exponent))) (is_empty (behind_digits (ds ++ exponent)) || is_exponent (behind_digits (ds ++ exponent)))
+    (ap is_digits k.0 ∙ is_digits-from_IsDigits ds digits)
+    (ap (λ (xs : List ℕ). is_empty xs || is_exponent xs) k.1 ∙ is_exponent-from_IsExponent exponent x)
+
+-- ---- signs
+
+pub sign_parts : (bs : List ℕ) → bs ≡ minus (is_negative bs) ++ magnitude bs
+sign_parts [] = refl
+sign_parts (b ∷ bs) = elim (cases_Bool (b == 0x2d)) [
+  | inl e ↦ rw e (ap (λ (x : ℕ). x ∷ bs) (eqb-true b 0x2d e))
+  | inr e ↦ rw e refl
+]
+
+-- what begins with no minus
+unsigned_sign : (bs : List ℕ) → NotFirst (λ b. b ≡ 0x2d) bs → (is_negative bs ≡ false) × (magnitude bs ≡ bs)
+unsigned_sign [] h = (refl, refl)
+unsigned_sign (b ∷ bs) h = let other = ne_eqb b 0x2d h in (other, rw other refl)
+
+-- a whole number with a sign, or without one, and what stands behind it
+pub sign_of : (negative : Bool) (whole rest : List ℕ) → IsWhole whole → (is_negative (minus negative ++ (whole ++ rest)) ≡ negative) × (magnitude (minus negative ++ (whole ++ rest)) ≡ whole ++ rest)
+sign_of true whole rest w = (refl, refl)
+sign_of false whole rest w = unsigned_sign (whole ++ rest) (no_minus whole rest w)
+
+-- ---- decimal literals
+
+pub IsDecimal-from_is_decimal : (bs : List ℕ) → is_decimal bs ≡ true → IsDecimal bs
+IsDecimal-from_is_decimal bs e =
+    let p = and_parts (is_whole (front_digits (magnitude bs))) (is_fraction_or_exponent (behind_digits (magnitude bs))) e in
+    let t = Tail-from_is_fraction_or_exponent (behind_digits (magnitude bs)) p.1 in
+    record {
+      negative = is_negative bs;
+      whole = front_digits (magnitude bs);
+      fraction = t.0.fraction;
+      exponent = t.0.exponent;
+      parts = sign_parts bs ∙ ap (λ (xs : List ℕ). minus (is_negative bs) ++ xs) (digits_parts (magnitude bs) ∙ ap (λ (xs : List ℕ). front_digits (magnitude bs) ++ xs) t.0.parts);
+      is_whole = IsWhole-from_is_whole (front_digits (magnitude bs)) p.0;
+      is_fraction = t.0.is_fraction;
+      is_exponent = t.0.is_exponent;
+      has_one = λ none. t.1 (t.0.parts ∙ none);
     }
 
-tail_from : (b : ℕ) (bs : List ℕ) → accepted (cond (b == 0x2e) Point (cond (b == 0x65 || b == 0x45) Letter Wrong)) bs ≡ true → Tail (b ∷ bs)
-tail_from b bs e =
-    elim (chosen (b == 0x2e) Point (cond (b == 0x65 || b == 0x45) Letter Wrong) bs e) [
-      | inl h ↦ subst (λ x. Tail (x ∷ bs)) (sym (eqb-true b 0x2e h.0)) (point_tail bs h.1)
-      | inr h ↦ let r = required (b == 0x65 || b == 0x45) Letter bs h.1 in
-          record { fraction = []; exponent = b ∷ bs; parts = refl; is_fraction = inl refl; is_exponent = exponent_from b bs r.0 r.1; has_one = λ same. absurd cc }
-    ]
-
-zero_tail : (bs : List ℕ) → accepted Zero bs ≡ true → Tail bs
-zero_tail [] e = absurd cc
-zero_tail (b ∷ bs) e = tail_from b bs e
-
--- digits, and then a tail
-record Digits_tail (bs : List ℕ) : Type 0 where
-  ds : List ℕ
-  rest : List ℕ
-  parts : bs ≡ ds ++ rest
-  digits : AreDigits ds
-  tail : Tail rest
-
-whole_tail : (bs : List ℕ) → accepted Whole bs ≡ true → Digits_tail bs
-whole_tail [] e = absurd cc
-whole_tail (b ∷ bs) e =
-    elim (chosen (is_ascii_digit b) Whole (cond (b == 0x2e) Point (cond (b == 0x65 || b == 0x45) Letter Wrong)) bs e) [
-      | inl h ↦ let r = whole_tail bs h.1 in
-          record { ds = b ∷ r.ds; rest = r.rest; parts = ap (λ (xs : List ℕ). b ∷ xs) r.parts; digits = (from_test b h.0, r.digits); tail = r.tail }
-      | inr h ↦ record { ds = []; rest = b ∷ bs; parts = refl; digits = tt; tail = tail_from b bs h.1 }
-    ]
-
--- a whole part, and then a tail
-record Whole_tail (bs : List ℕ) : Type 0 where
-  whole : List ℕ
-  rest : List ℕ
-  parts : bs ≡ whole ++ rest
-  is_whole : IsWhole whole
-  tail : Tail rest
-
-from_first : (b : ℕ) (bs : List ℕ) → accepted (cond (b == 0x30) Zero (cond (is_ascii_digit b) Whole Wrong)) bs ≡ true → Whole_tail (b ∷ bs)
-from_first b bs e =
-    elim (chosen (b == 0x30) Zero (cond (is_ascii_digit b) Whole Wrong) bs e) [
-      | inl h ↦ record { whole = 0x30 ∷ []; rest = bs; parts = ap (λ x. x ∷ bs) (eqb-true b 0x30 h.0); is_whole = inl refl; tail = zero_tail bs h.1 }
-      | inr h ↦ let r = required (is_ascii_digit b) Whole bs h.1 in
-          let d = from_test b r.0 in
-          let more = whole_tail bs r.1 in
-          let low : 0x31 ≤ b = first_low b h.0 d.0 in
-          record { whole = b ∷ more.ds; rest = more.rest; parts = ap (λ (xs : List ℕ). b ∷ xs) more.parts; is_whole = inr (b, more.ds, refl, low, d.1, more.digits); tail = more.tail }
-    ]
-  where
-    first_low : (b : ℕ) → (b == 0x30) ≡ false → 48 ≤ b → 0x31 ≤ b
-    first_low b e h = grind (arith)
-
-literal : (negative : Bool) (bs : List ℕ) → Whole_tail bs → IsDecimal (minus negative ++ bs)
-literal negative bs w = record {
-  negative = negative;
-  whole = w.whole;
-  fraction = w.tail.fraction;
-  exponent = w.tail.exponent;
-  parts = ap (λ xs. minus negative ++ xs) (w.parts ∙ ap (λ xs. w.whole ++ xs) w.tail.parts);
-  is_whole = w.is_whole;
-  is_fraction = w.tail.is_fraction;
-  is_exponent = w.tail.is_exponent;
-  has_one = λ same. w.tail.has_one (w.tail.parts ∙ same);
-}
-
-minus_rest : (bs : List ℕ) → accepted Minus bs ≡ true → Whole_tail bs
-minus_rest [] e = absurd cc
-minus_rest (b ∷ bs) e = from_first b bs e
-
-pub sound : (bs : List ℕ) → accepted Start bs ≡ true → IsDecimal bs
-sound [] e = absurd cc
-sound (b ∷ bs) e =
-    elim (chosen (b == 0x2d) Minus (cond (b == 0x30) Zero (cond (is_ascii_digit b) Whole Wrong)) bs e) [
-      | inl h ↦ subst (λ x. IsDecimal (x ∷ bs)) (sym (eqb-true b 0x2d h.0)) (literal true bs (minus_rest bs h.1))
-      | inr h ↦ literal false (b ∷ bs) (from_first b bs h.1)
-    ]
-
--- ---- Each part of a literal is accepted.
-
--- a step to a part from which the rest is accepted
-goes : (p q : Part) (b : ℕ) (bs : List ℕ) → next_part p b ≡ q → accepted q bs ≡ true → accepted p (b ∷ bs) ≡ true
-goes p q b bs step e = ap (λ r. accepted r bs) step ∙ e
-
--- by a digit
-goes_digit : (p q other : Part) (d : ℕ) (bs : List ℕ) → IsAsciiDigit d → next_part p d ≡ cond (is_ascii_digit d) q other → accepted q bs ≡ true → accepted p (d ∷ bs) ≡ true
-goes_digit p q other d bs h step e = goes p q d bs (step ∙ cond-true (is_ascii_digit d) q other (to_test d h)) e
-
-exponent_all : (ds : List ℕ) → AreDigits ds → accepted Exponent ds ≡ true
-exponent_all [] h = refl
-exponent_all (d ∷ ds) h = goes_digit Exponent Exponent Wrong d ds h.0 refl (exponent_all ds h.1)
-
-sign_all : (ds : List ℕ) → IsDigits ds → accepted Sign ds ≡ true
-sign_all [] h = absurd (omega arith)
-sign_all (d ∷ ds) h = goes_digit Sign Exponent Wrong d ds h.1.0 refl (exponent_all ds h.1.1)
-
-is_other : (d n : ℕ) → IsAsciiDigit d → n < 48 → (d == n) ≡ false
-is_other d n h below = ne_eqb d n (λ same. omega (arith, h.0, below))
-
-no_sign : (d : ℕ) → IsAsciiDigit d → (d == 0x2b || d == 0x2d) ≡ false
-no_sign d h = or_from (d == 0x2b) (d == 0x2d) (is_other d 0x2b h (omega arith)) (is_other d 0x2d h (omega arith))
-
-unsigned_all : (ds : List ℕ) → IsDigits ds → accepted Letter ds ≡ true
-unsigned_all [] h = absurd (omega arith)
-unsigned_all (d ∷ ds) h =
-    goes_digit Letter Exponent Wrong d ds h.1.0 (cond-false (d == 0x2b || d == 0x2d) Sign (cond (is_ascii_digit d) Exponent Wrong) (no_sign d h.1.0)) (exponent_all ds h.1.1)
-
-letter_all : (sign ds : List ℕ) → IsSign sign → IsDigits ds → accepted Letter (sign ++ ds) ≡ true
-letter_all sign ds (inl same) h = rw same (unsigned_all ds h)
-letter_all sign ds (inr (inl same)) h = rw same (sign_all ds h)
-letter_all sign ds (inr (inr same)) h = rw same (sign_all ds h)
-
--- an exponent, from a part that a letter may follow
-exponent_part : (p : Part) → next_part p 0x65 ≡ Letter → next_part p 0x45 ≡ Letter → (x : List ℕ) → IsExponent x → x ≢ [] → accepted p x ≡ true
-exponent_part p low high x (inl same) some = absurd (some same)
-exponent_part p low high x (inr (e, sign, ds, same, which, is_sign, digits)) some =
-    let rest : accepted Letter (sign ++ ds) ≡ true = letter_all sign ds is_sign digits in
-    let step : next_part p e ≡ Letter = elim which [ inl is_low ↦ ap (next_part p) is_low ∙ low | inr is_high ↦ ap (next_part p) is_high ∙ high ] in
-    rw same (goes p Letter e (sign ++ ds) step rest)
-
-no_byte : (b : ℕ) (bs : List ℕ) → b ∷ bs ≡ [] → ⊥
-no_byte b bs e = absurd cc
-
-fraction_end : (x : List ℕ) → IsExponent x → accepted Fraction x ≡ true
-fraction_end [] h = refl
-fraction_end (b ∷ bs) h = exponent_part Fraction refl refl (b ∷ bs) h (no_byte b bs)
-
-fraction_digits : (ds x : List ℕ) → AreDigits ds → accepted Fraction x ≡ true → accepted Fraction (ds ++ x) ≡ true
-fraction_digits [] x h e = e
-fraction_digits (d ∷ ds) x h e =
-    goes_digit Fraction Fraction (cond (d == 0x65 || d == 0x45) Letter Wrong) d (ds ++ x) h.0 refl (fraction_digits ds x h.1 e)
-
-point_all : (ds x : List ℕ) → IsDigits ds → accepted Fraction x ≡ true → accepted Point (ds ++ x) ≡ true
-point_all [] x h e = absurd (omega arith)
-point_all (d ∷ ds) x h e = goes_digit Point Fraction Wrong d (ds ++ x) h.1.0 refl (fraction_digits ds x h.1.1 e)
-
--- a tail, from a part that a point and a letter may follow
-tail_all : (p : Part) → next_part p 0x2e ≡ Point → next_part p 0x65 ≡ Letter → next_part p 0x45 ≡ Letter → (f x : List ℕ) → IsFraction f → IsExponent x → f ++ x ≢ [] → accepted p (f ++ x) ≡ true
-tail_all p point low high f x (inl same) is_exponent some =
-    rw same (exponent_part p low high x is_exponent (λ none. some (ap (λ fs. fs ++ x) same ∙ none)))
-tail_all p point low high f x (inr (ds, same, digits)) is_exponent some =
-    rw same (goes p Point 0x2e (ds ++ x) point (point_all ds x digits (fraction_end x is_exponent)))
-
-whole_digits : (ds r : List ℕ) → AreDigits ds → accepted Whole r ≡ true → accepted Whole (ds ++ r) ≡ true
-whole_digits [] r h e = e
-whole_digits (d ∷ ds) r h e =
-    goes_digit Whole Whole (cond (d == 0x2e) Point (cond (d == 0x65 || d == 0x45) Letter Wrong)) d (ds ++ r) h.0 refl (whole_digits ds r h.1 e)
-
--- the first of several digits
-record First (d : ℕ) : Type 0 where
-  is_digit : IsAsciiDigit d
-  not_zero : (d == 0x30) ≡ false
-  not_minus : (d == 0x2d) ≡ false
-
-first_digit : (d : ℕ) → 0x31 ≤ d → d ≤ 0x39 → First d
-first_digit d low high = record {
-  is_digit = (omega (arith, low), high);
-  not_zero = ne_eqb d 0x30 (λ e. omega (arith, low, e));
-  not_minus = ne_eqb d 0x2d (λ e. omega (arith, low, e));
-}
-
-minus_step : (d : ℕ) → First d → next_part Minus d ≡ Whole
-minus_step d h =
-    cond-false (d == 0x30) Zero (cond (is_ascii_digit d) Whole Wrong) h.not_zero ∙ cond-true (is_ascii_digit d) Whole Wrong (to_test d h.is_digit)
-
-start_step : (d : ℕ) → First d → next_part Start d ≡ Whole
-start_step d h =
-    cond-false (d == 0x2d) Minus (cond (d == 0x30) Zero (cond (is_ascii_digit d) Whole Wrong)) h.not_minus ∙ minus_step d h
-
--- a whole part, behind a minus or at the start
-whole_all : (p : Part) → next_part p 0x30 ≡ Zero → ((d : ℕ) → First d → next_part p d ≡ Whole) → (whole r : List ℕ) → IsWhole whole → accepted Zero r ≡ true → accepted Whole r ≡ true → accepted p (whole ++ r) ≡ true
-whole_all p zero more whole r (inl same) after_zero after_more = rw same (goes p Zero 0x30 r zero after_zero)
-whole_all p zero more whole r (inr (d, others, same, low, high, digits)) after_zero after_more =
-    rw same (goes p Whole d (others ++ r) (more d (first_digit d low high)) (whole_digits others r digits after_more))
-
-signed_all : (negative : Bool) (whole r : List ℕ) → IsWhole whole → accepted Zero r ≡ true → accepted Whole r ≡ true → accepted Start (minus negative ++ (whole ++ r)) ≡ true
-signed_all true whole r is_whole after_zero after_more = whole_all Minus refl minus_step whole r is_whole after_zero after_more
-signed_all false whole r is_whole after_zero after_more = whole_all Start refl start_step whole r is_whole after_zero after_more
-
-pub complete : (bs : List ℕ) → IsDecimal bs → accepted Start bs ≡ true
-complete bs h =
-    rw h.parts (signed_all h.negative h.whole (h.fraction ++ h.exponent) h.is_whole
-    (tail_all Zero refl refl refl h.fraction h.exponent h.is_fraction h.is_exponent h.has_one)
-    (tail_all Whole refl refl refl h.fraction h.exponent h.is_fraction h.is_exponent h.has_one))
+pub is_decimal-from_IsDecimal : (bs : List ℕ) → IsDecimal bs → is_decimal bs ≡ true
+is_decimal-from_IsDecimal bs h =
+    let s = sign_of h.negative h.whole (h.fraction ++ h.exponent) h.is_whole in
+    let whole : magnitude bs ≡ h.whole ++ (h.fraction ++ h.exponent) = ap magnitude h.parts ∙ s.1 in
+    let k = digits-append h.whole (h.fraction ++ h.exponent) (whole_digits h.whole h.is_whole) (fraction_start h.fraction h.exponent h.is_fraction (exponent_start h.exponent h.is_exponent)) in
+    and_from (is_whole (front_digits (magnitude bs))) (is_fraction_or_exponent (behind_digits (magnitude bs)))
+    (ap (λ (xs : List ℕ). is_whole (front_digits xs)) whole ∙ ap is_whole k.0 ∙ is_whole-from_IsWhole h.whole h.is_whole)
+    (ap (λ (xs : List ℕ). is_fraction_or_exponent (behind_digits xs)) whole ∙ ap is_fraction_or_exponent k.1 ∙ is_fraction_or_exponent-from_Tail h.fraction h.exponent h.is_fraction h.is_exponent h.has_one)
 
 -- The parts of a literal can be found, so the truncated proof that there are some gives them.
 pub found : (bs : List ℕ) → ∥ IsDecimal bs ∥₁ → IsDecimal bs
-found bs h = sound bs (∥∥₁_elim h (Bool-set (accepted Start bs) true) (complete bs))
+found bs h = IsDecimal-from_is_decimal bs (∥∥₁_elim h (Bool-set (is_decimal bs) true) (is_decimal-from_IsDecimal bs))

@@ -1,4 +1,5 @@
 pub mod Number
+pub mod NumberTests
 pub mod Tree
 pub mod Containers
 pub mod Characters

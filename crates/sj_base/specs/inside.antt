@@ -1,3 +1,2 @@
 -- Definitions that only contracts of private functions and laws of traits cite.
-pub mod Parts
 pub mod OutputLaws

@@ -2,7 +2,7 @@
 ghost use Rattle.std.specs.Prelude.{◌≡◌, ◌↔◌, IsSome, IfSome, IfOk, string_bytes, List, ℕ, Bool};
 ghost use Rattle.sj_base.specs.Number.{IsDecimal};
 
-use crate::part::is_decimal;
+use crate::number::is_decimal;
 use crate::try_copy::TryCopy;
 use std::alloc::{AllocError, Global};
 
@@ -25,11 +25,22 @@ impl<'a> Decimal<'a> {
         ensures accepts { IsSome result ↔ IsDecimal text.now }
         ensures text { IfSome result (λ d. decimal_text d ≡ text.now) }
     {
-        if is_decimal(text.as_bytes()) {
-            Some(Decimal { text })
-        } else {
-            None
+        Decimal::from_bytes(text.as_bytes())
+    }
+
+    /// Returns `bytes` as a decimal literal, or `None` if they aren't a JSON number with a fraction or an exponent.
+    ///
+    /// Any bytes will do: those of a literal are ASCII. As in [`Decimal::new`], all of them are tested.
+    pub fn from_bytes(bytes: &'a [u8]) -> Option<Decimal<'a>>
+        ensures accepts { IsSome result ↔ IsDecimal bytes.now }
+        ensures text { IfSome result (λ d. decimal_text d ≡ bytes.now) }
+    {
+        if !is_decimal(bytes) {
+            return None;
         }
+        Some(Decimal {
+            text: unsafe { std::str::from_utf8_unchecked(bytes) },
+        })
     }
 
     /// Returns the text of the literal.

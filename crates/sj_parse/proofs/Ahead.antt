@@ -6,7 +6,7 @@ use Rattle.std.proofs.Math.Seq.{drop-cons}
 use Rattle.std.proofs.lemmas.Bool.{cases_Bool, eqb-true, and_right, and_parts, not-true, false≢true}
 use Rattle.sj_scan.specs.Positions.{is_whitespace, is_operator}
 use Rattle.sj_parse.specs.Token.{Token, tokens, word}
-use Rattle.sj_parse.specs.Numbers.{is_number}
+use Rattle.sj_base.specs.NumberTests.{is_number}
 use Rattle.sj_parse.specs.inside.WordBytes.{is_word_byte}
 use Rattle.sj_parse.specs.inside.Step.{string_body, reach}
 use Rattle.sj_parse.proofs.Bodies.{body_from, body-body_from}

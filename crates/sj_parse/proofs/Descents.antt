@@ -14,7 +14,7 @@ use Rattle.sj_parse.specs.declared.stop.Stop.{Stop}
 use Rattle.sj_parse.specs.declared.stage_two.State.TheVariants.{End}
 use Rattle.sj_parse.specs.Token.{Token, token_at}
 use Rattle.sj_parse.specs.Escapes.{stop}
-use Rattle.sj_parse.specs.Numbers.{is_integer, integer_value}
+use Rattle.sj_base.specs.NumberTests.{is_integer, integer_value}
 use Rattle.sj_parse.specs.Descent.{Left, left, begins_scalar, scalar_stop, left_kind, nothing_left, descent}
 use Rattle.sj_parse.specs.Fault.{stop_error}
 use Rattle.sj_parse.specs.Nodes.{makes_node, HasCarrier, HaveCarriers}

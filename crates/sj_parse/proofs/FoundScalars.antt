@@ -11,7 +11,7 @@ use Rattle.sj_base.specs.Spelling.{SpellsValue}
 use Rattle.sj_parse.specs.declared.stop.Stop.{Stop}
 use Rattle.sj_parse.specs.Token.{Token}
 use Rattle.sj_parse.specs.Escapes.{stop}
-use Rattle.sj_parse.specs.Numbers.{is_number, is_integer}
+use Rattle.sj_base.specs.NumberTests.{is_number, is_integer}
 use Rattle.sj_parse.specs.Descent.{scalar_stop, literal_stop, begins_scalar}
 use Rattle.sj_parse.specs.inside.Decoded.{decoded}
 use Rattle.sj_parse.specs.inside.Trees.{number_tree, token_tree}

@@ -3,7 +3,6 @@ pub mod Shorter
 pub mod Machine
 pub mod OpenContainers
 pub mod Bodies
-pub mod NumberParts
 pub mod NumberLemmas
 pub mod EscapeForms
 pub mod FormSteps

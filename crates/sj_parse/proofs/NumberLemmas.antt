@@ -6,14 +6,13 @@ use Rattle.std.specs.Str.Parse.{digits_value}
 use Rattle.std.proofs.Common.{refl, sym, ap, ap₂, ◌∙◌, subst, inl, inr, arith, append-nil}
 use Rattle.std.proofs.lemmas.Bool.{and_right, lt-leb, and_parts, and_from, or_cases, or_left, or_right, or_from, false_from_ne_true, agree_below_at, leb-true, le-leb, ltb-true, lt-ltb}
 use Rattle.sj_base.specs.Tree.{IsInRange, integer, decimal}
-use Rattle.sj_base.specs.Number.{minus, signed, SpellsInteger, IsDecimal}
+use Rattle.sj_base.specs.Number.{minus, signed, SpellsInteger}
 use Rattle.sj_base.specs.Spelling.{SpellsValue}
-use Rattle.sj_base.proofs.Literals.{to_test}
-use Rattle.sj_base.proofs.NumberBytes.{IsInNumber, whole_digits, fraction_start, exponent_start, integer_parts, no_decimal, integer_bytes, decimal_bytes, number_first}
-use Rattle.sj_parse.specs.Numbers.{is_negative, magnitude, front_digits, behind_digits, is_whole, is_fraction_or_exponent, is_decimal, is_in_range, is_integer, integer_value, is_number}
+use Rattle.sj_base.proofs.NumberBytes.{IsInNumber, integer_parts, no_decimal, integer_bytes, decimal_bytes, number_first}
+use Rattle.sj_base.specs.NumberTests.{is_negative, magnitude, is_whole, is_decimal, is_in_range, is_integer, integer_value, is_number}
 use Rattle.sj_parse.specs.inside.Trees.{number_tree}
 use Rattle.sj_parse.specs.inside.WordBytes.{is_word_byte}
-use Rattle.sj_parse.proofs.NumberParts.{IsWhole-from_is_whole, is_whole-from_IsWhole, digits_parts, digits-append, Tail-from_is_fraction_or_exponent, is_fraction_or_exponent-from_Tail, sign_parts, sign_of}
+use Rattle.sj_base.proofs.Literals.{to_test, IsWhole-from_is_whole, is_whole-from_IsWhole, sign_parts, sign_of, IsDecimal-from_is_decimal, is_decimal-from_IsDecimal}
 
 -- ---- integers
 
@@ -50,31 +49,6 @@ is_integer-from_SpellsInteger n bs h range =
     )
 
 -- ---- decimal literals
-
-pub IsDecimal-from_is_decimal : (bs : List ℕ) → is_decimal bs ≡ true → IsDecimal bs
-IsDecimal-from_is_decimal bs e =
-    let p = and_parts (is_whole (front_digits (magnitude bs))) (is_fraction_or_exponent (behind_digits (magnitude bs))) e in
-    let t = Tail-from_is_fraction_or_exponent (behind_digits (magnitude bs)) p.1 in
-    record {
-      negative = is_negative bs;
-      whole = front_digits (magnitude bs);
-      fraction = t.0.fraction;
-      exponent = t.0.exponent;
-      parts = sign_parts bs ∙ ap (λ (xs : List ℕ). minus (is_negative bs) ++ xs) (digits_parts (magnitude bs) ∙ ap (λ (xs : List ℕ). front_digits (magnitude bs) ++ xs) t.0.parts);
-      is_whole = IsWhole-from_is_whole (front_digits (magnitude bs)) p.0;
-      is_fraction = t.0.is_fraction;
-      is_exponent = t.0.is_exponent;
-      has_one = λ none. t.1 (t.0.parts ∙ none);
-    }
-
-pub is_decimal-from_IsDecimal : (bs : List ℕ) → IsDecimal bs → is_decimal bs ≡ true
-is_decimal-from_IsDecimal bs h =
-    let s = sign_of h.negative h.whole (h.fraction ++ h.exponent) h.is_whole in
-    let whole : magnitude bs ≡ h.whole ++ (h.fraction ++ h.exponent) = ap magnitude h.parts ∙ s.1 in
-    let k = digits-append h.whole (h.fraction ++ h.exponent) (whole_digits h.whole h.is_whole) (fraction_start h.fraction h.exponent h.is_fraction (exponent_start h.exponent h.is_exponent)) in
-    and_from (is_whole (front_digits (magnitude bs))) (is_fraction_or_exponent (behind_digits (magnitude bs)))
-    (ap (λ (xs : List ℕ). is_whole (front_digits xs)) whole ∙ ap is_whole k.0 ∙ is_whole-from_IsWhole h.whole h.is_whole)
-    (ap (λ (xs : List ℕ). is_fraction_or_exponent (behind_digits xs)) whole ∙ ap is_fraction_or_exponent k.1 ∙ is_fraction_or_exponent-from_Tail h.fraction h.exponent h.is_fraction h.is_exponent h.has_one)
 
 pub is_integer-decimal : (bs : List ℕ) → is_decimal bs ≡ true → is_integer bs ≡ false
 is_integer-decimal bs e = false_from_ne_true (is_integer bs) (λ i. no_decimal (integer_value bs) bs (SpellsInteger-from_is_integer bs i).0 (IsDecimal-from_is_decimal bs e))

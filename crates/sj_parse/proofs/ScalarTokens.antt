@@ -16,7 +16,7 @@ use Rattle.sj_tape.specs.declared.node.Node.TheVariants.{String, Object, Array, 
 use Rattle.sj_parse.specs.declared.stop.Stop.{Stop}
 use Rattle.sj_parse.specs.Token.{Token, word, body, token_text}
 use Rattle.sj_parse.specs.Escapes.{stop, bad_escape}
-use Rattle.sj_parse.specs.Numbers.{is_negative, is_integer, is_decimal, is_number, integer_value}
+use Rattle.sj_base.specs.NumberTests.{is_negative, is_integer, is_decimal, is_number, integer_value}
 use Rattle.sj_parse.specs.Descent.{begins_scalar, scalar_stop, number_stop, literal_stop}
 use Rattle.sj_parse.specs.Nodes.{HasCarrier}
 use Rattle.sj_parse.specs.inside.Trees.{decoded, number_tree, token_tree}

@@ -9,7 +9,7 @@ use Rattle.sj_base.specs.Tree.{Tree, null, boolean, integer, decimal, string, li
 use Rattle.sj_base.specs.Spelling.{SpellsString, SpellsValue}
 use Rattle.sj_base.proofs.Literals.{to_test}
 use Rattle.sj_parse.specs.Token.{Token}
-use Rattle.sj_parse.specs.Numbers.{is_number}
+use Rattle.sj_base.specs.NumberTests.{is_number}
 use Rattle.sj_parse.specs.Descent.{left, scalar_stop, begins_scalar}
 use Rattle.sj_parse.specs.inside.Decoded.{decoded}
 use Rattle.sj_parse.specs.inside.Trees.{Reading, number_tree, token_tree, tree_of_value, tree_of_items, tree_of_members, no_tree, tree_value}

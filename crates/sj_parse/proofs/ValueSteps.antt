@@ -11,7 +11,7 @@ use Rattle.sj_tape.specs.declared.node.Node.{Node}
 use Rattle.sj_parse.specs.declared.stop.Stop.{Stop}
 use Rattle.sj_parse.specs.Token.{Token, word}
 use Rattle.sj_parse.specs.Escapes.{stop, bad_escape}
-use Rattle.sj_parse.specs.Numbers.{is_number, is_negative}
+use Rattle.sj_base.specs.NumberTests.{is_number, is_negative}
 use Rattle.sj_parse.specs.Descent.{begins_scalar, scalar_stop}
 use Rattle.sj_parse.specs.Nodes.{HasCarrier}
 use Rattle.sj_parse.specs.inside.Trees.{decoded, token_tree}

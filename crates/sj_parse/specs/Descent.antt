@@ -6,7 +6,7 @@ use Rattle.sj_base.specs.declared.error.ErrorType.TheVariants.{InternalError, Sy
 use Rattle.sj_parse.specs.Token.{Token}
 use Rattle.sj_parse.specs.declared.stop.Stop.{Stop}
 use Rattle.sj_parse.specs.Escapes.{stop, bad_escape}
-use Rattle.sj_parse.specs.Numbers.{is_number}
+use Rattle.sj_base.specs.NumberTests.{is_number}
 
 -- the place of the token that was read last, and the tokens that are left
 pub record Left : Type 0 where

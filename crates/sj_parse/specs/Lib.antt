@@ -1,6 +1,5 @@
 pub mod Token
 pub mod Escapes
-pub mod Numbers
 pub mod Atoms
 pub mod Descent
 pub mod Fault

@@ -1,7 +1,7 @@
 //! Numbers: an integer by its value, any other by its text.
 ghost use Rattle.std.specs.Prelude.{◌≡◌, ◌<◌, ◌≤◌, ◌^◌, true, false, pos, neg_ℤ, MatchOption, SomeIff};
 ghost use Rattle.std.specs.Str.Parse.{digits_value};
-ghost use Rattle.sj_parse.specs.Numbers.{is_negative, magnitude, is_whole, is_decimal, is_number};
+ghost use Rattle.sj_base.specs.NumberTests.{is_negative, magnitude, is_whole, is_decimal, is_number};
 ghost use Rattle.sj_parse.specs.inside.NumberNode.{IsNumberNode};
 
 use sj_base::{Decimal, StaticNode};
@@ -65,10 +65,7 @@ fn decimal<'a>(text: &'a [u8]) -> Option<Node<'a>>
     ensures { MatchOption result (is_decimal text.now ≡ false)
         (λ n. (is_decimal text.now ≡ true) × IsNumberNode text.now n) }
 {
-    let Ok(text) = std::str::from_utf8(text) else {
-        return None;
-    };
-    Some(Node::Decimal(Decimal::new(text)?))
+    Some(Node::Decimal(Decimal::from_bytes(text)?))
 }
 
 #[cfg(test)]

@@ -2,7 +2,7 @@
 ghost use Rattle.std.specs.Prelude.{◌≡◌, ◌≢◌, ℕ, List, [], ◌∷◌, ◌++◌, ◌+◌, ◌<◌, ◌≤◌, ◌^◌, ◌⊎◌, IfOk, IfErr, OnOk, MatchResult, Some, None, Ok, Err, true, false, if◌then◌else◌, min, length, drop, slice_index, IsUtf8, vec_len, vec_capacity};
 ghost use Rattle.sj_tape.specs.Nodes.{entries};
 ghost use Rattle.sj_parse.specs.Escapes.{stop};
-ghost use Rattle.sj_parse.specs.Numbers.{is_number};
+ghost use Rattle.sj_base.specs.NumberTests.{is_number};
 ghost use Rattle.sj_parse.specs.inside.NumberNode.{IsNumberNode};
 ghost use Rattle.sj_parse.specs.Token.{Token};
 ghost use Rattle.sj_parse.specs.Descent.{scalar_stop};

@@ -4,7 +4,7 @@ use Rattle.sj_base.specs.Scalar.{decimal_text}
 use Rattle.sj_base.specs.declared.static_node.StaticNode.TheVariants.{Null, Bool as Boolean, I64, U64}
 use Rattle.sj_tape.specs.declared.node.Node.{Node}
 use Rattle.sj_tape.specs.declared.node.Node.TheVariants.{String, Object, Array, Static, Decimal}
-use Rattle.sj_parse.specs.Numbers.{is_negative, is_integer, integer_value, is_decimal}
+use Rattle.sj_base.specs.NumberTests.{is_negative, is_integer, integer_value, is_decimal}
 
 -- An integer is an `I64` exactly where it begins with a minus.
 abbrev pub IsNumberNode : List ℕ → Node → Type 0

@@ -12,7 +12,7 @@ use Rattle.sj_parse.specs.declared.stage_two.Opening.{Opening}
 use Rattle.std.specs.Char.{is_ascii_digit}
 use Rattle.sj_parse.specs.Descent.{begins_scalar, scalar_stop}
 use Rattle.sj_parse.specs.Nodes.{HasCarrier}
-use Rattle.sj_parse.specs.Numbers.{is_number}
+use Rattle.sj_base.specs.NumberTests.{is_number}
 use Rattle.sj_parse.specs.declared.stop.Stop.{Stop}
 use Rattle.sj_parse.specs.declared.containers.Frame.{Frame}
 use Rattle.sj_parse.specs.declared.stage_two.State.{State}

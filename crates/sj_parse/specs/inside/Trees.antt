@@ -7,7 +7,7 @@ use Rattle.sj_parse.specs.declared.stop.Stop.{Stop}
 use Rattle.sj_parse.specs.Token.{Token}
 use Rattle.sj_parse.specs.Escapes.{stop}
 pub use Rattle.sj_parse.specs.inside.Decoded.{escaped_character, decoded_behind, decoded}
-use Rattle.sj_parse.specs.Numbers.{is_integer, integer_value}
+use Rattle.sj_base.specs.NumberTests.{is_integer, integer_value}
 use Rattle.sj_parse.specs.Descent.{Left, left, scalar_stop, begins_scalar}
 
 -- ---- scalars

@@ -1,6 +1,6 @@
 use Rattle.std.specs.Prelude.{◌≡◌, true}
 use Rattle.std.proofs.Common.{sym, ◌∙◌, arith}
-use Rattle.sj_parse.specs.Numbers.{is_negative}
+use Rattle.sj_base.specs.NumberTests.{is_negative}
 use Rattle.sj_parse.proofs.NumberLemmas.{is_number-below}
 use Rattle.sj_parse.proofs.numbers.number.Goals as goal
 

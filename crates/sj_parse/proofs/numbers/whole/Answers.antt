@@ -7,7 +7,7 @@ use Rattle.std.proofs.Common.{refl, sym, ◌∙◌, arith}
 use Rattle.std.proofs.lemmas.Bool.{and_parts, and_from, ne_eqb, not-false, not_from_false, eqb-true}
 use Rattle.std.proofs.lemmas.Str.Parse.{IsNumeralModel, numerals_by_value, tells_all_ascii_digits, parse_plain}
 use Rattle.sj_base.proofs.Literals.{from_test}
-use Rattle.sj_parse.specs.Numbers.{is_empty, is_whole}
+use Rattle.sj_base.specs.NumberTests.{is_empty, is_whole}
 use Rattle.sj_parse.proofs.numbers.whole.Goals as goal
 use Rattle.sj_parse.proofs.numbers.whole.Goals.{then-first-eq48, else-first-eq48}
 

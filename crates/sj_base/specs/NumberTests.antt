@@ -47,12 +47,14 @@ abbrev pub is_exponent : List ℕ → Bool
 is_exponent [] = false
 is_exponent (e ∷ bs) = (e == 0x65 || e == 0x45) && is_digits (unsigned bs)
 
+-- digits, with an exponent behind them or without one
+abbrev pub is_behind_point : List ℕ → Bool
+is_behind_point bs = is_digits (front_digits bs) && (is_empty (behind_digits bs) || is_exponent (behind_digits bs))
+
 -- a fraction, an exponent, or a fraction and an exponent
 abbrev pub is_fraction_or_exponent : List ℕ → Bool
 is_fraction_or_exponent [] = false
-is_fraction_or_exponent (b ∷ bs) =
-    if b == 0x2e then is_digits (front_digits bs) && (is_empty (behind_digits bs) || is_exponent (behind_digits bs))
-    else is_exponent (b ∷ bs)
+is_fraction_or_exponent (b ∷ bs) = if b == 0x2e then is_behind_point bs else is_exponent (b ∷ bs)
 
 -- a number with a fraction or an exponent
 abbrev pub is_decimal : List ℕ → Bool
