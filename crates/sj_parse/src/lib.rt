@@ -16,6 +16,7 @@ pub mod laws;
 mod numbers;
 mod reading;
 mod scalars;
+mod search;
 mod stage_two;
 mod stop;
 mod strings;

@@ -3,21 +3,12 @@ ghost use Rattle.std.specs.Prelude.{◌≡◌, ◌≢◌, ℕ, ◌+◌, ◌<◌,
 ghost use Rattle.sj_parse.specs.Token.{word};
 ghost use Rattle.sj_parse.specs.Escapes.{bad_escape};
 ghost use Rattle.sj_parse.specs.inside.Trees.{decoded};
-ghost use Rattle.sj_parse.specs.inside.Step.{string_body, IsPlain, StopsAt};
+ghost use Rattle.sj_parse.specs.inside.Step.{string_body, StopsAt};
 
 use crate::bytes::is_separator;
+use crate::search::plain_len;
 use crate::stop::Stop;
 use crate::strings::decode;
-use memchr::memchr2;
-
-/// The number of bytes before the first quote or backslash, or of all bytes if there is none.
-#[inline(always)]
-fn plain_len(bytes: &[u8]) -> usize
-    ensures within { result ≤ length bytes.now }
-    ensures plain { (k : ℕ) → k < result → IsPlain (slice_index bytes.now k) }
-{
-    memchr2(b'"', b'\\', bytes).unwrap_or(bytes.len())
-}
 
 /// The length of the body that begins the bytes: up to its closing quote, or the end.
 fn body_len(bytes: &[u8]) -> usize
