@@ -1,5 +1,5 @@
 -- What is refused, by what reading and scanning answer.
-use Rattle.std.proofs.Common.{◌≡◌, ◌≢◌, ℕ, ◌<◌, ◌≤◌, ◌+◌, cond, inl, inr, true, false, List, length, Some, None, [], ◌∷◌, refl, vec_len, Vec}
+use Rattle.std.proofs.Common.{◌≡◌, ◌≢◌, ℕ, ◌<◌, ◌≤◌, ◌+◌, cond, inl, inr, true, false, List, length, None, [], ◌∷◌, refl, vec_len, Vec}
 use Rattle.std.specs.List.{AllZip, each_same, fold}
 use Rattle.std.specs.declared.alloc.Global.{Global}
 use Rattle.std.proofs.lemmas.Bool.{lt-ltb, le-ltb}

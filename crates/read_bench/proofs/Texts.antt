@@ -1,5 +1,5 @@
 -- The text of a tape, with a document and without.
-use Rattle.std.proofs.Common.{◌≡◌, List, [], Some, refl}
+use Rattle.std.proofs.Common.{◌≡◌, [], Some, refl}
 use Rattle.sj_base.specs.Text.{text}
 use Rattle.sj_base.specs.Tree.{Tree}
 use Rattle.sj_tape.specs.Listed.{listed_tree}

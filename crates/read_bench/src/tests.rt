@@ -30,18 +30,30 @@ impl Clock for Steps {
 
 #[test]
 fn figures(rt: HostRuntime) {
-    let mut one = [7];
-    let mut three = [9, 2, 4];
-    let mut four = [5, 1, 1, 3];
-    for (times, median, least) in [
-        (one.as_mut_slice(), 7, 7),
-        (three.as_mut_slice(), 4, 2),
-        (four.as_mut_slice(), 3, 1),
-    ] {
-        if !times.is_empty() {
-            assert_eq!(rt; Stats::of(times), Stats { median, least });
+    let of_one = Stats::of(&mut [7]);
+    assert_eq!(rt;
+        of_one,
+        Stats {
+            median: 7,
+            least: 7
         }
-    }
+    );
+    let of_three = Stats::of(&mut [9, 2, 4]);
+    assert_eq!(rt;
+        of_three,
+        Stats {
+            median: 4,
+            least: 2
+        }
+    );
+    let of_four = Stats::of(&mut [5, 1, 1, 3]);
+    assert_eq!(rt;
+        of_four,
+        Stats {
+            median: 3,
+            least: 1
+        }
+    );
 }
 
 #[test]

@@ -1,4 +1,4 @@
-use Rattle.std.proofs.Common.{rules, arith}
+use Rattle.std.proofs.Common.{rules}
 use Rattle.read_bench.proofs.Refusals.{is_refused_by_scan-long, is_refused_by_scan-scanned, is_refused_by_scan-fault}
 use Rattle.read_bench.proofs.passes.is_refused_by_scan.Goals as goal
 

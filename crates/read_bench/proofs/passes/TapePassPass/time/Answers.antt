@@ -1,4 +1,4 @@
-use Rattle.std.proofs.Common.{rules, ◌∙◌}
+use Rattle.std.proofs.Common.{rules}
 use Rattle.read_bench.proofs.Refusals.{tapes_refused-copies}
 use Rattle.read_bench.proofs.passes.TapePassPass.time.Goals as goal
 
