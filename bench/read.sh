@@ -5,7 +5,7 @@
 #
 # The files are those of FOLDER: NAME.json as one document, and NAME.jsonl as one a line. The contestants take turns, a file
 # after the other, and the least time of each counts. `read_bench` and the kit's `json` are built for each level of the
-# processor. Settings are taken from the environment:
+# processor, simdjson once. Settings are taken from the environment:
 #
 #     ROUNDS=15         how many turns each contestant has at each file
 #     MILLISECONDS=200  for how long it makes passes in a turn
@@ -59,25 +59,33 @@ build() { # build FILE COMMAND..
     fi
 }
 
-# The contestants of a level, each as NAME KIND. The last word of a name is the kernel of simdjson.
-contestants=("read_bench tape" "json tape" "simdjson-haswell tape" "simdjson tape" "read_bench scan" "read_bench print" "simdjson-haswell print" "simdjson print")
+# The rows of the tables, each as PROGRAM KIND. Of simdjson there is one with its kernel for AVX2, named haswell, and one
+# with the kernel that it chooses.
+rows=("read_bench tape" "json tape" "simdjson-haswell tape" "simdjson tape" "read_bench scan" "read_bench print" "simdjson-haswell print" "simdjson print")
+
+# Prints a contestant as PROGRAM KIND: a program that is built for each level has the level in its name.
+at_level() { # at_level LEVEL PROGRAM KIND
+    case $2 in
+        simdjson*) echo "$2 $3" ;;
+        *) echo "$2-$1 $3" ;;
+    esac
+}
 
 # Sets `command` to the words that run a contestant.
-choose() { # choose LEVEL NAME KIND FILE
-    case $2 in
-        simdjson-*) command=(env SIMDJSON_FORCE_IMPLEMENTATION="${2#simdjson-}" "$work/simdjson") ;;
-        simdjson) command=("$work/simdjson") ;;
-        *) command=("$work/$2-$1") ;;
+choose() { # choose PROGRAM KIND FILE
+    case $1 in
+        simdjson-*) command=(env SIMDJSON_FORCE_IMPLEMENTATION="${1#simdjson-}" "$work/simdjson") ;;
+        *) command=("$work/$1") ;;
     esac
-    command=("${on_core[@]}" "${command[@]}" "$3" "$4" "$milliseconds")
+    command=("${on_core[@]}" "${command[@]}" "$2" "$3" "$milliseconds")
 }
 
 declare -A file_of len_of least refused
 
 # Keeps the least time in nanoseconds.
-measure() { # measure LEVEL NAME KIND FILE
-    local key="$1 $2 $3 $4" time count
-    choose "$1" "$2" "$3" "${file_of[$4]}"
+measure() { # measure PROGRAM KIND NAME
+    local key="$1 $2 $3" time count
+    choose "$1" "$2" "${file_of[$3]}"
     read -r _ time count < <("${command[@]}")
     if [ -z "${least[$key]:-}" ] || [ "$time" -lt "${least[$key]}" ]; then least[$key]=$time; fi
     refused[$key]=$count
@@ -105,16 +113,18 @@ row() { # row TITLE FORMAT [NUMERATOR DENOMINATOR]..
     }'
 }
 
-# In nanoseconds, a thousandth of a byte for each is an MB/s.
-rates() { # rates LEVEL NAME KIND
-    local file cells=()
-    for file in "${names[@]}"; do cells+=("$((len_of[$file] * 1000))" "${least[$1 $2 $3 $file]}"); done
+# A byte in a nanosecond is 1000 MB/s.
+rates() { # rates LEVEL PROGRAM KIND
+    local contestant name cells=()
+    contestant=$(at_level "$@")
+    for name in "${names[@]}"; do cells+=("$((len_of[$name] * 1000))" "${least[$contestant $name]}"); done
     row "$2 $3" %.0f "${cells[@]}"
 }
 
-ratios() { # ratios LEVEL NAME KIND
-    local file cells=()
-    for file in "${names[@]}"; do cells+=("${least[$1 $2 $3 $file]}" "${least[$1 simdjson-haswell $3 $file]}"); done
+ratios() { # ratios LEVEL PROGRAM KIND
+    local contestant name cells=()
+    contestant=$(at_level "$@")
+    for name in "${names[@]}"; do cells+=("${least[$contestant $name]}" "${least[simdjson-haswell $3 $name]}"); done
     row "$2 $3" %.2f "${cells[@]}"
 }
 
@@ -129,13 +139,18 @@ for level in "${levels[@]}"; do
     build "json-$level" build_json "$level"
 done
 
+mapfile -t contestants < <(for level in "${levels[@]}"; do
+    for words in "${rows[@]}"; do
+        read -r program kind <<< "$words"
+        at_level "$level" "$program" "$kind"
+    done
+done | sort -u)
+
 for ((round = 0; round < rounds; round++)); do
     for name in "${names[@]}"; do
-        for level in "${levels[@]}"; do
-            for contestant in "${contestants[@]}"; do
-                read -r program kind <<< "$contestant"
-                measure "$level" "$program" "$kind" "$name"
-            done
+        for contestant in "${contestants[@]}"; do
+            read -r program kind <<< "$contestant"
+            measure "$program" "$kind" "$name"
         done
     done
 done
@@ -145,13 +160,13 @@ for key in "${!refused[@]}"; do
 done
 for level in "${levels[@]}"; do
     heading "$level: MB/s of the file"
-    for contestant in "${contestants[@]}"; do
-        read -r program kind <<< "$contestant"
+    for words in "${rows[@]}"; do
+        read -r program kind <<< "$words"
         rates "$level" "$program" "$kind"
     done
     heading "$level: time by that of \`simdjson-haswell\`"
-    for contestant in "${contestants[@]}"; do
-        read -r program kind <<< "$contestant"
+    for words in "${rows[@]}"; do
+        read -r program kind <<< "$words"
         if [ "$kind" != scan ]; then ratios "$level" "$program" "$kind"; fi
     done
 done

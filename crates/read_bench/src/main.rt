@@ -1,7 +1,7 @@
 //! Times the reading of JSON texts, or their printing, again and again, and prints the median and the least time.
 //!
-//! No contract says how long a pass takes, nor that the clock is right. They say which documents are refused, what the
-//! printed bytes are, and what the figures are of the times.
+//! The contracts say which documents are refused, what bytes are printed, and what the figures are of the times. They say
+//! nothing of how long a pass takes.
 #![tactic(auto)]
 
 mod arguments;

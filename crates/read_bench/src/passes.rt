@@ -7,11 +7,14 @@ ghost use Rattle.read_bench.specs.Refused.{is_refused, is_refused_by_scan, tapes
 
 use sj_base::ErrorType;
 use sj_parse::{Buffers, fill_tape};
-use sj_scan::{PlainScan, ScanFault, Stage1};
+use sj_scan::{ScanFault, Stage1};
 use sj_tape::Tape;
 use std::alloc::{AllocError, Global};
 use std::io;
 use std::time::{Clock, Duration, Instant};
+
+// The scan of `sj_parse`.
+use sj_scan::PlainScan as Scan;
 
 /// The time of a pass, and the number of documents that it refused.
 #[derive(Clone, Copy, Debug, PartialEq, Eq)]
@@ -70,7 +73,7 @@ impl Pass for TapePass {
     }
 }
 
-/// Finds the positions of each document. Their room is kept.
+/// Finds the positions of each document by the scan of `sj_parse`. Their room is kept.
 #[derive(Drop)]
 pub struct ScanPass {
     documents: Vec<Vec<u8>>,
@@ -213,7 +216,7 @@ fn is_refused_by_scan(document: &[u8], positions: &mut Vec<u32>) -> Result<bool,
     if document.len() > u32::MAX as usize {
         return Ok(true);
     }
-    match PlainScan.scan(document, positions) {
+    match Scan.scan(document, positions) {
         Ok(()) => Ok(false),
         Err(fault) => {
             if fault == ScanFault::Memory {
