@@ -14,7 +14,7 @@ use std::io;
 use std::time::{Clock, Duration, Instant};
 
 // The scan of `sj_parse`.
-use sj_scan::PlainScan as Scan;
+use sj_scan::PlainScan as Scanner;
 
 /// The time of a pass, and the number of documents that it refused.
 #[derive(Clone, Copy, Debug, PartialEq, Eq)]
@@ -216,7 +216,7 @@ fn is_refused_by_scan(document: &[u8], positions: &mut Vec<u32>) -> Result<bool,
     if document.len() > u32::MAX as usize {
         return Ok(true);
     }
-    match Scan.scan(document, positions) {
+    match Scanner.scan(document, positions) {
         Ok(()) => Ok(false),
         Err(fault) => {
             if fault == ScanFault::Memory {
