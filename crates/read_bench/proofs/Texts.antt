@@ -1,0 +1,16 @@
+-- The text of a tape, with a document and without.
+use Rattle.std.proofs.Common.{◌≡◌, [], Some, refl}
+use Rattle.sj_base.specs.Text.{text}
+use Rattle.sj_base.specs.Tree.{Tree}
+use Rattle.sj_tape.specs.Listed.{listed_tree}
+use Rattle.sj_tape.specs.Views.{tape_nodes, tape_tree}
+use Rattle.sj_tape.specs.declared.tape.Tape.{Tape}
+use Rattle.read_bench.specs.Printed.{text_of}
+
+pub text_of-empty : (tape : Tape) → tape_nodes tape ≡ [] → text_of tape ≡ []
+unfolding text_of listed_tree
+text_of-empty tape e = rw e refl
+
+pub text_of-tree : (tape : Tape) (t : Tree) → tape_tree tape ≡ Some t → text_of tape ≡ text t
+unfolding text_of
+text_of-tree tape t e = rw e refl

@@ -1,0 +1,4 @@
+pub mod Kind
+pub mod Printed
+pub mod Refused
+pub mod Stats

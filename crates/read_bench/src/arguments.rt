@@ -1,0 +1,108 @@
+//! The arguments of the command line.
+use clap::error::ErrorKind;
+use clap::{Arg, ArgAction, Command, Error, value_parser};
+use std::alloc::{AllocError, Global};
+use std::convert::AsStr;
+use std::str::FromStr;
+use std::time::Duration;
+
+const ABOUT: &str =
+    "Times the reading or the printing of JSON, and prints the median and the least time of a pass in nanoseconds, and the number of documents refused";
+
+/// The words of the kinds.
+const KINDS: [&str; 3] = ["tape", "scan", "print"];
+
+/// What a pass does with each document.
+#[derive(Clone, Copy, Debug, PartialEq, Eq)]
+pub enum Kind {
+    /// Reads it into a tape.
+    Tape,
+    /// Finds its positions, which is stage one of reading.
+    Scan,
+    /// Prints its tape, which was read before.
+    Print,
+}
+
+/// A word that names no kind.
+#[derive(Clone, Copy, Debug, PartialEq, Eq)]
+pub struct UnknownKind;
+
+impl FromStr for Kind {
+    type Err = UnknownKind;
+
+    ghost use Rattle.read_bench.specs.Kind.{Names};
+
+    ghost from_str_gives = { Names };
+
+    fn from_str(word: &str) -> Result<Kind, UnknownKind> {
+        match word {
+            "tape" => Ok(Kind::Tape),
+            "scan" => Ok(Kind::Scan),
+            "print" => Ok(Kind::Print),
+            _ => Err(UnknownKind),
+        }
+    }
+}
+
+/// What the arguments ask for.
+#[derive(Debug, Drop)]
+pub struct Arguments<'a> {
+    pub kind: Kind,
+    /// The name of the file.
+    pub file: &'a str,
+    /// For how long passes begin.
+    pub duration: Duration,
+}
+
+/// Parses the words of the command line, of which the first is the program's name.
+///
+/// # Errors
+///
+/// The error of `clap` if the words are refused or ask for the help, or if an allocation failed.
+pub fn parse_arguments<'a, S: AsStr>(
+    alloc: Global,
+    words: &'a [S],
+) -> Result<Arguments<'a>, Error> {
+    let matches = command(alloc)?.try_get_matches_from(words)?;
+    let kind = matches.get_one::<Kind>("KIND");
+    let milliseconds = matches.get_one::<u64>("MILLISECONDS");
+    if let (Some(kind), Some(file), Some(milliseconds)) = (
+        kind,
+        matches.get_str("FILE"),
+        milliseconds,
+    ) {
+        let duration = Duration::from_millis(milliseconds);
+        return Ok(Arguments {
+            kind,
+            file,
+            duration,
+        });
+    }
+    // Not reached: `clap` requires all three.
+    Err(command(alloc)?.error(ErrorKind::MissingRequiredArgument, "an argument is missing")?)
+}
+
+/// The program's command. Its texts say `read_bench`, whatever the name of the program's file is.
+fn command<'a>(alloc: Global) -> Result<Command<'a>, AllocError> {
+    let kind = Arg::new(alloc, "KIND")
+        .required(true)
+        .action(ArgAction::Set)
+        .value_parser(KINDS.as_slice())
+        .help("What a pass does with each document");
+    let file = Arg::new(alloc, "FILE")
+        .required(true)
+        .action(ArgAction::Set)
+        .help("The documents: one if the name ends in .json, and else one a line");
+    let milliseconds = Arg::new(alloc, "MILLISECONDS")
+        .required(true)
+        .action(ArgAction::Set)
+        .value_parser(value_parser!(u64))
+        .help("For how long passes begin");
+    let command = Command::new(alloc, "read_bench")
+        .bin_name("read_bench")?
+        .about(ABOUT)
+        .arg(kind)?
+        .arg(file)?
+        .arg(milliseconds)?;
+    Ok(command)
+}

@@ -1,0 +1,46 @@
+//! Times the reading of JSON texts, or their printing, again and again, and prints the median and the least time.
+//!
+//! The contracts say which documents are refused, what bytes are printed, and what the figures are of the times. They say
+//! nothing of how long a pass takes.
+#![tactic(auto)]
+
+mod arguments;
+mod documents;
+mod measure;
+mod passes;
+mod stats;
+#[cfg(test)]
+mod tests;
+
+use crate::arguments::{Arguments, parse_arguments};
+use crate::documents::split;
+use crate::measure::measure;
+use anyhow::{Context, Result};
+use std::process::ExitCode;
+use std::{env, fs};
+
+fn main(rt: HostRuntime) -> Result<ExitCode> {
+    let words: Vec<String> = env::args(&rt)?.collect(rt.alloc())?;
+    match parse_arguments(rt.alloc(), words.as_slice()) {
+        Ok(arguments) => {
+            bench(&rt, &arguments)?;
+            Ok(ExitCode::SUCCESS)
+        }
+        Err(error) => {
+            error.print(&rt)?;
+            Ok(ExitCode::from(if error.use_stderr() { 2 } else { 0 }))
+        }
+    }
+}
+
+/// Times what the arguments ask for, and prints the median and the least time of a pass, in nanoseconds, and the number
+/// of documents that are refused.
+fn bench(rt: &HostRuntime, arguments: &Arguments<'_>) -> Result<()> {
+    let alloc = rt.alloc();
+    let bytes = fs::read(rt, arguments.file).context(format_args!("reading {}", arguments.file))?;
+    let documents = split(alloc, bytes, arguments.file)?;
+    let measured = measure(rt, alloc, arguments.kind, documents, arguments.duration)?;
+    let figures = measured.figures;
+    println!(rt; "{} {} {}", figures.median, figures.least, measured.refused)?;
+    Ok(())
+}

@@ -1,0 +1,77 @@
+//! Passes that are made again and again.
+ghost use Rattle.std.specs.Prelude.{◌≡◌, IfOk};
+ghost use Rattle.read_bench.specs.Refused.{refused_by};
+
+use crate::arguments::Kind;
+use crate::passes::{Pass, PrintPass, ScanPass, TapePass};
+use crate::stats::Stats;
+use std::alloc::Global;
+use std::io;
+use std::time::{Clock, Duration, Instant};
+
+/// The most passes that are made.
+const MAX_PASSES: u64 = 1 << 32;
+
+/// What was measured.
+#[derive(Clone, Copy, Debug, PartialEq, Eq)]
+pub struct Measured {
+    /// The figures of the passes, in nanoseconds.
+    pub figures: Stats,
+    /// The number of documents refused.
+    pub refused: usize,
+}
+
+/// Makes passes of this kind over the documents until the duration has gone by, at least one.
+///
+/// # Errors
+///
+/// The clock's error, or one of the kind `OutOfMemory`.
+pub fn measure<R: Clock>(
+    rt: &R,
+    alloc: Global,
+    kind: Kind,
+    documents: Vec<Vec<u8>>,
+    duration: Duration,
+) -> io::Result<Measured>
+    ensures { IfOk result (λ m. m.refused ≡ refused_by kind documents.items) }
+{
+    match kind {
+        Kind::Tape => repeat(rt, alloc, &mut TapePass::new(alloc, documents)?, duration),
+        Kind::Scan => repeat(rt, alloc, &mut ScanPass::new(alloc, documents), duration),
+        Kind::Print => {
+            let mut documents = documents;
+            let mut pass = PrintPass::read(alloc, &mut documents)?;
+            repeat(rt, alloc, &mut pass, duration)
+        }
+    }
+}
+
+/// Makes the pass until the duration has gone by, at least once.
+fn repeat<R: Clock, P: Pass>(
+    rt: &R,
+    alloc: Global,
+    pass: &mut P,
+    duration: Duration,
+) -> io::Result<Measured>
+    ensures { IfOk result (λ m. m.refused ≡ P.refusals pass.old) }
+{
+    let start = Instant::now(rt)?;
+    let first = pass.time(rt)?;
+    let mut times = vec![in alloc; nanoseconds(first.duration)]?;
+    for _ in 1..MAX_PASSES {
+        if start.elapsed(rt)? >= duration {
+            break;
+        }
+        let timed = pass.time(rt)?;
+        times.push(nanoseconds(timed.duration))?;
+    }
+    Ok(Measured {
+        figures: Stats::of(&mut times),
+        refused: first.refused,
+    })
+}
+
+/// The duration in nanoseconds, or the most that there are.
+fn nanoseconds(duration: Duration) -> u64 {
+    u64::try_from(duration.as_nanos()).unwrap_or(u64::MAX)
+}
