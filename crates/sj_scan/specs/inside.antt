@@ -1,2 +1,4 @@
 -- What clauses of private functions alone cite.
 pub mod State
+pub mod Masks
+pub mod Blocks

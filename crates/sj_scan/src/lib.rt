@@ -7,6 +7,7 @@
 //! [`Stage1`] is the contract of every scan. [`PlainScan`] is the reference implementation.
 #![tactic(auto)]
 
+mod masks;
 mod plain;
 mod stage1;
 #[cfg(test)]
