@@ -8,3 +8,4 @@ pub mod Lanes
 pub mod Sums
 pub mod Escapes
 pub mod Blocks
+pub mod SetPlaces

@@ -9,6 +9,7 @@
 
 mod masks;
 mod plain;
+mod push;
 mod stage1;
 #[cfg(test)]
 mod tests;
