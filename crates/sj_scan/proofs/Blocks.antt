@@ -1,12 +1,12 @@
 -- The masks of a block mark what the definitions say of its places.
-use Rattle.std.proofs.Common.{◌≡◌, ℕ, zero, suc, ◌+◌, ◌-◌, ◌*◌, ◌%◌, ◌^◌, ◌<◌, ◌≤◌, Bool, true, false, not, ◌&&◌, ◌||◌, ◌==◌, List, slice_index, nat_lt, refl, sym, ap, ap₂, subst, ◌∙◌, arith, ◌⊎◌, inl, inr, true≢false, bit_and, bit_or, bit_xor}
+use Rattle.std.proofs.Common.{◌≡◌, ℕ, zero, suc, ◌-◌, ◌^◌, ◌≤◌, Bool, true, false, not, ◌&&◌, ◌||◌, ◌==◌, List, slice_index, nat_lt, refl, sym, ap, ap₂, subst, ◌∙◌, arith, ◌⊎◌, inl, inr, true≢false, bit_and, bit_or, bit_xor}
 use Rattle.std.proofs.lemmas.Bool.{cases_eq, ne_eqb, and_right}
 use Rattle.sj_scan.specs.Positions.{is_odd, is_whitespace, is_operator, backslashes, is_real_quote, real_quotes, is_separated, is_position}
 use Rattle.sj_scan.specs.Scan.{is_control}
-use Rattle.sj_scan.specs.inside.Masks.{is_set, Marks, differ, first_if, all_if, is_odd_run, is_odd_count}
+use Rattle.sj_scan.specs.inside.Masks.{is_set, Marks, differ, all_if, is_odd_run, is_odd_count}
 use Rattle.sj_scan.specs.inside.Blocks.{before_in, test_in}
 use Rattle.sj_scan.proofs.States.{is_odd-run, is_odd-quotes}
-use Rattle.sj_scan.proofs.Marks.{Marks-agree, Marks-and, Marks-or, Marks-xor, Marks-not, Marks-all_if, Marks-shifted}
+use Rattle.sj_scan.proofs.Marks.{Marks-agree, Marks-and, Marks-or, Marks-xor, Marks-not, Marks-all_if}
 
 module _ (before block : List ℕ) where
   abbrev Slashes : ℕ → Type 0

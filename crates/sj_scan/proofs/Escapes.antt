@@ -1,9 +1,9 @@
 -- The subtraction that finds the bytes behind runs of backslashes of odd length.
-use Rattle.std.proofs.Common.{◌≡◌, ℕ, zero, suc, ◌+◌, ◌-◌, ◌*◌, ◌/◌, ◌%◌, ◌^◌, ◌<◌, ◌≤◌, Bool, true, false, not, ◌&&◌, ◌||◌, refl, sym, ap, ap₂, subst, ◌∙◌, arith, pow_pos, mod-lt, bit_and, bit_or, bit_xor}
-use Rattle.std.proofs.lemmas.Bool.{agree_below, agree_below_at, false≢true}
+use Rattle.std.proofs.Common.{◌≡◌, ℕ, zero, suc, ◌+◌, ◌-◌, ◌*◌, ◌%◌, ◌^◌, ◌<◌, Bool, true, false, not, ◌&&◌, ◌||◌, refl, sym, ap, ap₂, ◌∙◌, arith, pow_pos, mod-lt, bit_and, bit_or, bit_xor}
+use Rattle.std.proofs.lemmas.Bool.{agree_below_at, false≢true}
 use Rattle.sj_scan.specs.inside.Masks.{is_set, Marks, differ, first_if, is_odd_run}
-use Rattle.sj_scan.proofs.Words.{is_set-mod, is_set-none, is_set-shl_suc, is_set-shl_zero, first_if-zero, first_if-suc, first_if-last}
-use Rattle.sj_scan.proofs.Marks.{Marks-itself, Marks-agree, Marks-and, Marks-or, Marks-xor, Marks-not, Marks-shifted, Marks-first_if}
+use Rattle.sj_scan.proofs.Words.{is_set-mod, is_set-none, is_set-shl_suc, is_set-shl_zero}
+use Rattle.sj_scan.proofs.Marks.{Marks-itself, Marks-agree, Marks-and, Marks-or, Marks-xor, Marks-not, Marks-first_if}
 use Rattle.sj_scan.proofs.Sums.{carry, carried, is_set-add}
 
 abbrev odd_places : ℕ

@@ -1,6 +1,5 @@
 pub mod Places
 pub mod States
-pub mod Faults
 pub mod Words
 pub mod Marks
 pub mod Prefix
@@ -9,3 +8,4 @@ pub mod Sums
 pub mod Escapes
 pub mod Blocks
 pub mod SetPlaces
+pub mod Walks

@@ -1,5 +1,5 @@
 -- Six shifts and exclusive ors give each bit the parity of the bits up to it.
-use Rattle.std.proofs.Common.{◌≡◌, ℕ, zero, suc, ◌+◌, ◌-◌, ◌*◌, ◌%◌, ◌^◌, ◌<◌, ◌≤◌, ◌⊎◌, inl, inr, Bool, true, false, refl, sym, ap, ap₂, ◌∙◌, arith, pow_pos, mod-lt, bit_xor}
+use Rattle.std.proofs.Common.{◌≡◌, ℕ, suc, ◌+◌, ◌-◌, ◌*◌, ◌%◌, ◌^◌, ◌<◌, ◌≤◌, ◌⊎◌, inl, inr, Bool, true, false, refl, ap, ap₂, ◌∙◌, arith, pow_pos, mod-lt, bit_xor}
 use Rattle.std.proofs.lemmas.Bool.{cases_lt}
 use lib.Bits.{xor_lt}
 use Rattle.sj_scan.specs.inside.Masks.{is_set, Marks, differ, is_odd_count}

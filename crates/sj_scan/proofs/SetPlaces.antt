@@ -1,5 +1,5 @@
 -- The places of a mask's bits: the lowest comes first, and there are as many as bits.
-use Rattle.std.proofs.Common.{◌≡◌, ℕ, zero, suc, ◌+◌, ◌-◌, ◌*◌, ◌/◌, ◌%◌, ◌^◌, ◌<◌, ◌≤◌, min, Bool, true, false, cond, not, ◌||◌, ◌==◌, List, [], ◌∷◌, ◌++◌, length, take, filter, refl, sym, ap, ap₂, subst, ◌∙◌, arith, pow-suc, mod-lt, zero-lt-suc, append_assoc, append-nil, bit_and, length-take, ◌⊎◌, inl, inr}
+use Rattle.std.proofs.Common.{◌≡◌, ℕ, zero, suc, ◌+◌, ◌-◌, ◌*◌, ◌/◌, ◌%◌, ◌^◌, ◌<◌, ◌≤◌, min, Bool, true, cond, not, ◌||◌, ◌==◌, List, [], ◌∷◌, ◌++◌, length, filter, refl, sym, ap, ap₂, subst, ◌∙◌, arith, pow-suc, mod-lt, zero-lt-suc, append_assoc, append-nil, bit_and, length-take, ◌⊎◌, inl, inr}
 use Rattle.std.proofs.lemmas.Bool.{ne_eqb, cases_lt}
 use Rattle.std.proofs.lemmas.List.{take-append-le}
 use Rattle.std.specs.List.{range_with_len, list_any}
@@ -66,9 +66,9 @@ zeros-odd count half =
 halves : (P : ℕ → Type 0) → ((half : ℕ) → P (half * 2)) → ((half : ℕ) → P (half * 2 + 1)) → (n : ℕ) → P n
 halves P even odd n =
     bit_cases (λ r. n ≡ n / 2 * 2 + r → P n)
-      (λ is. let same : n / 2 * 2 ≡ n = omega arith in subst P same (even (n / 2)))
-      (λ is. let same : n / 2 * 2 + 1 ≡ n = omega arith in subst P same (odd (n / 2)))
-      (n % 2) (mod-lt n (zero-lt-suc 1)) (omega arith)
+    (λ is. let same : n / 2 * 2 ≡ n = omega arith in subst P same (even (n / 2)))
+    (λ is. let same : n / 2 * 2 + 1 ≡ n = omega arith in subst P same (odd (n / 2)))
+    (n % 2) (mod-lt n (zero-lt-suc 1)) (omega arith)
 
 pub set_places-lowest : (count base mask : ℕ) → 0 < mask → mask < 2 ^ count → set_places count base mask ≡ (base + count_trailing_zeros count mask) ∷ set_places count base (others mask)
 set_places-lowest zero base mask some fits = absurd (omega arith)
@@ -90,7 +90,7 @@ set_places-lowest (suc count) base mask some fits = halves (λ n. 0 < n → n < 
         let here : base + 1 + z ≡ base + suc z = omega arith in
         places-even count base half ∙ below half (omega arith) (omega arith)
         ∙ ap₂ (λ p ps. p ∷ ps) (here ∙ ap (λ z. base + z) (sym (zeros-even count half)))
-            (sym (ap (set_places (suc count) base) (others-even half (omega arith)) ∙ places-even count base (others half)))
+        (sym (ap (set_places (suc count) base) (others-even half (omega arith)) ∙ places-even count base (others half)))
 
 pub length-set_places : (count base mask : ℕ) → mask < 2 ^ count → length (set_places count base mask) ≡ ones mask
 unfolding set_places ones
@@ -108,10 +108,10 @@ set_places-filter test zero base mask bits = refl
 set_places-filter test (suc count) base mask bits =
     let here : base + 0 ≡ base = omega arith in
     ap₂ (λ (b : Bool) (ps : List ℕ). cond b (base ∷ ps) ps)
-      (sym (is_set-lowest mask) ∙ bits 0 (omega arith) ∙ ap test here)
-      (set_places-filter test count (base + 1) (mask / 2) (λ place within.
-        let same : base + suc place ≡ base + 1 + place = omega arith in
-        sym (is_set-suc mask place) ∙ bits (suc place) (omega arith) ∙ ap test same))
+    (sym (is_set-lowest mask) ∙ bits 0 (omega arith) ∙ ap test here)
+    (set_places-filter test count (base + 1) (mask / 2) (λ place within.
+    let same : base + suc place ≡ base + 1 + place = omega arith in
+    sym (is_set-suc mask place) ∙ bits (suc place) (omega arith) ∙ ap test same))
 
 some-half : (n : ℕ) → not (n == 0) ≡ ((n % 2 == 1) || not (n / 2 == 0))
 some-half zero = refl
@@ -126,10 +126,10 @@ any_set test (suc count) base mask fits bits =
     let here : base + 0 ≡ base = omega arith in
     some-half mask
     ∙ ap₂ (λ x y. x || y)
-        (sym (is_set-lowest mask) ∙ bits 0 (omega arith) ∙ ap test here)
-        (any_set test count (base + 1) (mask / 2) (omega arith) (λ place within.
-          let same : base + suc place ≡ base + 1 + place = omega arith in
-          sym (is_set-suc mask place) ∙ bits (suc place) (omega arith) ∙ ap test same))
+    (sym (is_set-lowest mask) ∙ bits 0 (omega arith) ∙ ap test here)
+    (any_set test count (base + 1) (mask / 2) (omega arith) (λ place within.
+    let same : base + suc place ≡ base + 1 + place = omega arith in
+    sym (is_set-suc mask place) ∙ bits (suc place) (omega arith) ∙ ap test same))
 
 -- what begins a list begins a longer one
 IsPrefix-more : (front xs ys : List ℕ) → IsPrefix front xs → IsPrefix front (xs ++ ys)
@@ -150,7 +150,7 @@ IsPrefix-lowest wanted found base mask fits begins = go (cases_lt 0 mask)
     go (inl some) =
         let less : (mask + (2 ^ 64 - 1)) % 2 ^ 64 ≡ mask - 1 = omega arith in
         let same = append_assoc found (place ∷ []) (set_places 64 base (bit_and mask ((mask + (2 ^ 64 - 1)) % 2 ^ 64)))
-            ∙ ap (λ n. found ++ place ∷ set_places 64 base (bit_and mask n)) less ∙ ap (λ ps. found ++ ps) (sym (set_places-lowest 64 base mask some fits)) in
+        ∙ ap (λ n. found ++ place ∷ set_places 64 base (bit_and mask n)) less ∙ ap (λ ps. found ++ ps) (sym (set_places-lowest 64 base mask some fits)) in
         subst (IsPrefix wanted) (sym same) begins
     go (inr none) =
         let zero_mask : mask ≡ 0 = omega arith in

@@ -2,3 +2,5 @@
 pub mod State
 pub mod Masks
 pub mod Blocks
+pub mod End
+pub mod Walk

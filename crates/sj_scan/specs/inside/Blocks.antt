@@ -1,7 +1,6 @@
 -- What a scan by blocks knows of the bytes before a block, and of those before each place in it.
 use Rattle.std.specs.Prelude.{◌≡◌, ℕ, zero, suc, Bool, List, ◌∷◌, slice_index}
-use Rattle.sj_scan.specs.Positions.{is_odd, backslashes, real_quotes, is_separated, is_real_quote, is_position}
-use Rattle.sj_scan.specs.Scan.{is_control}
+use Rattle.sj_scan.specs.Positions.{is_odd, backslashes, real_quotes, is_separated}
 use Rattle.sj_scan.specs.inside.Masks.{first_if, all_if}
 use Rattle.sj_scan.specs.declared.masks.Carry.{Carry}
 

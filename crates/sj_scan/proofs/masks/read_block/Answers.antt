@@ -1,5 +1,5 @@
 -- Each mask is combined from those of the classes, for any bytes before that the carry speaks of.
-use Rattle.std.proofs.Common.{◌≡◌, ℕ, ◌<◌, ap, ◌∙◌, arith}
+use Rattle.std.proofs.Common.{◌<◌, ap, ◌∙◌, arith}
 use Rattle.sj_scan.specs.Positions.{is_separated}
 use Rattle.sj_scan.specs.inside.Masks.{first_if, all_if}
 use Rattle.sj_scan.specs.inside.Blocks.{before_in}

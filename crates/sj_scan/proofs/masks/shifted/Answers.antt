@@ -1,5 +1,5 @@
-use Rattle.std.proofs.Common.{◌≡◌, ◌*◌, ◌%◌, ◌^◌, ap, sym, subst, refl, bit_or}
-use Rattle.sj_scan.specs.inside.Masks.{Marks, first_if}
+use Rattle.std.proofs.Common.{◌*◌, ◌%◌, ◌^◌, sym, subst, refl, bit_or}
+use Rattle.sj_scan.specs.inside.Masks.{Marks}
 use Rattle.sj_scan.proofs.Marks.{Marks-shifted}
 use Rattle.sj_scan.proofs.masks.shifted.Goals as goal
 

@@ -1,8 +1,7 @@
 -- The lowest bit's place is the first of those that are left.
-use Rattle.std.proofs.Common.{◌≡◌, ◌+◌, ◌-◌, ◌^◌, ◌<◌, ◌∷◌, [], ◌++◌, All, length, sym, ap, subst, ◌∙◌, arith, append_assoc, append-nil, Fits, w32}
+use Rattle.std.proofs.Common.{◌≡◌, ◌+◌, ◌^◌, ◌<◌, ◌∷◌, [], ◌++◌, All, length, sym, ap, subst, ◌∙◌, arith, append_assoc, append-nil}
 use Rattle.std.proofs.lemmas.List.Elements.{All-head, All-tail}
 use lib.Count.{count_trailing_zeros}
-use lib.Bits.{and_le_r}
 use Rattle.sj_scan.specs.inside.Masks.{set_places}
 use Rattle.sj_scan.proofs.SetPlaces.{others, set_places-lowest, set_places-none}
 use Rattle.sj_scan.proofs.push.push_each_place.Goals as goal

@@ -1,5 +1,3 @@
-use Rattle.std.proofs.Common.{◌≡◌, ◌++◌, ap, sym, subst}
-use Rattle.sj_scan.specs.inside.Masks.{set_places, IsPrefix}
 use Rattle.sj_scan.proofs.SetPlaces.{IsPrefix-lowest}
 use Rattle.sj_scan.proofs.push.push_lowest.Goals as goal
 
