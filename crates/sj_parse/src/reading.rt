@@ -17,7 +17,7 @@ use crate::buffers::Buffers;
 use crate::containers::Frame;
 use crate::stage_two::descend;
 use sj_base::{Error, ErrorType, INPUT_PADDING};
-use sj_scan::{PlainScan, ScanFault, Stage1};
+use sj_scan::{BlockScan, ScanFault, Stage1};
 use sj_tape::{Node, Tape};
 use std::alloc::{AllocError, Global};
 use std::mem;
@@ -184,7 +184,7 @@ fn scan(text: &[u8], places: &mut Vec<u32>) -> Result<()>
     ensures capacity { vec_capacity places.old ≤ vec_capacity places.new }
 {
     test_len(text.len())?;
-    PlainScan.scan(text, places).map_err(scan_error)
+    BlockScan.scan(text, places).map_err(scan_error)
 }
 
 /// Empties the vectors and reserves what the descent over that many tokens needs, so that it takes no memory itself.

@@ -1,3 +1,11 @@
 pub mod Places
 pub mod States
-pub mod Faults
+pub mod Words
+pub mod Marks
+pub mod Prefix
+pub mod Lanes
+pub mod Sums
+pub mod Escapes
+pub mod Blocks
+pub mod SetPlaces
+pub mod Walks

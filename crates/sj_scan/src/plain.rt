@@ -1,12 +1,12 @@
 //! The scan that reads one byte at a time, the reference for faster ones.
-ghost use Rattle.std.specs.Prelude.{◌≡◌, ◌≢◌, ℕ, List, [], ◌∷◌, ◌≤◌, None, length, reverse, vec_capacity, IsOk, IfOk, IfErr, OnOk};
-ghost use Rattle.std.specs.Str.{is_utf8};
+ghost use Rattle.std.specs.Prelude.{◌≡◌, ℕ, List, [], ◌∷◌, ◌≤◌, length, vec_capacity, IsOk, IfOk, OnOk};
 ghost use Rattle.sj_scan.specs.Positions.{is_whitespace, is_operator, is_real_quote, is_position, positions};
-ghost use Rattle.sj_scan.specs.Scan.{is_control, has_control, scan_fault, IsFirstFault};
+ghost use Rattle.sj_scan.specs.Scan.{is_control};
+ghost use Rattle.sj_scan.specs.inside.End.{Ends};
 ghost use Rattle.sj_scan.specs.inside.State.{Follows};
 
+use crate::end::{End, is_utf8};
 use crate::stage1::{ScanFault, Stage1};
-use simdutf8::basic::from_utf8;
 use std::alloc::AllocError;
 
 /// A scan that reads one byte at a time.
@@ -16,58 +16,22 @@ pub struct PlainScan;
 impl Stage1 for PlainScan {
     fn scan(&mut self, bytes: &[u8], out: &mut Vec<u32>) -> Result<(), ScanFault> {
         out.clear();
-        let scanned = scan_into(bytes, out);
-        if scanned.is_err() {
-            out.clear();
+        match find_positions(bytes, out) {
+            Ok(end) => end.answer(out),
+            Err(error) => {
+                out.clear();
+                Err(error.into())
+            }
         }
-        scanned
     }
 }
 
-// Appends the positions and makes the tests in their order. After a fault `out` may hold some positions.
-fn scan_into(bytes: &[u8], out: &mut Vec<u32>) -> Result<(), ScanFault>
-    requires empty { out.old.items ≡ [] }
-    requires short { length bytes.now ≤ 4294967295 }
-    ensures ok { OnOk result ((scan_fault bytes.now ≡ None) × (out.new.items ≡ positions bytes.now)) }
-    ensures err { IfErr result (IsFirstFault bytes.now) }
-    ensures room { length bytes.now ≤ vec_capacity out.old → IfErr result (λ fault. fault ≢ ScanFault.Memory) }
-    ensures capacity { vec_capacity out.old ≤ vec_capacity out.new }
-{
-    if !is_utf8(bytes) {
-        return Err(ScanFault::Utf8);
-    }
-    let end = find_positions(bytes, out)?;
-    if end.state.inside {
-        return Err(ScanFault::Unclosed);
-    }
-    if end.has_control {
-        return Err(ScanFault::Control);
-    }
-    if out.is_empty() {
-        return Err(ScanFault::NoToken);
-    }
-    Ok(())
-}
-
-fn is_utf8(bytes: &[u8]) -> bool
-    ensures { result ≡ is_utf8 bytes.now }
-{
-    from_utf8(bytes).is_ok()
-}
-
-// What a walk over a whole text finds, beside its positions.
-#[derive(Clone, Copy)]
-struct End {
-    state: State,
-    has_control: bool,
-}
-
+// After an error `out` holds some of the positions.
 fn find_positions(bytes: &[u8], out: &mut Vec<u32>) -> Result<End, AllocError>
     requires empty { out.old.items ≡ [] }
     requires short { length bytes.now ≤ 4294967295 }
     ensures positions { OnOk result (out.new.items ≡ positions bytes.now) }
-    ensures state { IfOk result (λ end. Follows (reverse bytes.now) end.state) }
-    ensures control { IfOk result (λ end. end.has_control ≡ has_control bytes.now) }
+    ensures end { IfOk result (Ends bytes.now) }
     ensures room { length bytes.now ≤ vec_capacity out.old → IsOk result }
     ensures capacity { vec_capacity out.old ≤ vec_capacity out.new }
 {
@@ -80,7 +44,11 @@ fn find_positions(bytes: &[u8], out: &mut Vec<u32>) -> Result<End, AllocError>
         has_control |= state.is_control(*byte);
         state = state.next(*byte);
     }
-    Ok(End { state, has_control })
+    Ok(End {
+        is_utf8: is_utf8(bytes),
+        inside: state.inside,
+        has_control,
+    })
 }
 
 // What the tests at a place need to know of the bytes before it.

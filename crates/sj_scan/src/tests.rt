@@ -1,10 +1,11 @@
 //! Worked texts, those around the ends of blocks of 64 bytes above all, and the names that faults display.
 use super::*;
 use std::alloc::Global;
+use std::process::Abort;
 use std::test::Fail;
 
 // Scans into a vector with old contents.
-fn scanned<S: Stage1 + Drop>(
+fn scanned_by<S: Stage1 + Drop>(
     alloc: Global,
     mut scan: S,
     bytes: &[u8],
@@ -13,6 +14,21 @@ fn scanned<S: Stage1 + Drop>(
     let _len = u32::try_from(bytes.len())?;
     let answer = scan.scan(bytes, &mut out);
     Ok(answer.and(Ok(out)))
+}
+
+// The answer of both scans, which is to be the same.
+fn scanned(
+    rt: &impl Abort,
+    alloc: Global,
+    bytes: &[u8],
+) -> Result<Result<Vec<u32>, ScanFault>, Fail> {
+    let plain = scanned_by(alloc, PlainScan, bytes)?;
+    let block = scanned_by(alloc, BlockScan, bytes)?;
+    match (&plain, &block) {
+        (Ok(plain), Ok(block)) => assert_eq!(rt; plain.as_slice(), block.as_slice()),
+        (plain, block) => assert_eq!(rt; plain.as_ref().err(), block.as_ref().err()),
+    }
+    Ok(block)
 }
 
 // The bytes `before`, `count` times `filler`, and `behind`.
@@ -44,7 +60,7 @@ fn positions_of_short_texts(rt: HostRuntime) -> Result<(), Fail> {
         ("\u{e9}\"\u{20ac} \u{7f}\"\u{1f}", &[0, 2, 9]),
     ];
     for (text, positions) in rows {
-        let found = scanned(rt.alloc(), PlainScan, text.as_bytes())??;
+        let found = scanned(&rt, rt.alloc(), text.as_bytes())??;
         assert_eq!(rt; found.as_slice(), positions, "{text}");
     }
     Ok(())
@@ -75,7 +91,7 @@ fn positions_around_blocks(rt: HostRuntime) -> Result<(), Fail> {
             count,
             behind.as_bytes(),
         )?;
-        let found = scanned(rt.alloc(), PlainScan, &text)??;
+        let found = scanned(&rt, rt.alloc(), &text)??;
         assert_eq!(rt; found.as_slice(), positions, "{before}, {count}, {behind}");
     }
     Ok(())
@@ -86,7 +102,7 @@ fn positions_around_blocks(rt: HostRuntime) -> Result<(), Fail> {
 fn runs_of_backslashes(rt: HostRuntime) -> Result<(), Fail> {
     for count in 0..=130 {
         let text = filled(rt.alloc(), b"\"", b'\\', count, b"\"")?;
-        let found = scanned(rt.alloc(), PlainScan, &text)?;
+        let found = scanned(&rt, rt.alloc(), &text)?;
         let wanted = (count % 2 == 1).then_some(ScanFault::Unclosed);
         assert_eq!(rt; found.err(), wanted, "{count}");
     }
@@ -97,7 +113,7 @@ fn runs_of_backslashes(rt: HostRuntime) -> Result<(), Fail> {
 fn spaces_shift_positions(rt: HostRuntime) -> Result<(), Fail> {
     for count in 0..=130 {
         let text = filled(rt.alloc(), b"", b' ', count, br#"["a\"b", tru]"#)?;
-        let found = scanned(rt.alloc(), PlainScan, &text)??;
+        let found = scanned(&rt, rt.alloc(), &text)??;
         assert_eq!(rt; found.len(), 5);
         for (place, shifted) in [0, 1, 7, 9, 12].into_iter().zip(found) {
             assert_eq!(rt; shifted as usize, place + count);
@@ -126,7 +142,7 @@ fn first_faults(rt: HostRuntime) -> Result<(), Fail> {
     ];
     for (before, filler, count, behind, fault) in rows {
         let text = filled(rt.alloc(), before, filler, count, behind)?;
-        let found = scanned(rt.alloc(), PlainScan, &text)?;
+        let found = scanned(&rt, rt.alloc(), &text)?;
         assert_eq!(rt; found.err(), Some(fault), "{before:?}, {behind:?}");
     }
     Ok(())
@@ -141,8 +157,50 @@ fn each_prefix(rt: HostRuntime) -> Result<(), Fail> {
             2..=6 => Some(ScanFault::Unclosed),
             _ => None,
         };
-        let found = scanned(rt.alloc(), PlainScan, &text[..len])?;
+        let found = scanned(&rt, rt.alloc(), &text[..len])?;
         assert_eq!(rt; found.err(), wanted, "{len}");
+    }
+    Ok(())
+}
+
+// Texts with something to find near the end of a block, once they stand behind spaces.
+const TEXTS: &str = r#"1
+""
+ "\\\"" 
+\\"a"b
+a\"b c
+[tru e]nul
+["a\"b", tru]
+\
+"\\\\","\\\""
+\\\\\"\\"
+a"b"c"
+[true"a"]
+["]"]"{,:}
+{"key": "value", "snot": 42}
+[["get",["key"]],["insert",[],"new",42],["get",["new"]]]
+[true, falsy]
+{"a":1,"a":2}
+[-0, 1.50]
+["\ud83d\ude00","\u0041"]
+[1,]
+{"a":1,}
+1 2
+[] 1
+[18446744073709551615,-9223372036854775808]
+{"x":{"a":1},"é":"€","😀":[[],{}]}
+{:}[,]{:}[,]{:}[,]{:}[,]{:}[,]{:}[,]{:}[,]{:}[,]{:}[,]{:}[,]{:}[,]{:}[,]{:}[,]"#;
+
+// Each text up to each of its bytes, behind each number of spaces up to two blocks.
+#[test]
+fn scans_agree(rt: HostRuntime) -> Result<(), Fail> {
+    for text in TEXTS.lines() {
+        let text = filled(rt.alloc(), b"", b' ', 130, text.as_bytes())?;
+        for end in 130..=text.len() {
+            for start in 0..=130 {
+                let _found = scanned(&rt, rt.alloc(), &text[start..end])?;
+            }
+        }
     }
     Ok(())
 }
@@ -172,7 +230,7 @@ fn ends_of_utf8(rt: HostRuntime) -> Result<(), Fail> {
     for (character, is_utf8) in rows {
         let text = filled(rt.alloc(), b"\"", b'a', 62, character)?;
         let text = filled(rt.alloc(), &text, b'"', 1, b"")?;
-        let found = scanned(rt.alloc(), PlainScan, &text)?;
+        let found = scanned(&rt, rt.alloc(), &text)?;
         let wanted = (!is_utf8).then_some(ScanFault::Utf8);
         assert_eq!(rt; found.err(), wanted, "{character:?}");
     }

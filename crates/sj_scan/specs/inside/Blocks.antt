@@ -1,0 +1,19 @@
+-- What a scan by blocks knows of the bytes before a block, and of those before each place in it.
+use Rattle.std.specs.Prelude.{◌≡◌, ℕ, zero, suc, Bool, List, ◌∷◌, slice_index}
+use Rattle.sj_scan.specs.Positions.{is_odd, backslashes, real_quotes, is_separated}
+use Rattle.sj_scan.specs.inside.Masks.{first_if, all_if}
+use Rattle.sj_scan.specs.declared.masks.Carry.{Carry}
+
+-- the bytes before a place of the block, the nearest first; `before` are those before the block
+unfoldable pub before_in : List ℕ → List ℕ → ℕ → List ℕ
+before_in before block zero = before
+before_in before block (suc place) = slice_index block place ∷ before_in before block place
+
+-- a test at each place of the block
+abbrev pub test_in : (List ℕ → ℕ → Bool) → List ℕ → List ℕ → ℕ → Bool
+test_in test before block place = test (before_in before block place) (slice_index block place)
+
+pub record Precedes (before : List ℕ) (carry : Carry) : Type 0 where
+  pub odd_backslashes : carry.odd_backslashes ≡ first_if (is_odd (backslashes before))
+  pub inside : carry.inside ≡ all_if (is_odd (real_quotes before))
+  pub separated : carry.separated ≡ first_if (is_separated before)
