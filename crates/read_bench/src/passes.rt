@@ -14,7 +14,7 @@ use std::io;
 use std::time::{Clock, Duration, Instant};
 
 // The scan of `sj_parse`.
-use sj_scan::PlainScan as Scanner;
+use sj_scan::BlockScan as Scanner;
 
 /// The time of a pass, and the number of documents that it refused.
 #[derive(Clone, Copy, Debug, PartialEq, Eq)]

@@ -6,6 +6,7 @@ use crate::bytes::is_separator;
 
 /// Returns `true` if the bytes begin with `true`, before whitespace, an operator or the end. Port of
 /// `simd_json::stage2::is_valid_true_atom`.
+#[inline]
 pub fn is_valid_true_atom(bytes: &[u8]) -> bool
     ensures { result ≡ is_atom (codes "true") bytes.now }
 {
@@ -14,6 +15,7 @@ pub fn is_valid_true_atom(bytes: &[u8]) -> bool
 
 /// Returns `true` if the bytes begin with `false`, before whitespace, an operator or the end. Port of
 /// `simd_json::stage2::is_valid_false_atom`.
+#[inline]
 pub fn is_valid_false_atom(bytes: &[u8]) -> bool
     ensures { result ≡ is_atom (codes "false") bytes.now }
 {
@@ -22,12 +24,14 @@ pub fn is_valid_false_atom(bytes: &[u8]) -> bool
 
 /// Returns `true` if the bytes begin with `null`, before whitespace, an operator or the end. Port of
 /// `simd_json::stage2::is_valid_null_atom`.
+#[inline]
 pub fn is_valid_null_atom(bytes: &[u8]) -> bool
     ensures { result ≡ is_atom (codes "null") bytes.now }
 {
     is_atom(b"null", bytes)
 }
 
+#[inline(always)]
 fn is_atom(literal: &[u8], bytes: &[u8]) -> bool
     ensures { result ≡ is_atom literal.now bytes.now }
 {
@@ -38,6 +42,7 @@ fn is_atom(literal: &[u8], bytes: &[u8]) -> bool
 }
 
 // Whether nothing, whitespace or an operator comes first.
+#[inline(always)]
 fn ends_word(bytes: &[u8]) -> bool
     ensures { result ≡ ends_word bytes.now }
 {

@@ -28,7 +28,7 @@ pub use buffers::Buffers;
 pub use bytes::is_integer;
 pub use characters::{codepoint_to_utf8, hex_to_u32};
 pub use deserializer::Deserializer;
-pub use reading::{fill_tape, fill_tape_padded, to_tape, to_tape_with_buffers};
+pub use reading::{fill_tape, fill_tape_by, fill_tape_padded, to_tape, to_tape_with_buffers};
 use sj_base::Error;
 
 /// What reading returns. Port of `simd_json::Result`.

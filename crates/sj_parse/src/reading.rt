@@ -93,8 +93,32 @@ pub fn fill_tape<'de>(s: &'de mut [u8], buffers: &mut Buffers, tape: &mut Tape<'
     ensures limit { buffer_limit buffers.new ≡ buffer_limit buffers.old }
     ensures room { buffer_room buffers.old ≤ buffer_room buffers.new }
 {
+    fill_tape_by(&mut BlockScan, s, buffers, tape)
+}
+
+/// Reads a text into the given tape as [`fill_tape`] does, with its positions from the given scan.
+///
+/// # Errors
+///
+/// Those of [`fill_tape`].
+pub fn fill_tape_by<'de, S: Stage1>(
+    scanner: &mut S,
+    s: &'de mut [u8],
+    buffers: &mut Buffers,
+    tape: &mut Tape<'de>,
+) -> Result<()>
+    ensures answers { let limit = buffer_limit buffers.old in
+        Answers (λ _. tape_nodes tape.new) s.entry.now limit (fault s.entry.now limit) result }
+    ensures not_empty { OnOk result (tape_nodes tape.new ≢ []) }
+    ensures empty { OnErr result (tape_nodes tape.new ≡ []) }
+    ensures too_large { longest < length s.entry.now → result ≡ Err (generic ErrorType.InputTooLarge) }
+    ensures scanned { length s.entry.now ≤ longest → Leaves s.entry.now result (buffer_positions buffers.new) }
+    ensures not_scanned { longest < length s.entry.now → buffer_positions buffers.new ≡ buffer_positions buffers.old }
+    ensures limit { buffer_limit buffers.new ≡ buffer_limit buffers.old }
+    ensures room { buffer_room buffers.old ≤ buffer_room buffers.new }
+{
     let mut nodes = take_room(buffers.allocator(), tape);
-    let read = read_nodes(s, buffers, &mut nodes);
+    let read = read_nodes(scanner, s, buffers, &mut nodes);
     if read.is_err() {
         nodes.clear();
     }
@@ -150,7 +174,8 @@ fn take_room<'de>(alloc: Global, tape: &mut Tape<'de>) -> Vec<Node<'de>>
 }
 
 /// Appends the nodes of a text to an empty vector. After an error some of them may stand.
-fn read_nodes<'de>(
+fn read_nodes<'de, S: Stage1>(
+    scanner: &mut S,
     s: &'de mut [u8],
     buffers: &mut Buffers,
     nodes: &mut Vec<Node<'de>>,
@@ -169,13 +194,13 @@ fn read_nodes<'de>(
         stack,
         max_depth,
     } = buffers;
-    scan(s, positions)?;
+    scan(scanner, s, positions)?;
     make_room(positions.len(), *max_depth, nodes, stack)?;
     descend(s, positions, *max_depth, nodes, stack)
 }
 
 /// Tests the length of a text, and scans it.
-fn scan(text: &[u8], places: &mut Vec<u32>) -> Result<()>
+fn scan<S: Stage1>(scanner: &mut S, text: &[u8], places: &mut Vec<u32>) -> Result<()>
     ensures ok { OnOk result ((length text.now ≤ longest) × (scan_fault text.now ≡ None) × (places.new.items ≡ positions text.now)) }
     ensures err { IfErr result (λ e. (limit : ℕ) → IsErrorOf (fault text.now limit) e) }
     ensures too_large { longest < length text.now → result ≡ Err (generic ErrorType.InputTooLarge) }
@@ -184,7 +209,7 @@ fn scan(text: &[u8], places: &mut Vec<u32>) -> Result<()>
     ensures capacity { vec_capacity places.old ≤ vec_capacity places.new }
 {
     test_len(text.len())?;
-    BlockScan.scan(text, places).map_err(scan_error)
+    scanner.scan(text, places).map_err(scan_error)
 }
 
 /// Empties the vectors and reserves what the descent over that many tokens needs, so that it takes no memory itself.

@@ -7,11 +7,11 @@ use Rattle.sj_tape.specs.Listed.{IsPreorder}
 use Rattle.sj_parse.specs.Fault.{fault}
 use Rattle.sj_parse.specs.Answers.{buffer_limit}
 use Rattle.sj_parse.proofs.TextTapes.{IsPreorder-Answers, not_empty-Answers, on_ok-err}
-use Rattle.sj_parse.proofs.reading.fill_tape.Goals as goal
-use Rattle.sj_parse.proofs.reading.fill_tape.Goals.{then-is_err, else-is_err}
+use Rattle.sj_parse.proofs.reading.fill_tape_by.Goals as goal
+use Rattle.sj_parse.proofs.reading.fill_tape_by.Goals.{then-is_err, else-is_err}
 
 pub from_listing-requires : goal.from_listing-requires
-from_listing-requires c =
+from_listing-requires g c =
     let limit = buffer_limit c.args.buffers.now in
     elim c.if-is_err.branch [
       | then-is_err w ↦ inl (ap (λ v. v.items) w.nodes-is ∙ w.clear.ensures.items)
@@ -19,7 +19,7 @@ from_listing-requires c =
     ]
 
 pub returns-clause-not_empty : goal.returns-clause-not_empty
-returns-clause-not_empty c =
+returns-clause-not_empty g c =
     let limit = buffer_limit c.args.buffers.now in
     elim c.if-is_err.branch [
       | then-is_err w ↦ on_ok-err _ c.read_nodes-read.result (sym c.is_err.ensures.value ∙ w.if-is_err.true)
