@@ -4,13 +4,9 @@ use Rattle.std.proofs.lemmas.Simd.{length-zip2, get_or-zip2, get_or-replicate, l
 use Rattle.std.proofs.lemmas.List.{get_or-map}
 use Rattle.std.proofs.lemmas.Bool.{agree_below, agree_below_at}
 use lib.Lanes.{zip2, mask_l, top, Each1}
+use Rattle.sj_scan.specs.inside.Lanes.{Computes}
 use Rattle.sj_scan.specs.inside.Masks.{is_set, Marks}
 use Rattle.sj_scan.proofs.Words.{is_set-mod}
-
--- Each lane is computed from the byte at its place.
-pub record Computes (block lanes : List ℕ) (f : ℕ → ℕ) : Type 0 where
-  pub long : length lanes ≡ 64
-  pub at : (place : ℕ) → place < 64 → get_or lanes place 0 ≡ f (get_or block place 0)
 
 pub block_itself : (block : List ℕ) → length block ≡ 64 → Computes block block (λ byte. byte)
 block_itself block long = record { long = long; at = λ place within. refl }

@@ -9,3 +9,5 @@ pub mod Escapes
 pub mod Blocks
 pub mod SetPlaces
 pub mod Walks
+pub mod Utf8
+pub mod Lookup

@@ -1,5 +1,5 @@
 -- One more block of a walk, of whose bytes the text may have some alone: the others are spaces.
-use Rattle.std.proofs.Common.{◌≡◌, ℕ, zero, suc, ◌+◌, ◌-◌, ◌*◌, ◌/◌, ◌%◌, ◌^◌, ◌<◌, ◌≤◌, Bool, true, false, not, ◌&&◌, ◌||◌, ◌==◌, List, ◌∷◌, ◌++◌, length, filter, All, slice_index, refl, sym, ap, ap₂, subst, ◌∙◌, arith, zero-add, add-zero, pow-suc, bit_or, ◌⊎◌, inl, inr, cond, true≢false, pow_pos, div-lt_iff_lt-mul}
+use Rattle.std.proofs.Common.{◌≡◌, ℕ, zero, suc, ◌+◌, ◌-◌, ◌*◌, ◌/◌, ◌%◌, ◌^◌, ◌<◌, ◌≤◌, Bool, true, false, not, ◌&&◌, ◌||◌, ◌==◌, List, ◌∷◌, ◌++◌, length, filter, All, slice_index, refl, sym, ap, ap₂, subst, ◌∙◌, arith, zero-add, add-zero, pow-suc, bit_or, ◌⊎◌, inl, inr, cond, drop, replicate, length-drop, get_or-drop, true≢false, pow_pos, div-lt_iff_lt-mul}
 use Rattle.std.specs.List.{range_with_len, list_any}
 use Rattle.std.specs.Int.{bit_at}
 use Rattle.std.proofs.lemmas.Bool.{cases_eq, ne_eqb}
@@ -7,6 +7,9 @@ use Rattle.std.proofs.lemmas.Nat.{le_or_l}
 use Rattle.std.proofs.lemmas.Nat.Bits.{bit_at-lt}
 use Rattle.std.proofs.lemmas.List.Elements.{filter-append, All-cons, All-nil}
 use Rattle.std.proofs.lemmas.List.Folds.{list_any-append}
+use Rattle.std.proofs.lemmas.Simd.{get_or-chunk, get_or-replicate}
+use Rattle.std.proofs.lemmas.List.{get_or_append_left, get_or-append_right}
+use lib.Lanes.{chunk}
 use Rattle.sj_scan.specs.Positions.{is_odd, real_quotes, is_separated, is_position, before}
 use Rattle.sj_scan.specs.Scan.{is_control}
 use Rattle.sj_scan.specs.inside.Masks.{is_set, Marks, set_places}
@@ -62,14 +65,42 @@ set_places-small (suc n) extra base mask fits =
     ap (λ count. set_places count base mask) more
     ∙ ap (λ ps. cond (mask % 2 == 1) (base ∷ ps) ps) (set_places-small n extra (base + 1) (mask / 2) (omega arith))
 
-module _ (bytes block : List ℕ) (at n : ℕ) (few : n ≤ 64) (within : at + n ≤ length bytes)
-    (same : (place : ℕ) → place < n → slice_index block place ≡ slice_index bytes (at + place)) (spaces : (place : ℕ) → n ≤ place → place < 64 → slice_index block place ≡ 0x20) where
+-- The first `n` bytes of the block are the text's from `at` on, and the others are spaces.
+pub record IsFilled (bytes block : List ℕ) (at n : ℕ) : Type 0 where
+  pub few : n ≤ 64
+  pub within : at + n ≤ length bytes
+  pub same : (place : ℕ) → place < n → slice_index block place ≡ slice_index bytes (at + place)
+  pub spaces : (place : ℕ) → n ≤ place → place < 64 → slice_index block place ≡ 0x20
+
+pub IsFilled-whole : (bytes : List ℕ) (at : ℕ) → at + 64 ≤ length bytes → IsFilled bytes (chunk at 64 bytes) at 64
+IsFilled-whole bytes at within = record {
+  few = omega arith;
+  within = within;
+  same = λ place below. get_or-chunk at 64 bytes place 0 below;
+  spaces = λ place from below. absurd (omega arith);
+}
+
+pub IsFilled-rest : (bytes block : List ℕ) (at : ℕ) → at ≤ length bytes → length bytes < at + 64 → block ≡ drop at bytes ++ replicate (64 - (length bytes - at)) 0x20
+    → IsFilled bytes block at (length bytes - at)
+IsFilled-rest bytes block at within last is =
+    let n = length bytes - at in
+    let long = length-drop at bytes in
+    record {
+      few = omega arith;
+      within = omega arith;
+      same = λ place below. ap (λ bs. slice_index bs place) is ∙ get_or_append_left (drop at bytes) (replicate (64 - n) 0x20) 0 place (omega arith) ∙ get_or-drop at bytes place 0;
+      spaces = λ place from below.
+          ap (λ bs. slice_index bs place) is ∙ get_or-append_right (drop at bytes) (replicate (64 - n) 0x20) n place 0 long from ∙ get_or-replicate (64 - n) (place - n) 0x20 0 (omega arith);
+    }
+
+module _ (bytes block : List ℕ) (at n : ℕ) (filled : IsFilled bytes block at n) where
   before_in-is : (place : ℕ) → place ≤ n → before_in (before bytes at) block place ≡ before bytes (at + place)
   unfolding before_in
   before_in-is zero below = ap (before bytes) (sym (add-zero at))
   before_in-is (suc place) below =
+      let inside = filled.within in
       let next : at + place + 1 ≡ at + suc place = omega arith in
-      ap₂ (λ b bs. b ∷ bs) (same place (omega arith)) (before_in-is place (omega arith)) ∙ sym (before-more bytes (at + place) (omega arith)) ∙ ap (before bytes) next
+      ap₂ (λ b bs. b ∷ bs) (filled.same place (omega arith)) (before_in-is place (omega arith)) ∙ sym (before-more bytes (at + place) (omega arith)) ∙ ap (before bytes) next
 
   -- all of the block that is the text's
   pub before_in-all : n ≡ 64 → before_in (before bytes at) block 64 ≡ before bytes (at + 64)
@@ -81,15 +112,17 @@ module _ (bytes block : List ℕ) (at n : ℕ) (few : n ≤ 64) (within : at + n
 
     mask-small : mask < 2 ^ n
     mask-small =
+        let few = filled.few in
         let whole : n + (64 - n) ≡ 64 = omega arith in
         small mask n (64 - n) (subst (λ k. mask < 2 ^ k) (sym whole) marks.fits) (λ place from below.
-        marks.bits place (omega arith) ∙ ap (test (before_in (before bytes at) block place)) (spaces place from (omega arith)) ∙ blank (before_in (before bytes at) block place))
+        marks.bits place (omega arith) ∙ ap (test (before_in (before bytes at) block place)) (filled.spaces place from (omega arith)) ∙ blank (before_in (before bytes at) block place))
 
     bits : (place : ℕ) → place < n → is_set mask place ≡ test_at (at + place)
-    bits place below = marks.bits place (omega arith) ∙ ap₂ test (before_in-is place (omega arith)) (same place below)
+    bits place below = let few = filled.few in marks.bits place (omega arith) ∙ ap₂ test (before_in-is place (omega arith)) (filled.same place below)
 
     pub set_places-is : set_places 64 at mask ≡ filter test_at (range_with_len at n)
     set_places-is =
+        let few = filled.few in
         let whole : n + (64 - n) ≡ 64 = omega arith in
         ap (λ count. set_places count at mask) (sym whole) ∙ set_places-small n (64 - n) at mask mask-small ∙ set_places-filter test_at n at mask bits
 
@@ -102,10 +135,11 @@ module _ (bytes block : List ℕ) (at n : ℕ) (few : n ≤ 64) (within : at + n
   real_quotes-spaces (suc extra) below =
       let next : n + suc extra ≡ suc (n + extra) = omega arith in
       let rest = before_in (before bytes at) block (n + extra) in
-      ap (λ k. real_quotes (before_in (before bytes at) block k)) next ∙ ap (λ b. real_quotes (b ∷ rest)) (spaces (n + extra) (omega arith) (omega arith)) ∙ real_quotes-spaces extra (omega arith)
+      ap (λ k. real_quotes (before_in (before bytes at) block k)) next ∙ ap (λ b. real_quotes (b ∷ rest)) (filled.spaces (n + extra) (omega arith) (omega arith)) ∙ real_quotes-spaces extra (omega arith)
 
   pub real_quotes-end : real_quotes (before_in (before bytes at) block 64) ≡ real_quotes (before bytes (at + n))
   real_quotes-end =
+      let few = filled.few in
       let whole : n + (64 - n) ≡ 64 = omega arith in
       ap (λ k. real_quotes (before_in (before bytes at) block k)) (sym whole) ∙ real_quotes-spaces (64 - n) (omega arith) ∙ ap real_quotes (before_in-is n (omega arith))
 

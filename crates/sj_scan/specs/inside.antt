@@ -4,3 +4,4 @@ pub mod Masks
 pub mod Blocks
 pub mod End
 pub mod Walk
+pub mod Lanes

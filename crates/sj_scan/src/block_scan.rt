@@ -1,13 +1,14 @@
 //! The scan that reads 64 bytes at a time.
-ghost use Rattle.std.specs.Prelude.{◌≡◌, ℕ, ◌+◌, ◌<◌, ◌≤◌, [], length, slice_index, vec_capacity, IsOk, IfOk, OnOk, OnErr};
+ghost use Rattle.std.specs.Prelude.{◌≡◌, ◌+◌, ◌-◌, ◌<◌, ◌≤◌, [], ◌++◌, length, replicate, vec_capacity, IsOk, IfOk, OnOk, OnErr};
 ghost use Rattle.sj_scan.specs.Positions.{positions};
 ghost use Rattle.sj_scan.specs.inside.End.{Ends};
-ghost use Rattle.sj_scan.specs.inside.Walk.{HasRead};
+ghost use Rattle.sj_scan.specs.inside.Walk.{HasWalked};
 
-use crate::end::{End, is_utf8};
+use crate::end::End;
 use crate::masks::{Carry, read_block};
 use crate::push::{push_each_place, push_places};
 use crate::stage1::{ScanFault, Stage1};
+use simdutf8::Checker;
 use std::alloc::AllocError;
 use std::simd::prelude::*;
 
@@ -46,6 +47,7 @@ fn find_positions(bytes: &[u8], out: &mut Vec<u32>) -> Result<End, AllocError>
 #[derive(Clone, Copy)]
 struct Walk {
     at: usize,
+    utf8: Checker,
     carry: Carry,
     controls: u64,
 }
@@ -55,12 +57,13 @@ fn read_blocks(bytes: &[u8], out: &mut Vec<u32>) -> Walk
     requires empty { out.old.items ≡ [] }
     requires short { length bytes.now ≤ 4294967295 }
     requires room { length bytes.now ≤ vec_capacity out.old }
-    ensures read { HasRead bytes.now result out.new.items }
+    ensures read { HasWalked bytes.now result out.new.items }
     ensures rest { length bytes.now < result.at + BLOCK }
     ensures capacity { vec_capacity out.new ≡ vec_capacity out.old }
 {
     let mut walk = Walk {
         at: 0,
+        utf8: Checker::new(),
         carry: Carry::start(),
         controls: 0,
     };
@@ -70,6 +73,7 @@ fn read_blocks(bytes: &[u8], out: &mut Vec<u32>) -> Walk
         push_places(out, walk.at as u32, masks.positions);
         walk = Walk {
             at: walk.at + BLOCK,
+            utf8: walk.utf8.step(block),
             carry,
             controls: walk.controls | masks.controls,
         };
@@ -79,7 +83,7 @@ fn read_blocks(bytes: &[u8], out: &mut Vec<u32>) -> Walk
 
 // Reads the bytes behind the whole blocks.
 fn read_rest(bytes: &[u8], out: &mut Vec<u32>, walk: Walk) -> End
-    requires read { HasRead bytes.now walk out.old.items }
+    requires read { HasWalked bytes.now walk out.old.items }
     requires rest { length bytes.now < walk.at + BLOCK }
     requires short { length bytes.now ≤ 4294967295 }
     requires room { length bytes.now ≤ vec_capacity out.old }
@@ -91,7 +95,7 @@ fn read_rest(bytes: &[u8], out: &mut Vec<u32>, walk: Walk) -> End
     let (masks, carry) = read_block(block, walk.carry);
     push_each_place(out, walk.at as u32, masks.positions);
     End {
-        is_utf8: is_utf8(bytes),
+        is_utf8: walk.utf8.step(block).finish(),
         inside: carry.is_inside(),
         has_control: walk.controls | masks.controls != 0,
     }
@@ -100,9 +104,7 @@ fn read_rest(bytes: &[u8], out: &mut Vec<u32>, walk: Walk) -> End
 // The bytes, and spaces behind them.
 fn filled_up(rest: &[u8]) -> u8x64
     requires { length rest.now < BLOCK }
-    ensures long { length result ≡ BLOCK }
-    ensures bytes { (place : ℕ) → place < length rest.now → slice_index result place ≡ slice_index rest.now place }
-    ensures spaces { (place : ℕ) → length rest.now ≤ place → place < BLOCK → slice_index result place ≡ 0x20 }
+    ensures { result ≡ rest.now ++ replicate (BLOCK - length rest.now) 0x20 }
 {
     let mut block = [b' '; BLOCK];
     block[..rest.len()].copy_from_slice(rest);

@@ -1,12 +1,10 @@
 //! What a walk over a whole text finds beside its positions, and the tests on it.
 ghost use Rattle.std.specs.Prelude.{◌≡◌, ◌≢◌, ℕ, List, IfErr, vec_capacity};
-ghost use Rattle.std.specs.Str.{is_utf8};
 ghost use Rattle.sj_scan.specs.Positions.{positions};
 ghost use Rattle.sj_scan.specs.Scan.{Scans};
 ghost use Rattle.sj_scan.specs.inside.End.{Ends, Answers};
 
 use crate::stage1::ScanFault;
-use simdutf8::basic::from_utf8;
 
 #[derive(Clone, Copy)]
 pub(crate) struct End {
@@ -48,10 +46,4 @@ impl End {
         }
         Ok(())
     }
-}
-
-pub(crate) fn is_utf8(bytes: &[u8]) -> bool
-    ensures { result ≡ is_utf8 bytes.now }
-{
-    from_utf8(bytes).is_ok()
 }

@@ -5,10 +5,25 @@
 ghost use Rattle.std.specs.Prelude.{◌≡◌, ℕ, suc, ◌==◌, List, [], slice_index, nat_lt, Bool};
 ghost use Rattle.sj_scan.specs.Positions.{is_whitespace, is_operator, is_odd, backslashes, real_quotes, is_real_quote, is_separated, is_position};
 ghost use Rattle.sj_scan.specs.Scan.{is_control};
+ghost use Rattle.sj_scan.specs.inside.Lanes.{Computes, IsFourfold, low_entry};
 ghost use Rattle.sj_scan.specs.inside.Masks.{is_set, Marks, first_if, all_if, is_odd_run, is_odd_count};
 ghost use Rattle.sj_scan.specs.inside.Blocks.{before_in, test_in, Precedes};
 
 use std::simd::prelude::*;
+
+// The whitespace with these four lowest bits, four times over. No other byte has the entry of its lowest bits.
+const WHITESPACE: [u8; 64] = [
+    b' ', 0, 0, 0, 0, 0, 0, 0, 0, b'\t', b'\n', 0, 0, b'\r', 0, 0, b' ', 0, 0, 0, 0, 0, 0, 0, 0,
+    b'\t', b'\n', 0, 0, b'\r', 0, 0, b' ', 0, 0, 0, 0, 0, 0, 0, 0, b'\t', b'\n', 0, 0, b'\r', 0, 0,
+    b' ', 0, 0, 0, 0, 0, 0, 0, 0, b'\t', b'\n', 0, 0, b'\r', 0, 0,
+];
+
+// The same of operators, where a bracket stands as the brace that differs from it in one bit.
+const OPERATORS: [u8; 64] = [
+    0, 0, 0, 0, 0, 0, 0, 0, 0, 0, b':', b'{', b',', b'}', 0, 0, 0, 0, 0, 0, 0, 0, 0, 0, 0, 0, b':',
+    b'{', b',', b'}', 0, 0, 0, 0, 0, 0, 0, 0, 0, 0, 0, 0, b':', b'{', b',', b'}', 0, 0, 0, 0, 0, 0,
+    0, 0, 0, 0, 0, 0, b':', b'{', b',', b'}', 0, 0,
+];
 
 const ODD_PLACES: u64 = 0xaaaa_aaaa_aaaa_aaaa;
 
@@ -55,7 +70,8 @@ pub(crate) fn read_block(block: u8x64, carry: Carry) -> (Masks, Carry)
     ensures controls { (before : List ℕ) → Precedes before carry → Marks result.0.controls (test_in is_control before block) }
     ensures carry { (before : List ℕ) → Precedes before carry → Precedes (before_in before block 64) result.1 }
 {
-    let operators = operators(block);
+    let below_space = below_space(block);
+    let operators = operators(block, below_space);
     let whitespace = whitespace(block);
     let (quotes, odd_backslashes) = real_quotes(block, carry.odd_backslashes);
     let inside_after = prefix_xor(quotes) ^ carry.inside;
@@ -64,7 +80,7 @@ pub(crate) fn read_block(block: u8x64, carry: Carry) -> (Masks, Carry)
     let separated = shifted(separators, carry.separated);
     let masks = Masks {
         positions: !inside & !whitespace & (operators | quotes | separated),
-        controls: below_space(block) & inside,
+        controls: below_space & inside,
     };
     let next = Carry {
         odd_backslashes,
@@ -75,25 +91,29 @@ pub(crate) fn read_block(block: u8x64, carry: Carry) -> (Masks, Carry)
 }
 
 #[inline(always)]
-fn operators(block: u8x64) -> u64
+fn operators(block: u8x64, below_space: u64) -> u64
+    requires { Marks below_space (λ place. nat_lt (slice_index block place) 0x20) }
     ensures { Marks result (λ place. is_operator (slice_index block place)) }
 {
-    // These pairs of brackets differ in this bit alone.
+    // Brackets and braces differ in this bit alone. Two control characters become operators by it.
     let curly = block | u8x64::splat(0x20);
-    (curly.simd_eq(u8x64::splat(b'{'))
-        | curly.simd_eq(u8x64::splat(b'}'))
-        | block.simd_eq(u8x64::splat(b':'))
-        | block.simd_eq(u8x64::splat(b','))).to_bitmask()
+    curly.simd_eq(by_low_bits(OPERATORS, block)).to_bitmask() & !below_space
 }
 
 #[inline(always)]
 fn whitespace(block: u8x64) -> u64
     ensures { Marks result (λ place. is_whitespace (slice_index block place)) }
 {
-    (block.simd_eq(u8x64::splat(b' '))
-        | block.simd_eq(u8x64::splat(b'\t'))
-        | block.simd_eq(u8x64::splat(b'\n'))
-        | block.simd_eq(u8x64::splat(b'\r'))).to_bitmask()
+    block.simd_eq(by_low_bits(WHITESPACE, block)).to_bitmask()
+}
+
+// The entry of the table at the four lowest bits of each ASCII byte.
+#[inline(always)]
+fn by_low_bits(table: [u8; 64], block: u8x64) -> u8x64
+    requires { IsFourfold table }
+    ensures { Computes block result (low_entry table) }
+{
+    u8x64::from_array(table).swizzle_dyn_within::<16>(block & u8x64::splat(0x8f))
 }
 
 #[inline(always)]

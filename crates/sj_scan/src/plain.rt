@@ -1,12 +1,14 @@
 //! The scan that reads one byte at a time, the reference for faster ones.
 ghost use Rattle.std.specs.Prelude.{◌≡◌, ℕ, List, [], ◌∷◌, ◌≤◌, length, vec_capacity, IsOk, IfOk, OnOk};
+ghost use Rattle.std.specs.Str.{is_utf8};
 ghost use Rattle.sj_scan.specs.Positions.{is_whitespace, is_operator, is_real_quote, is_position, positions};
 ghost use Rattle.sj_scan.specs.Scan.{is_control};
 ghost use Rattle.sj_scan.specs.inside.End.{Ends};
 ghost use Rattle.sj_scan.specs.inside.State.{Follows};
 
-use crate::end::{End, is_utf8};
+use crate::end::End;
 use crate::stage1::{ScanFault, Stage1};
+use simdutf8::basic::from_utf8;
 use std::alloc::AllocError;
 
 /// A scan that reads one byte at a time.
@@ -115,4 +117,10 @@ fn is_operator(byte: u8) -> bool
     ensures { result ≡ is_operator byte }
 {
     byte == b'{' || byte == b'}' || byte == b'[' || byte == b']' || byte == b':' || byte == b','
+}
+
+fn is_utf8(bytes: &[u8]) -> bool
+    ensures { result ≡ is_utf8 bytes.now }
+{
+    from_utf8(bytes).is_ok()
 }

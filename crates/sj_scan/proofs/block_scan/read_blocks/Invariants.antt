@@ -1,10 +1,10 @@
 use Rattle.std.proofs.Common.{◌≡◌, ◌-◌, ◌≤◌, length, vec_len, vec_capacity}
-use Rattle.sj_scan.specs.inside.Walk.{HasRead}
+use Rattle.sj_scan.specs.inside.Walk.{HasWalked}
 use Rattle.sj_scan.proofs.block_scan.read_blocks.Given as goal
 
 abbrev pub invariant-loop-walk : goal.invariant-loop-walk
 invariant-loop-walk l = record {
-  read : HasRead l.bytes l.walk l.out.items;
+  read : HasWalked l.bytes l.walk l.out.items;
   few : vec_len l.out ≤ l.walk.at;
   capacity : vec_capacity l.out ≡ vec_capacity l.fn.out;
 }

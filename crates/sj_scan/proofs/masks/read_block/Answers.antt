@@ -21,7 +21,7 @@ returns-clause-controls c = λ before precedes.
     let block = c.args.block in
     let quotes = c.real_quotes-quotes.result.0 in
     let real = c.real_quotes-quotes.ensures.quotes before precedes.odd_backslashes in
-    Marks-controls before block quotes real c.below_space.ensures (Marks-inside before block quotes real (Marks-after before block quotes real precedes.inside c.prefix_xor.ensures))
+    Marks-controls before block quotes real c.below_space-below_space.ensures (Marks-inside before block quotes real (Marks-after before block quotes real precedes.inside c.prefix_xor.ensures))
 
 pub returns-clause-carry : goal.returns-clause-carry
 returns-clause-carry c = λ before precedes.

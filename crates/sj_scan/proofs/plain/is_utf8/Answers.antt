@@ -3,7 +3,7 @@ use Rattle.std.proofs.Common.{◌≡◌, ℕ, List, Bool, true, false, refl, sym
 use Rattle.std.specs.Prelude.{IsUtf8, MatchResult, is_ok}
 use Rattle.std.specs.Str.{is_utf8}
 use Rattle.std.proofs.lemmas.Str.{IsUtf8-from_is_utf8, is_utf8-from_IsUtf8}
-use Rattle.sj_scan.proofs.end.is_utf8.Goals as goal
+use Rattle.sj_scan.proofs.plain.is_utf8.Goals as goal
 
 false-from_not : (b : Bool) → (b ≡ true → ⊥) → false ≡ b
 false-from_not true never = absurd (never refl)
