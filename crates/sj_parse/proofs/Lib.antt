@@ -3,6 +3,7 @@ pub mod Shorter
 pub mod Machine
 pub mod OpenContainers
 pub mod Bodies
+pub mod BlockPlaces
 pub mod NumberLemmas
 pub mod EscapeForms
 pub mod FormSteps

@@ -5,8 +5,7 @@ ghost use Rattle.sj_parse.specs.Escapes.{bad_escape};
 ghost use Rattle.sj_parse.specs.inside.Trees.{decoded};
 ghost use Rattle.sj_parse.specs.inside.Step.{string_body, StopsAt};
 
-use crate::bytes::is_separator;
-use crate::search::plain_len;
+use crate::search::{plain_len, word_len};
 use crate::stop::Stop;
 use crate::strings::decode;
 
@@ -35,20 +34,6 @@ fn find_body(bytes: &[u8]) -> (usize, usize)
 {
     let plain = plain_len(bytes);
     (plain + body_len(&bytes[plain..]), plain)
-}
-
-/// The length of the word that begins the bytes: up to whitespace, an operator or the end.
-#[inline(always)]
-fn word_len(bytes: &[u8]) -> usize
-    ensures within { result ≤ length bytes.now }
-    ensures word { take result bytes.now ≡ word bytes.now }
-{
-    for (place, byte) in bytes.iter().enumerate() {
-        if is_separator(*byte) {
-            return place;
-        }
-    }
-    bytes.len()
 }
 
 /// The text of the string whose opening quote stands at `skip`, and the input from the closing quote on.

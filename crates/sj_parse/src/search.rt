@@ -1,8 +1,11 @@
-//! The search for the end of a string.
-ghost use Rattle.std.specs.Prelude.{◌≡◌, ◌↔◌, ◌⊎◌, ℕ, ◌<◌, ◌≤◌, length, slice_index};
-ghost use Rattle.std.specs.Int.{bit_at};
+//! The search for the ends of strings and words, by blocks of 32 bytes.
+ghost use Rattle.std.specs.Prelude.{◌≡◌, ◌==◌, ℕ, ◌<◌, ◌≤◌, length, take, slice_index};
+ghost use Rattle.sj_scan.specs.Positions.{is_whitespace, is_operator};
+ghost use Rattle.sj_parse.specs.Token.{word};
 ghost use Rattle.sj_parse.specs.inside.Step.{IsPlain};
+ghost use Rattle.sj_parse.specs.inside.Blocks.{Places};
 
+use crate::bytes::is_separator;
 use memchr::memchr2;
 use std::simd::prelude::*;
 
@@ -25,10 +28,59 @@ pub(crate) fn plain_len(bytes: &[u8]) -> usize
     memchr2(b'"', b'\\', bytes).unwrap_or(bytes.len())
 }
 
+/// The number of bytes before the first whitespace or operator, or of all bytes if there is none.
+#[inline(always)]
+pub(crate) fn word_len(bytes: &[u8]) -> usize
+    ensures within { result ≤ length bytes.now }
+    ensures word { take result bytes.now ≡ word bytes.now }
+{
+    // Most words end in their first block.
+    if bytes.len() >= BLOCK {
+        let block = u8x32::from_slice(bytes);
+        let ends = whitespace(block) | operators(block);
+        if ends != 0 {
+            return ends.trailing_zeros() as usize;
+        }
+    }
+    scan_word(bytes)
+}
+
+/// The same, byte by byte.
+fn scan_word(bytes: &[u8]) -> usize
+    ensures within { result ≤ length bytes.now }
+    ensures word { take result bytes.now ≡ word bytes.now }
+{
+    for (place, byte) in bytes.iter().enumerate() {
+        if is_separator(*byte) {
+            return place;
+        }
+    }
+    bytes.len()
+}
+
+#[inline(always)]
+fn whitespace(block: u8x32) -> u64
+    ensures { Places is_whitespace block result }
+{
+    equal_to(block, b' ') | equal_to(block, b'\t') | equal_to(block, b'\n') | equal_to(block, b'\r')
+}
+
+#[inline(always)]
+fn operators(block: u8x32) -> u64
+    ensures { Places is_operator block result }
+{
+    equal_to(block, b'{')
+        | equal_to(block, b'}')
+        | equal_to(block, b'[')
+        | equal_to(block, b']')
+        | equal_to(block, b':')
+        | equal_to(block, b',')
+}
+
 /// The places of a byte in a block, as bits.
 #[inline(always)]
 fn equal_to(block: u8x32, byte: u8) -> u64
-    ensures { (k : ℕ) → (bit_at result k ≡ 1) ↔ ((k < BLOCK) × (slice_index block k ≡ byte)) }
+    ensures { Places (λ b. b == byte) block result }
 {
     block.simd_eq(u8x32::splat(byte)).to_bitmask()
 }

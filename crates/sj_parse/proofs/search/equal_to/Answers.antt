@@ -1,7 +1,7 @@
 use Rattle.std.specs.Prelude.{◌≡◌, ◌↔◌, ℕ, zero, suc, ◌<◌, Bool, false, cond, List, [], ◌∷◌, length, slice_index, map}
 use Rattle.std.specs.Int.{bit_at}
 use Rattle.std.proofs.Common.{eqb, get_or, refl, sym, ap, ◌∙◌, arith, w8, inl, inr}
-use Rattle.std.proofs.lemmas.Bool.{cases_Bool, eqb-true, eqb-false}
+use Rattle.std.proofs.lemmas.Bool.{cases_Bool, eq-eqb, eqb-true, eqb-false}
 use Rattle.std.proofs.lemmas.Simd.{bitmask_splat, bit_mask_l}
 use Rattle.sj_parse.proofs.search.equal_to.Goals as goal
 
@@ -25,8 +25,10 @@ place byte (x ∷ xs) (suc k) =
 
 pub returns : goal.returns
 unfolding IsPlace
-returns c k =
-    let block = c.args.block in
-    let bits = ap (λ n. bit_at n k) (bitmask_splat w8 eqb block 32 c.args.byte c.fits-block.0 (omega arith)) ∙ bit_mask_l (map (λ x. eqb x c.args.byte) block) k in
-    let p = place c.args.byte block k in
-    (λ e. let q = p.0 (sym bits ∙ e) in (omega (arith, q.0, c.fits-block.0), q.1), λ q. bits ∙ p.1 (omega (arith, q.0, c.fits-block.0), q.1))
+returns c = record {
+  bits = λ k.
+      let block = c.args.block in
+      let bits = ap (λ n. bit_at n k) (bitmask_splat w8 eqb block 32 c.args.byte c.fits-block.0 (omega arith)) ∙ bit_mask_l (map (λ x. eqb x c.args.byte) block) k in
+      let p = place c.args.byte block k in
+      (λ e. let q = p.0 (sym bits ∙ e) in (omega (arith, q.0, c.fits-block.0), eq-eqb (slice_index block k) c.args.byte q.1), λ q. bits ∙ p.1 (omega (arith, q.0, c.fits-block.0), eqb-true (slice_index block k) c.args.byte q.1));
+}

@@ -1,0 +1,85 @@
+-- The first byte of a text that passes a test, by the bits of its first block.
+use Rattle.std.specs.Prelude.{◌≡◌, ◌≢◌, ℕ, zero, suc, ◌/◌, ◌^◌, ◌<◌, ◌≤◌, ◌||◌, Bool, true, false, List, [], ◌∷◌, length, take, bit_or, slice_index, if◌then◌else◌}
+use Rattle.std.specs.Int.{bit_at, trailing_zeros}
+use Rattle.std.specs.Simd.Lanes.{chunk}
+use Rattle.std.proofs.Common.{refl, sym, ap, ◌∙◌, arith, zero-add, zero-lt-suc, mod-lt, w64, inl, inr}
+use Rattle.std.proofs.lemmas.Bool.{cases_eq, or_cases, or_left, or_right, false_from_ne_true}
+use Rattle.std.proofs.lemmas.Nat.Bits.{bit_at-trailing_zeros, bit_at_or}
+use Rattle.std.proofs.lemmas.Simd.{get_or-chunk}
+use Rattle.sj_scan.specs.Positions.{is_whitespace, is_operator}
+use Rattle.sj_parse.specs.Token.{word}
+use Rattle.sj_parse.specs.inside.Blocks.{Places}
+
+-- ---- two tests in one
+
+pub either : {p q : ℕ → Bool} {block : List ℕ} {a b : ℕ} → Places p block a → Places q block b → Places (λ x. p x || q x) block (bit_or a b)
+either {p} {q} {block} {a} {b} of_p of_q = record {
+  bits = λ k.
+      let x = slice_index block k in
+      let both = bit_at_or a b k in
+      let a_bit : bit_at a k < 2 = mod-lt (a / 2 ^ k) (zero-lt-suc 1) in
+      let b_bit : bit_at b k < 2 = mod-lt (b / 2 ^ k) (zero-lt-suc 1) in (
+        λ set. elim (cases_eq (bit_at a k) 1) [
+          | inl one ↦ let h = (of_p.bits k).0 one in (h.0, or_left (p x) (q x) h.1)
+          | inr other ↦ let h = (of_q.bits k).0 (omega (arith, both, set, other)) in (h.0, or_right (p x) (q x) h.1)
+        ],
+        λ h. elim (or_cases (p x) (q x) h.1) [
+          | inl one ↦ let set = (of_p.bits k).1 (h.0, one) in omega (arith, both, set, b_bit)
+          | inr other ↦ let set = (of_q.bits k).1 (h.0, other) in omega (arith, both, set, a_bit)
+        ],
+      );
+}
+
+pub same_places : {p q : ℕ → Bool} {block : List ℕ} {a : ℕ} → ((x : ℕ) → p x ≡ q x) → Places p block a → Places q block a
+same_places {p} {q} {block} {a} same of_p = record {
+  bits = λ k.
+      let x = slice_index block k in
+      (λ set. let h = (of_p.bits k).0 set in (h.0, sym (same x) ∙ h.1), λ h. (of_p.bits k).1 (h.0, same x ∙ h.1));
+}
+
+pub any_of_four : (a b c d : Bool) → (((a || b) || c) || d) ≡ (a || b || c || d)
+any_of_four true b c d = refl
+any_of_four false true c d = refl
+any_of_four false false c d = refl
+
+pub any_of_six : (a b c d e f : Bool) → (((((a || b) || c) || d) || e) || f) ≡ (a || b || c || d || e || f)
+any_of_six true b c d e f = refl
+any_of_six false true c d e f = refl
+any_of_six false false true d e f = refl
+any_of_six false false false true e f = refl
+any_of_six false false false false e f = refl
+
+-- ---- the lowest bit
+
+-- The first byte that passes the test stands at that place.
+pub record IsFirst (test : ℕ → Bool) (bytes : List ℕ) (place : ℕ) : Type 0 where
+  pub within : place < length bytes
+  pub passes : test (slice_index bytes place) ≡ true
+  pub none : (k : ℕ) → k < place → test (slice_index bytes k) ≡ false
+
+pub lowest_place : (test : ℕ → Bool) (bytes : List ℕ) (m : ℕ) → 32 ≤ length bytes → m < 2 ^ 64 → m ≢ 0 → Places test (chunk 0 32 bytes) m → IsFirst test bytes (trailing_zeros w64 m)
+lowest_place test bytes m long fits some places =
+    let first = trailing_zeros w64 m in
+    let low = bit_at-trailing_zeros w64 m (omega (arith, some)) fits in
+    let here = (places.bits first).0 low.1 in
+    let at = λ (k : ℕ) (h : k < 32). get_or-chunk 0 32 bytes k 0 h ∙ ap (slice_index bytes) (zero-add k) in
+    record {
+      within = omega (arith, here.0);
+      passes = ap test (sym (at first here.0)) ∙ here.1;
+      none = λ k h. false_from_ne_true (test (slice_index bytes k)) (λ e.
+          let near : k < 32 = omega (arith, here.0) in
+          let set = (places.bits k).1 (near, ap test (at k near) ∙ e) in
+          let unset = low.2 k h in omega (arith, set, unset));
+    }
+
+-- ---- words
+
+abbrev pub is_separator : ℕ → Bool
+is_separator b = is_whitespace b || is_operator b
+
+pub word-first : (bytes : List ℕ) (n : ℕ) → IsFirst is_separator bytes n → take n bytes ≡ word bytes
+word-first [] n first = let within = first.within in absurd (omega (arith, within))
+word-first (b ∷ bs) zero first = sym (ap (λ (stop : Bool). if stop then [] else b ∷ word bs) first.passes)
+word-first (b ∷ bs) (suc n) first =
+    let rest : IsFirst is_separator bs n = record { within = omega (arith, first.within); passes = first.passes; none = λ k h. first.none (suc k) (omega arith) } in
+    ap (λ (ys : List ℕ). b ∷ ys) (word-first bs n rest) ∙ sym (ap (λ (stop : Bool). if stop then [] else b ∷ word bs) (first.none 0 (omega arith)))
