@@ -61,7 +61,7 @@ build() { # build FILE COMMAND..
 
 # The rows of the tables, each as PROGRAM KIND. Of simdjson there is one with its kernel for AVX2, named haswell, and one
 # with the kernel that it chooses.
-rows=("read_bench tape" "json tape" "simdjson-haswell tape" "simdjson tape" "read_bench scan" "read_bench print" "simdjson-haswell print" "simdjson print")
+rows=("read_bench tape" "read_bench plain" "json tape" "simdjson-haswell tape" "simdjson tape" "read_bench scan" "read_bench print" "simdjson-haswell print" "simdjson print")
 
 # Prints a contestant as PROGRAM KIND: a program that is built for each level has the level in its name.
 at_level() { # at_level LEVEL PROGRAM KIND
@@ -121,10 +121,12 @@ rates() { # rates LEVEL PROGRAM KIND
     row "$2 $3" %.0f "${cells[@]}"
 }
 
+# A tape by another scan is compared with simdjson's tape.
 ratios() { # ratios LEVEL PROGRAM KIND
-    local contestant name cells=()
+    local contestant name peer=$3 cells=()
+    if [ "$peer" = plain ]; then peer=tape; fi
     contestant=$(at_level "$@")
-    for name in "${names[@]}"; do cells+=("${least[$contestant $name]}" "${least[simdjson-haswell $3 $name]}"); done
+    for name in "${names[@]}"; do cells+=("${least[$contestant $name]}" "${least[simdjson-haswell $peer $name]}"); done
     row "$2 $3" %.2f "${cells[@]}"
 }
 

@@ -10,14 +10,16 @@ const ABOUT: &str =
     "Times the reading or the printing of JSON, and prints the median and the least time of a pass in nanoseconds, and the number of documents refused";
 
 /// The words of the kinds.
-const KINDS: [&str; 3] = ["tape", "scan", "print"];
+const KINDS: [&str; 4] = ["tape", "plain", "scan", "print"];
 
 /// What a pass does with each document.
 #[derive(Clone, Copy, Debug, PartialEq, Eq)]
 pub enum Kind {
-    /// Reads it into a tape.
+    /// Reads it into a tape, with the scan that `sj_parse` uses.
     Tape,
-    /// Finds its positions, which is stage one of reading.
+    /// Reads it into a tape, with the scan byte by byte.
+    Plain,
+    /// Finds its positions, which is stage one of reading, by the scan that `sj_parse` uses.
     Scan,
     /// Prints its tape, which was read before.
     Print,
@@ -37,6 +39,7 @@ impl FromStr for Kind {
     fn from_str(word: &str) -> Result<Kind, UnknownKind> {
         match word {
             "tape" => Ok(Kind::Tape),
+            "plain" => Ok(Kind::Plain),
             "scan" => Ok(Kind::Scan),
             "print" => Ok(Kind::Print),
             _ => Err(UnknownKind),

@@ -5,6 +5,7 @@ ghost use Rattle.read_bench.specs.Refused.{refused_by};
 use crate::arguments::Kind;
 use crate::passes::{Pass, PrintPass, ScanPass, TapePass};
 use crate::stats::Stats;
+use sj_scan::{BlockScan, PlainScan};
 use std::alloc::Global;
 use std::io;
 use std::time::{Clock, Duration, Instant};
@@ -36,7 +37,18 @@ pub fn measure<R: Clock>(
     ensures { IfOk result (λ m. m.refused ≡ refused_by kind documents.items) }
 {
     match kind {
-        Kind::Tape => repeat(rt, alloc, &mut TapePass::new(alloc, documents)?, duration),
+        Kind::Tape => repeat(
+            rt,
+            alloc,
+            &mut TapePass::new(alloc, documents, BlockScan)?,
+            duration,
+        ),
+        Kind::Plain => repeat(
+            rt,
+            alloc,
+            &mut TapePass::new(alloc, documents, PlainScan)?,
+            duration,
+        ),
         Kind::Scan => repeat(rt, alloc, &mut ScanPass::new(alloc, documents), duration),
         Kind::Print => {
             let mut documents = documents;

@@ -6,15 +6,12 @@ ghost use Rattle.read_bench.specs.Printed.{text_of};
 ghost use Rattle.read_bench.specs.Refused.{is_refused, is_refused_by_scan, tapes_refused, scans_refused};
 
 use sj_base::ErrorType;
-use sj_parse::{Buffers, fill_tape};
-use sj_scan::{ScanFault, Stage1};
+use sj_parse::{Buffers, fill_tape_by};
+use sj_scan::{BlockScan, ScanFault, Stage1};
 use sj_tape::Tape;
 use std::alloc::{AllocError, Global};
 use std::io;
 use std::time::{Clock, Duration, Instant};
-
-// The scan of `sj_parse`.
-use sj_scan::BlockScan as Scanner;
 
 /// The time of a pass, and the number of documents that it refused.
 #[derive(Clone, Copy, Debug, PartialEq, Eq)]
@@ -37,37 +34,48 @@ pub trait Pass {
         ensures again { refusals self.new ≡ refusals self.old };
 }
 
-/// Reads each document into one tape. The room for positions is kept from pass to pass, and that of the tape from
-/// document to document.
+/// Reads each document into one tape, with its positions from the scanner. The room for positions is kept from pass to
+/// pass, and that of the tape from document to document.
 #[derive(Drop)]
-pub struct TapePass {
+pub struct TapePass<S: Stage1 + Drop> {
     alloc: Global,
     documents: Vec<Vec<u8>>,
+    scanner: S,
     buffers: Buffers,
     ghost limit: { buffer_limit buffers ≡ DEFAULT_MAX_DEPTH },
 }
 
-impl TapePass {
-    pub fn new(alloc: Global, documents: Vec<Vec<u8>>) -> Result<TapePass, AllocError>
+impl<S: Stage1 + Drop> TapePass<S> {
+    pub fn new(
+        alloc: Global,
+        documents: Vec<Vec<u8>>,
+        scanner: S,
+    ) -> Result<TapePass<S>, AllocError>
         ensures { IfOk result (λ pass. pass.documents ≡ documents) }
     {
         let buffers = Buffers::new(alloc, 0)?;
         Ok(TapePass {
             alloc,
             documents,
+            scanner,
             buffers,
         })
     }
 }
 
-impl Pass for TapePass {
+impl<S: Stage1 + Drop> Pass for TapePass<S> {
     ghost refusals = { λ pass. tapes_refused pass.documents.items };
 
     fn time<R: Clock>(&mut self, rt: &R) -> io::Result<Timed> {
         // Reading rewrites the text.
         let mut copies = self.documents.clone()?;
         let start = Instant::now(rt)?;
-        let refused = read_all(self.alloc, &mut copies, &mut self.buffers)?;
+        let refused = read_all(
+            self.alloc,
+            &mut self.scanner,
+            &mut copies,
+            &mut self.buffers,
+        )?;
         let duration = start.elapsed(rt)?;
         Ok(Timed { duration, refused })
     }
@@ -122,7 +130,7 @@ impl<'t> PrintPass<'t> {
         let mut rest = documents;
         while let Some((document, others)) = rest.split_first_mut() {
             let mut tape = Tape::empty(alloc);
-            if is_refused(document, &mut buffers, &mut tape)? {
+            if is_refused(&mut BlockScan, document, &mut buffers, &mut tape)? {
                 refused += 1;
             } else {
                 tapes.push(tape)?;
@@ -154,8 +162,9 @@ impl Pass for PrintPass<'_> {
 }
 
 /// Reads each document, and returns how many are refused.
-fn read_all(
+fn read_all<S: Stage1>(
     alloc: Global,
+    scanner: &mut S,
     documents: &mut [Vec<u8>],
     buffers: &mut Buffers,
 ) -> Result<usize, AllocError>
@@ -167,7 +176,7 @@ fn read_all(
     let mut refused = 0;
     let mut rest = documents;
     while let Some((document, others)) = rest.split_first_mut() {
-        if is_refused(document, buffers, &mut tape)? {
+        if is_refused(scanner, document, buffers, &mut tape)? {
             refused += 1;
         }
         rest = others;
@@ -176,7 +185,8 @@ fn read_all(
 }
 
 /// Reads a document into the tape, and returns `true` if it is refused. The tape is empty then.
-fn is_refused<'de>(
+fn is_refused<'de, S: Stage1>(
+    scanner: &mut S,
     document: &'de mut [u8],
     buffers: &mut Buffers,
     tape: &mut Tape<'de>,
@@ -185,7 +195,7 @@ fn is_refused<'de>(
     ensures refused { IfOk result (λ r. r ≡ is_refused document.entry.now) }
     ensures limit { buffer_limit buffers.new ≡ DEFAULT_MAX_DEPTH }
 {
-    match fill_tape(document, buffers, tape) {
+    match fill_tape_by(scanner, document, buffers, tape) {
         Ok(()) => Ok(false),
         Err(error) => {
             if error.error() == ErrorType::OutOfMemory {
@@ -216,7 +226,7 @@ fn is_refused_by_scan(document: &[u8], positions: &mut Vec<u32>) -> Result<bool,
     if document.len() > u32::MAX as usize {
         return Ok(true);
     }
-    match Scanner.scan(document, positions) {
+    match BlockScan.scan(document, positions) {
         Ok(()) => Ok(false),
         Err(fault) => {
             if fault == ScanFault::Memory {

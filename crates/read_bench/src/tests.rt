@@ -61,6 +61,7 @@ fn words(rt: HostRuntime) -> Result<(), Fail> {
     let alloc = rt.alloc();
     for (word, kind) in [
         ("tape", Ok(Kind::Tape)),
+        ("plain", Ok(Kind::Plain)),
         ("scan", Ok(Kind::Scan)),
         ("print", Ok(Kind::Print)),
         ("Tape", Err(UnknownKind)),
@@ -120,7 +121,12 @@ fn documents(rt: HostRuntime) -> Result<(), Fail> {
 #[test]
 fn runs(rt: HostRuntime) -> Result<(), Fail> {
     let alloc = rt.alloc();
-    for (kind, refused) in [(Kind::Tape, 2), (Kind::Scan, 1), (Kind::Print, 2)] {
+    for (kind, refused) in [
+        (Kind::Tape, 2),
+        (Kind::Plain, 2),
+        (Kind::Scan, 1),
+        (Kind::Print, 2),
+    ] {
         let bytes = Vec::from_slice(alloc, b"{\"a\":[1,2.5]}\n[1,]\n\"b\\n\"\n\"c")?;
         let documents = split(alloc, bytes, "lines")?;
         let clock = Steps {

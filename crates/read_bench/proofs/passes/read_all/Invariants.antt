@@ -5,7 +5,7 @@ use Rattle.read_bench.specs.Refused.{tapes_refused}
 use Rattle.read_bench.proofs.passes.read_all.Given as goal
 
 abbrev pub invariant-loop-document : goal.invariant-loop-document
-invariant-loop-document l = (l.refused + tapes_refused l.rest ≡ tapes_refused l.initial.rest) × (buffer_limit l.buffers ≡ DEFAULT_MAX_DEPTH)
+invariant-loop-document g l = (l.refused + tapes_refused l.rest ≡ tapes_refused l.initial.rest) × (buffer_limit l.buffers ≡ DEFAULT_MAX_DEPTH)
 
 abbrev pub decreases-loop-document : goal.decreases-loop-document
-decreases-loop-document l = length l.rest
+decreases-loop-document g l = length l.rest
