@@ -11,3 +11,5 @@ pub mod SetPlaces
 pub mod Walks
 pub mod Utf8
 pub mod Lookup
+pub mod Skips
+pub mod Rests

@@ -13,7 +13,7 @@ use lib.Lanes.{chunk}
 use Rattle.sj_scan.specs.Positions.{is_odd, real_quotes, is_separated, is_position, before}
 use Rattle.sj_scan.specs.Scan.{is_control}
 use Rattle.sj_scan.specs.inside.Masks.{is_set, Marks, set_places}
-use Rattle.sj_scan.specs.inside.Blocks.{before_in, test_in}
+use Rattle.sj_scan.specs.inside.Blocks.{before_in, test_in, filled_up}
 use Rattle.sj_scan.proofs.Places.{before-more}
 use Rattle.sj_scan.proofs.Words.{bit_cases}
 use Rattle.sj_scan.proofs.SetPlaces.{set_places-none, set_places-filter, any_set}
@@ -80,17 +80,17 @@ IsFilled-whole bytes at within = record {
   spaces = λ place from below. absurd (omega arith);
 }
 
-pub IsFilled-rest : (bytes block : List ℕ) (at : ℕ) → at ≤ length bytes → length bytes < at + 64 → block ≡ drop at bytes ++ replicate (64 - (length bytes - at)) 0x20
-    → IsFilled bytes block at (length bytes - at)
-IsFilled-rest bytes block at within last is =
-    let n = length bytes - at in
+pub IsFilled-rest : (bytes : List ℕ) (at : ℕ) → at ≤ length bytes → length bytes ≤ at + 64 → IsFilled bytes (filled_up (drop at bytes)) at (length bytes - at)
+IsFilled-rest bytes at within last =
+    let rest = drop at bytes in
     let long = length-drop at bytes in
     record {
       few = omega arith;
       within = omega arith;
-      same = λ place below. ap (λ bs. slice_index bs place) is ∙ get_or_append_left (drop at bytes) (replicate (64 - n) 0x20) 0 place (omega arith) ∙ get_or-drop at bytes place 0;
+      same = λ place below. get_or_append_left rest (replicate (64 - length rest) 0x20) 0 place (omega arith) ∙ get_or-drop at bytes place 0;
       spaces = λ place from below.
-          ap (λ bs. slice_index bs place) is ∙ get_or-append_right (drop at bytes) (replicate (64 - n) 0x20) n place 0 long from ∙ get_or-replicate (64 - n) (place - n) 0x20 0 (omega arith);
+          get_or-append_right rest (replicate (64 - length rest) 0x20) (length bytes - at) place 0 long from
+          ∙ get_or-replicate (64 - length rest) (place - (length bytes - at)) 0x20 0 (omega arith);
     }
 
 module _ (bytes block : List ℕ) (at n : ℕ) (filled : IsFilled bytes block at n) where

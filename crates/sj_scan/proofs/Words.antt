@@ -1,8 +1,8 @@
 -- One bit of a word, through each operation on words.
 use Rattle.std.proofs.Common.{◌≡◌, ℕ, zero, suc, ◌+◌, ◌-◌, ◌*◌, ◌/◌, ◌%◌, ◌^◌, ◌<◌, ◌≤◌, min, max, Bool, true, false, not, ◌&&◌, ◌||◌, ◌==◌, refl, sym, ap, ◌∙◌, arith, w64, pow_pos, bit_and, bit_or, bit_xor}
 use Rattle.std.specs.Int.{bit_at}
-use Rattle.std.proofs.lemmas.Nat.Bits.{bit_at_and, bit_at_or, bit_at_xor, bit_at_not, bit_at-lt, bit_at-suc, bit_at-zero, bit_at_lowest, bit_at_cat_low, bit_at_cat_high}
-use lib.Pow.{split}
+use Rattle.std.proofs.lemmas.Nat.Bits.{bit_at_and, bit_at_or, bit_at_xor, bit_at_not, bit_at-lt, bit_at-suc, bit_at-zero, bit_at_lowest, bit_at_cat_low, bit_at_cat_high, bit_at_above}
+use lib.Pow.{split, shr-shr}
 use Rattle.sj_scan.specs.inside.Masks.{is_set, differ, first_if, all_if}
 
 -- what holds of 0 and 1 holds of a bit
@@ -90,14 +90,19 @@ pub first_if-fits : (b : Bool) → first_if b < 2 ^ 64
 first_if-fits true = omega arith
 first_if-fits false = omega arith
 
-all_set : (b : Bool) (place : ℕ) → place < 64 → is_set (2 ^ 64 - 1 - (2 ^ 64 - 1 - all_if b)) place ≡ b
-all_set true place within = is_set-not 0 place (omega arith) within ∙ ap not (is_set-none place)
-all_set false place within = is_set-none place
-
 pub is_set-all_if : (b : Bool) (place : ℕ) → place < 64 → is_set (all_if b) place ≡ b
-is_set-all_if true place within = all_set true place within
-is_set-all_if false place within = all_set false place within
+is_set-all_if true place within = is_set-not 0 place (omega arith) within ∙ ap not (is_set-none place)
+is_set-all_if false place within = is_set-none place
 
 pub all_if-fits : (b : Bool) → all_if b < 2 ^ 64
 all_if-fits true = omega arith
 all_if-fits false = omega arith
+
+-- a shift to the right
+pub is_set-shr : (count a place : ℕ) → is_set (a / 2 ^ count) place ≡ is_set a (count + place)
+unfolding is_set
+is_set-shr count a place = ap (λ n. n % 2 == 1) (shr-shr a count place)
+
+pub is_set-above : (a place : ℕ) → a < 2 ^ 64 → 64 ≤ place → is_set a place ≡ false
+unfolding is_set
+is_set-above a place fits above = ap (λ n. n == 1) (bit_at_above a 64 place fits above)

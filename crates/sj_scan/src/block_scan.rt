@@ -1,11 +1,14 @@
 //! The scan that reads 64 bytes at a time.
-ghost use Rattle.std.specs.Prelude.{◌≡◌, ◌+◌, ◌-◌, ◌<◌, ◌≤◌, [], ◌++◌, length, replicate, vec_capacity, IsOk, IfOk, OnOk, OnErr};
+ghost use Rattle.std.specs.Prelude.{◌≡◌, ◌+◌, ◌-◌, ◌≤◌, [], length, take, drop, vec_capacity, IsOk, IfOk, OnOk, OnErr};
+ghost use Rattle.std.specs.Str.{is_utf8};
+ghost use Rattle.simdutf8.specs.Tracks.{HasRead};
 ghost use Rattle.sj_scan.specs.Positions.{positions};
 ghost use Rattle.sj_scan.specs.inside.End.{Ends};
+ghost use Rattle.sj_scan.specs.inside.Blocks.{IsClassified, filled_up};
 ghost use Rattle.sj_scan.specs.inside.Walk.{HasWalked};
 
 use crate::end::End;
-use crate::masks::{Carry, read_block};
+use crate::masks::{Carry, Classes, is_ascii};
 use crate::push::{push_each_place, push_places};
 use crate::stage1::{ScanFault, Stage1};
 use simdutf8::Checker;
@@ -52,13 +55,13 @@ struct Walk {
     controls: u64,
 }
 
-// Reads the whole blocks of a text.
+// Reads whole blocks, and leaves from 1 to 64 bytes of a text that has some.
 fn read_blocks(bytes: &[u8], out: &mut Vec<u32>) -> Walk
     requires empty { out.old.items ≡ [] }
     requires short { length bytes.now ≤ 4294967295 }
     requires room { length bytes.now ≤ vec_capacity out.old }
-    ensures read { HasWalked bytes.now result out.new.items }
-    ensures rest { length bytes.now < result.at + BLOCK }
+    ensures walked { HasWalked bytes.now result out.new.items }
+    ensures rest { (result.at ≤ length bytes.now - 1) × (length bytes.now ≤ result.at + BLOCK) }
     ensures capacity { vec_capacity out.new ≡ vec_capacity out.old }
 {
     let mut walk = Walk {
@@ -67,9 +70,9 @@ fn read_blocks(bytes: &[u8], out: &mut Vec<u32>) -> Walk
         carry: Carry::start(),
         controls: 0,
     };
-    while bytes.len() - walk.at >= BLOCK {
+    while bytes.len() - walk.at > BLOCK {
         let block = u8x64::from_slice(&bytes[walk.at..]);
-        let (masks, carry) = read_block(block, walk.carry);
+        let (masks, carry) = Classes::of(block).masks(walk.carry);
         push_places(out, walk.at as u32, masks.positions);
         walk = Walk {
             at: walk.at + BLOCK,
@@ -81,30 +84,54 @@ fn read_blocks(bytes: &[u8], out: &mut Vec<u32>) -> Walk
     walk
 }
 
-// Reads the bytes behind the whole blocks.
+// Reads the bytes that are left.
 fn read_rest(bytes: &[u8], out: &mut Vec<u32>, walk: Walk) -> End
-    requires read { HasWalked bytes.now walk out.old.items }
-    requires rest { length bytes.now < walk.at + BLOCK }
+    requires walked { HasWalked bytes.now walk out.old.items }
+    requires rest { (walk.at ≤ length bytes.now - 1) × (length bytes.now ≤ walk.at + BLOCK) }
     requires short { length bytes.now ≤ 4294967295 }
     requires room { length bytes.now ≤ vec_capacity out.old }
     ensures positions { out.new.items ≡ positions bytes.now }
     ensures end { Ends bytes.now result }
     ensures capacity { vec_capacity out.new ≡ vec_capacity out.old }
 {
-    let block = filled_up(&bytes[walk.at..]);
-    let (masks, carry) = read_block(block, walk.carry);
+    let (classes, is_utf8) = classify_rest(bytes, walk.at, walk.utf8);
+    let (masks, carry) = classes.masks(walk.carry);
     push_each_place(out, walk.at as u32, masks.positions);
     End {
-        is_utf8: walk.utf8.step(block).finish(),
+        is_utf8,
         inside: carry.is_inside(),
         has_control: walk.controls | masks.controls != 0,
     }
 }
 
+// The classes of the bytes from `at` on, with spaces behind them, and whether the text is UTF-8.
+#[inline(always)]
+fn classify_rest(bytes: &[u8], at: usize, utf8: Checker) -> (Classes, bool)
+    requires read { HasRead utf8 (take at bytes.now) }
+    requires rest { (at ≤ length bytes.now - 1) × (length bytes.now ≤ at + BLOCK) }
+    ensures classes { IsClassified (filled_up (drop at bytes.now)) result.0 }
+    ensures utf8 { result.1 ≡ is_utf8 bytes.now }
+{
+    let rest = &bytes[at..];
+    if bytes.len() < BLOCK {
+        let block = filled_up(rest);
+        return (Classes::of(block), utf8.step(block).finish());
+    }
+    // The last block of the text is there without a copy, with bytes in front that were read before.
+    let block = u8x64::from_slice(&bytes[bytes.len() - BLOCK..]);
+    let classes = Classes::of(block).skipped((BLOCK - rest.len()) as u32);
+    let is_utf8 = if is_ascii(block) {
+        utf8.finish()
+    } else {
+        utf8.step(filled_up(rest)).finish()
+    };
+    (classes, is_utf8)
+}
+
 // The bytes, and spaces behind them.
 fn filled_up(rest: &[u8]) -> u8x64
-    requires { length rest.now < BLOCK }
-    ensures { result ≡ rest.now ++ replicate (BLOCK - length rest.now) 0x20 }
+    requires { length rest.now ≤ BLOCK }
+    ensures { result ≡ filled_up rest.now }
 {
     let mut block = [b' '; BLOCK];
     block[..rest.len()].copy_from_slice(rest);

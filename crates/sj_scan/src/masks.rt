@@ -2,12 +2,13 @@
 //!
 //! A mask has one bit for each byte, the lowest for the first. The tricks on masks are simdjson's (Langdale and Lemire,
 //! "Parsing Gigabytes of JSON per Second").
-ghost use Rattle.std.specs.Prelude.{◌≡◌, ℕ, suc, ◌==◌, List, [], slice_index, nat_lt, Bool};
+ghost use Rattle.std.specs.Prelude.{◌≡◌, ℕ, suc, ◌<◌, ◌==◌, List, [], ◌++◌, length, drop, replicate, slice_index, nat_lt, Bool, IsTrue};
+ghost use Rattle.std.specs.Str.{IsAscii};
 ghost use Rattle.sj_scan.specs.Positions.{is_whitespace, is_operator, is_odd, backslashes, real_quotes, is_real_quote, is_separated, is_position};
 ghost use Rattle.sj_scan.specs.Scan.{is_control};
 ghost use Rattle.sj_scan.specs.inside.Lanes.{Computes, IsFourfold, low_entry};
 ghost use Rattle.sj_scan.specs.inside.Masks.{is_set, Marks, first_if, all_if, is_odd_run, is_odd_count};
-ghost use Rattle.sj_scan.specs.inside.Blocks.{before_in, test_in, Precedes};
+ghost use Rattle.sj_scan.specs.inside.Blocks.{before_in, test_in, Precedes, IsClassified};
 
 use std::simd::prelude::*;
 
@@ -38,6 +39,16 @@ pub(crate) struct Carry {
     separated: u64,
 }
 
+// The bytes of a block by kind.
+#[derive(Clone, Copy)]
+pub(crate) struct Classes {
+    backslashes: u64,
+    quotes: u64,
+    operators: u64,
+    whitespace: u64,
+    below_space: u64,
+}
+
 // What is at each place of a block.
 #[derive(Clone, Copy)]
 pub(crate) struct Masks {
@@ -64,30 +75,76 @@ impl Carry {
     }
 }
 
+impl Classes {
+    #[inline(always)]
+    pub(crate) fn of(block: u8x64) -> Classes
+        ensures { IsClassified block result }
+    {
+        let below_space = below(block, b' ');
+        Classes {
+            backslashes: equal_to(block, b'\\'),
+            quotes: equal_to(block, b'"'),
+            operators: operators(block, below_space),
+            whitespace: whitespace(block),
+            below_space,
+        }
+    }
+
+    // The classes without those of the first places, and those of as many spaces at the end.
+    #[inline(always)]
+    pub(crate) fn skipped(self, count: u32) -> Classes
+        requires { count < 64 }
+        ensures { (block : List ℕ) → length block ≡ 64 → IsClassified block self → IsClassified (drop count block ++ replicate count 0x20) result }
+    {
+        Classes {
+            backslashes: self.backslashes >> count,
+            quotes: self.quotes >> count,
+            operators: self.operators >> count,
+            whitespace: (self.whitespace >> count) | !(u64::MAX >> count),
+            below_space: self.below_space >> count,
+        }
+    }
+
+    #[inline(always)]
+    pub(crate) fn masks(self, carry: Carry) -> (Masks, Carry)
+        ensures positions { (before block : List ℕ) → Precedes before carry → IsClassified block self → Marks result.0.positions (test_in is_position before block) }
+        ensures controls { (before block : List ℕ) → Precedes before carry → IsClassified block self → Marks result.0.controls (test_in is_control before block) }
+        ensures carry { (before block : List ℕ) → Precedes before carry → IsClassified block self → Precedes (before_in before block 64) result.1 }
+    {
+        let (quotes, odd_backslashes) = self.real_quotes(carry.odd_backslashes);
+        let inside_after = prefix_xor(quotes) ^ carry.inside;
+        let inside = inside_after ^ quotes;
+        let separators = self.whitespace | self.operators | quotes;
+        let separated = shifted(separators, carry.separated);
+        let masks = Masks {
+            positions: !inside & !self.whitespace & (self.operators | quotes | separated),
+            controls: self.below_space & inside,
+        };
+        let next = Carry {
+            odd_backslashes,
+            inside: spread(last(inside_after)),
+            separated: last(separators),
+        };
+        (masks, next)
+    }
+
+    // The real quotes, and the carry of backslashes of the next block.
+    #[inline(always)]
+    fn real_quotes(self, carry: u64) -> (u64, u64)
+        ensures quotes { (before block : List ℕ) → carry ≡ first_if (is_odd (backslashes before)) → IsClassified block self → Marks result.0 (test_in is_real_quote before block) }
+        ensures carry { (before block : List ℕ) → carry ≡ first_if (is_odd (backslashes before)) → IsClassified block self → result.1 ≡ first_if (is_odd (backslashes (before_in before block 64))) }
+    {
+        let (escaped, next) = escaped(self.backslashes, carry);
+        (self.quotes & !escaped, next)
+    }
+}
+
+// Whether all bytes of the block are ASCII.
 #[inline(always)]
-pub(crate) fn read_block(block: u8x64, carry: Carry) -> (Masks, Carry)
-    ensures positions { (before : List ℕ) → Precedes before carry → Marks result.0.positions (test_in is_position before block) }
-    ensures controls { (before : List ℕ) → Precedes before carry → Marks result.0.controls (test_in is_control before block) }
-    ensures carry { (before : List ℕ) → Precedes before carry → Precedes (before_in before block 64) result.1 }
+pub(crate) fn is_ascii(block: u8x64) -> bool
+    ensures { IsTrue result → IsAscii block }
 {
-    let below_space = below_space(block);
-    let operators = operators(block, below_space);
-    let whitespace = whitespace(block);
-    let (quotes, odd_backslashes) = real_quotes(block, carry.odd_backslashes);
-    let inside_after = prefix_xor(quotes) ^ carry.inside;
-    let inside = inside_after ^ quotes;
-    let separators = whitespace | operators | quotes;
-    let separated = shifted(separators, carry.separated);
-    let masks = Masks {
-        positions: !inside & !whitespace & (operators | quotes | separated),
-        controls: below_space & inside,
-    };
-    let next = Carry {
-        odd_backslashes,
-        inside: spread(last(inside_after)),
-        separated: last(separators),
-    };
-    (masks, next)
+    below(block, 0x80) == u64::MAX
 }
 
 #[inline(always)]
@@ -124,20 +181,10 @@ fn equal_to(block: u8x64, byte: u8) -> u64
 }
 
 #[inline(always)]
-fn below_space(block: u8x64) -> u64
-    ensures { Marks result (λ place. nat_lt (slice_index block place) 0x20) }
+fn below(block: u8x64, byte: u8) -> u64
+    ensures { Marks result (λ place. nat_lt (slice_index block place) byte) }
 {
-    block.simd_lt(u8x64::splat(b' ')).to_bitmask()
-}
-
-// The real quotes, and the carry of backslashes of the next block.
-#[inline(always)]
-fn real_quotes(block: u8x64, carry: u64) -> (u64, u64)
-    ensures quotes { (before : List ℕ) → carry ≡ first_if (is_odd (backslashes before)) → Marks result.0 (test_in is_real_quote before block) }
-    ensures carry { (before : List ℕ) → carry ≡ first_if (is_odd (backslashes before)) → result.1 ≡ first_if (is_odd (backslashes (before_in before block 64))) }
-{
-    let (escaped, next) = escaped(equal_to(block, b'\\'), carry);
-    (equal_to(block, b'"') & !escaped, next)
+    block.simd_lt(u8x64::splat(byte)).to_bitmask()
 }
 
 // The places directly behind a run of backslashes of odd length, and the carry of the next block.

@@ -14,23 +14,24 @@ loop-walk-preserved c =
     let bytes = c.args.bytes.now in
     let at = c.loop-walk.walk.at in
     let block = chunk at 64 bytes in
-    let walked = c.loop-walk.invariant.read in
+    let walked = c.loop-walk.invariant.walked in
     let within : at + 64 ≤ length bytes = omega arith in
     let filled = IsFilled-whole bytes at within in
-    let marked = set_places-is bytes block at 64 filled is_position is_position-space c.read_block.result.0.positions (c.read_block.ensures.positions (before bytes at) walked.carry) in
-    let controlled = any_set-is bytes block at 64 filled is_control is_control-space c.read_block.result.0.controls (c.read_block.ensures.controls (before bytes at) walked.carry) in
+    let marked = set_places-is bytes block at 64 filled is_position is_position-space c.masks.result.0.positions (c.masks.ensures.positions (before bytes at) block walked.carry c.of.ensures) in
+    let controlled = any_set-is bytes block at 64 filled is_control is_control-space c.masks.result.0.controls (c.masks.ensures.controls (before bytes at) block walked.carry c.of.ensures) in
     let found = c.push_places.ensures.items in
     record {
-      read = record {
+      walked = record {
         within = within;
         positions = found ∙ ap₂ (λ xs ys. xs ++ ys) walked.positions marked ∙ filter-range (is_position_at bytes) at 64;
-        control = or-zero c.loop-walk.walk.controls c.read_block.result.0.controls ∙ ap₂ (λ x y. x || y) walked.control controlled ∙ list_any-range (is_control_at bytes) at 64;
+        control = or-zero c.loop-walk.walk.controls c.masks.result.0.controls ∙ ap₂ (λ x y. x || y) walked.control controlled ∙ list_any-range (is_control_at bytes) at 64;
         utf8 = subst (HasRead c.step.result) (sym (take-add at 64 bytes)) (c.step.ensures (take at bytes) walked.utf8);
-        carry = subst (λ earlier. Precedes earlier c.read_block.result.1) (before_in-all bytes block at 64 filled refl) (c.read_block.ensures.carry (before bytes at) walked.carry);
+        carry = subst (λ earlier. Precedes earlier c.masks.result.1) (before_in-all bytes block at 64 filled refl) (c.masks.ensures.carry (before bytes at) block walked.carry c.of.ensures);
       };
+      left = omega arith;
       few =
           let longer = ap length found in
-          let sum = length-append c.loop-walk.out.items (set_places 64 at c.read_block.result.0.positions) in
+          let sum = length-append c.loop-walk.out.items (set_places 64 at c.masks.result.0.positions) in
           let places = ap length marked in
           let most = length-filter_range (is_position_at bytes) at 64 in
           omega arith;

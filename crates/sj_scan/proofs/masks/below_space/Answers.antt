@@ -1,8 +1,0 @@
-use Rattle.std.specs.Prelude.{nat_lt}
-use Rattle.sj_scan.proofs.Lanes.{block_itself, splat, lanewise, Marks-lanes, top-cond}
-use Rattle.sj_scan.proofs.masks.below_space.Goals as goal
-
-pub returns : goal.returns
-returns c =
-    let block = c.args.block in
-    Marks-lanes (λ byte. nat_lt byte 0x20) (lanewise _ (block_itself block c.fits-block.0) (splat block 0x20)) c.fits-block (λ byte within. top-cond (nat_lt byte 0x20))
