@@ -1,3 +1,4 @@
 -- Definitions that only contracts of private functions and laws of traits cite.
 pub mod Parts
 pub mod OutputLaws
+pub mod Plain

@@ -3,6 +3,7 @@
 //! The definitions of what a JSON text means, and of what is printed, stand in this crate's `specs`.
 #![tactic(auto)]
 
+mod append;
 mod decimal;
 mod error;
 mod fault;

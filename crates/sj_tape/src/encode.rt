@@ -18,6 +18,7 @@ use sj_reads::ValueAsScalar;
 use std::alloc::AllocError;
 
 #[cycle(print)]
+#[inline(always)]
 fn print_value<O: Output>(
     value: &Value<'_, '_>,
     layout: Layout,
