@@ -1,9 +1,9 @@
 -- Blocks of bytes that are tested for bytes that need an escape.
-use Rattle.std.proofs.Common.{◌≡◌, ℕ, suc, ◌+◌, ◌-◌, ◌%◌, ◌^◌, ◌≤◌, Bool, true, false, cond, ◌==◌, ◌||◌, ◌&&◌, inl, inr, List, [], ◌∷◌, ◌++◌, take, drop, append_assoc, map, length, get_or, replicate, bit_or, Fits, w8, flat_map, refl, sym, ap, ap₂, ◌∙◌, arith, rules}
+use Rattle.std.proofs.Common.{◌≡◌, ℕ, suc, ◌+◌, ◌-◌, ◌%◌, ◌^◌, ◌≤◌, ◌<◌, Bool, true, false, cond, ◌==◌, ◌||◌, ◌&&◌, inl, inr, List, [], ◌∷◌, ◌++◌, take, drop, set, append_assoc, map, length, get_or, replicate, bit_or, Fits, w8, flat_map, refl, sym, ap, ap₂, ◌∙◌, arith, rules}
 use Rattle.std.specs.Prelude.{IsTrue, nat_lt, slice_range}
 use Rattle.std.proofs.lemmas.Bool.{agree_below, agree_below_at, false≢true, cases_lt}
 use Rattle.std.proofs.lemmas.Simd.{length-chunk, zip2_splat, zip2_of_maps, map-map, mask_l-mod, none_from_empty_mask}
-use Rattle.std.proofs.lemmas.List.{length-map, take-append-drop, take-take, take_at, take_all, drop-take, length-take-le, length-append}
+use Rattle.std.proofs.lemmas.List.{length-map, take-append-drop, take-take, take-set-le, take-append-le, length-set, take_at, take_all, drop-take, length-take-le, length-append}
 use lib.Lanes.{chunk, mask_l, zip2, top}
 use Rattle.sj_base.specs.Text.{escaped}
 use Rattle.sj_base.specs.inside.Plain.{IsPlain}
@@ -95,3 +95,34 @@ plain_more_block text done n true true before after h = λ k from to. elim (case
   | inl low ↦ before refl k from low
   | inr high ↦ after refl k high to
 ]
+
+-- the last block of a text of which `done` bytes stand behind the first `at` bytes of a buffer
+pub last_placed : (old text buf placed : List ℕ) (at done last n : ℕ) → at ≤ length old → take (at + done) buf ≡ take at old ++ take done text → last ≤ done → done ≤ length text → last + n ≡ length text
+    → take (at + last + n) placed ≡ take (at + last) buf ++ slice_range text last (last + n) → take (at + length text) placed ≡ take at old ++ text
+last_placed old text buf placed at done last n room shown ordered within ends stored =
+    let place : at + length text ≡ at + last + n = omega (arith, ends) in
+    let front : at ≡ length (take at old) = sym (length-take-le at old room) in
+    ap (λ (k : ℕ). take k placed) place
+    ∙ stored
+    ∙ ap (λ (xs : List ℕ). xs ++ slice_range text last (last + n)) (sym (take-take (at + last) (at + done) buf (omega arith)))
+    ∙ last_block (take at old) text (take (at + done) buf) at done last n front shown ordered within ends
+
+-- one more block of a text
+pub more_placed : (old text buf placed : List ℕ) (at done n : ℕ) → take (at + done) buf ≡ take at old ++ take done text
+    → take (at + done + n) placed ≡ take (at + done) buf ++ slice_range text done (done + n) → take (at + (done + n)) placed ≡ take at old ++ take (done + n) text
+more_placed old text buf placed at done n shown stored =
+    let place : at + (done + n) ≡ at + done + n = omega arith in
+    ap (λ (k : ℕ). take k placed) place ∙ stored ∙ block_more (take at old) text (take (at + done) buf) done n shown
+
+-- The text of a buffer stays where only its room is written: a quote, some bytes and a quote.
+pub kept_front : (buf placed text : List ℕ) (len : ℕ) → len < length buf → take (len + 1 + length text) placed ≡ take (len + 1) (set buf len 0x22) ++ text → take len (set placed (len + 1 + length text) 0x22) ≡ take len buf
+kept_front buf placed text len room stored =
+    let opened = set buf len 0x22 in
+    let within : len + 1 ≤ length opened = omega (arith, room, length-set buf len 0x22) in
+    let front : len ≤ length (take (len + 1) opened) = omega (arith, length-take-le (len + 1) opened within) in
+    take-set-le len placed (len + 1 + length text) 0x22 (omega arith)
+    ∙ sym (take-take len (len + 1 + length text) placed (omega arith))
+    ∙ ap (λ (xs : List ℕ). take len xs) stored
+    ∙ take-append-le len (take (len + 1) opened) text front
+    ∙ take-take len (len + 1) opened (omega arith)
+    ∙ take-set-le len buf len 0x22 (omega arith)

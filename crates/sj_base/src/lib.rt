@@ -4,6 +4,7 @@
 #![tactic(auto)]
 
 mod append;
+mod buffer;
 mod decimal;
 mod error;
 mod fault;
@@ -12,6 +13,7 @@ pub mod laws;
 mod layout;
 mod output;
 mod part;
+mod place;
 mod put;
 mod scalar;
 mod static_node;
@@ -20,6 +22,7 @@ mod stream;
 mod tests;
 mod try_copy;
 
+pub use buffer::TextBuffer;
 pub use decimal::{Decimal, DecimalBuf, DecimalCow};
 pub use error::{Error, ErrorType};
 pub use fault::{AccessError, TryTypeError, WriteFault};
