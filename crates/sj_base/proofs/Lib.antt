@@ -19,3 +19,4 @@ pub mod Misses
 pub mod Prints
 pub mod LaidOut
 pub mod Towards
+mod Blocks

@@ -15,4 +15,5 @@ pub mod Names
 pub mod Classes
 pub mod Calls
 pub mod Output
+pub mod Buffer
 pub mod inside

@@ -1,2 +1,3 @@
 -- Definitions that only contracts of private functions and laws of traits cite.
 pub mod OutputLaws
+pub mod Plain

@@ -44,6 +44,7 @@ impl<'a> Decimal<'a> {
     }
 
     /// Returns the text of the literal.
+    #[inline(always)]
     pub fn as_str(&self) -> &'a str
         ensures text { result.now ≡ decimal_text self.now }
         ensures is_decimal { IsDecimal result.now }

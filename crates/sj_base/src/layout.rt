@@ -33,6 +33,7 @@ impl Layout {
     /// # Errors
     ///
     /// The fault of the output.
+    #[inline(always)]
     pub fn open_list<O: Output>(self, out: &mut O) -> Result<Container, O::Fault>
         requires { level_of self + 1 < 2 ^ 64 }
         ensures container { IfOk result (λ c. c ≡ opened_list self) }
@@ -53,6 +54,7 @@ impl Layout {
     /// # Errors
     ///
     /// The fault of the output.
+    #[inline(always)]
     pub fn open_object<O: Output>(self, out: &mut O) -> Result<Container, O::Fault>
         requires { level_of self + 1 < 2 ^ 64 }
         ensures container { IfOk result (λ c. c ≡ opened_object self) }
@@ -68,6 +70,7 @@ impl Layout {
         })
     }
 
+    #[inline(always)]
     fn inside(self) -> Layout
         requires { level_of self + 1 < 2 ^ 64 }
         ensures { result ≡ inside self }
@@ -78,6 +81,7 @@ impl Layout {
         }
     }
 
+    #[inline(always)]
     fn print_line_start<O: Output>(self, out: &mut O) -> Result<(), O::Fault>
         ensures ok { OnOk result (O.appends out.old out.new (line_start self)) }
         ensures err { OnErr result (O.begins out.old out.new (line_start self)) }
@@ -88,20 +92,23 @@ impl Layout {
         }
     }
 
+    #[inline(always)]
     fn print_key<O: Output>(self, key: &str, out: &mut O) -> Result<(), O::Fault>
         ensures ok { OnOk result (O.appends out.old out.new (quoted key.now ++ colon self)) }
         ensures err { OnErr result (O.begins out.old out.new (quoted key.now ++ colon self)) }
     {
         print_string(out, key)?;
-        out.put(self.colon())
+        self.print_colon(out)
     }
 
-    fn colon(self) -> &'static [u8]
-        ensures { result.now ≡ colon self }
+    #[inline(always)]
+    fn print_colon<O: Output>(self, out: &mut O) -> Result<(), O::Fault>
+        ensures ok { OnOk result (O.appends out.old out.new (colon self)) }
+        ensures err { OnErr result (O.begins out.old out.new (colon self)) }
     {
         match self {
-            Layout::Compact => b":",
-            Layout::Indented(_) => b": ",
+            Layout::Compact => out.put(b":"),
+            Layout::Indented(_) => out.put(b": "),
         }
     }
 }
@@ -117,6 +124,7 @@ pub struct Container {
 
 impl Container {
     /// Returns the layout of the items and of the members' values.
+    #[inline(always)]
     pub fn inside(&self) -> Layout
         ensures { result ≡ self.now.inside }
     {
@@ -128,14 +136,15 @@ impl Container {
     /// # Errors
     ///
     /// The fault of the output. Only a prefix is then printed.
+    #[inline(always)]
     pub fn next<O: Output>(&mut self, out: &mut O) -> Result<(), O::Fault>
         ensures container { self.new ≡ filled self.old }
         ensures ok { OnOk result (O.appends out.old out.new (before_next self.old)) }
         ensures err { OnErr result (O.begins out.old out.new (before_next self.old)) }
     {
-        let separator = self.separator();
+        let printed = self.print_separator(out);
         self.is_empty = false;
-        out.put(separator)?;
+        printed?;
         self.inside.print_line_start(out)
     }
 
@@ -145,6 +154,7 @@ impl Container {
     /// # Errors
     ///
     /// The fault of the output. Only a prefix is then printed.
+    #[inline(always)]
     pub fn key<O: Output>(&mut self, key: &str, out: &mut O) -> Result<(), O::Fault>
         ensures container { self.new ≡ filled self.old }
         ensures ok { OnOk result (O.appends out.old out.new
@@ -161,6 +171,7 @@ impl Container {
     /// # Errors
     ///
     /// The fault of the output. Only a prefix is then printed.
+    #[inline(always)]
     pub fn close<O: Output>(self, out: &mut O) -> Result<(), O::Fault>
         ensures ok { OnOk result (O.appends out.old out.new (end_text self)) }
         ensures err { OnErr result (O.begins out.old out.new (end_text self)) }
@@ -169,12 +180,15 @@ impl Container {
         out.put(&[self.closing])
     }
 
-    fn separator(&self) -> &'static [u8]
-        ensures { result.now ≡ (if self.now.is_empty then [] else 0x2c ∷ []) }
+    #[inline(always)]
+    fn print_separator<O: Output>(&self, out: &mut O) -> Result<(), O::Fault>
+        ensures ok { OnOk result (O.appends out.old out.new (if self.now.is_empty then [] else 0x2c ∷ [])) }
+        ensures err { OnErr result (O.begins out.old out.new (if self.now.is_empty then [] else 0x2c ∷ [])) }
     {
-        if self.is_empty { b"" } else { b"," }
+        if self.is_empty { Ok(()) } else { out.put(b",") }
     }
 
+    #[inline(always)]
     fn print_last_line_start<O: Output>(&self, out: &mut O) -> Result<(), O::Fault>
         ensures ok { OnOk result (O.appends out.old out.new
             (if self.now.is_empty then [] else line_start self.now.layout)) }

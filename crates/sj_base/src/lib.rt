@@ -3,6 +3,8 @@
 //! The definitions of what a JSON text means, and of what is printed, stand in this crate's `specs`.
 #![tactic(auto)]
 
+mod append;
+mod buffer;
 mod decimal;
 mod error;
 mod fault;
@@ -11,6 +13,7 @@ pub mod laws;
 mod layout;
 mod number;
 mod output;
+mod place;
 mod put;
 mod scalar;
 mod static_node;
@@ -19,6 +22,7 @@ mod stream;
 mod tests;
 mod try_copy;
 
+pub use buffer::TextBuffer;
 pub use decimal::{Decimal, DecimalBuf, DecimalCow};
 pub use error::{Error, ErrorType};
 pub use fault::{AccessError, TryTypeError, WriteFault};

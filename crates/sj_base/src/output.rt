@@ -1,8 +1,10 @@
 //! What text is printed to: a vector, or a sink.
-ghost use Rattle.std.specs.Prelude.{◌≡◌, List, ℕ, ◌++◌, OnOk, OnErr};
+ghost use Rattle.std.specs.Prelude.{◌≡◌, List, ℕ, [], ◌++◌, if◌then◌else◌, IfOk, OnOk, OnErr};
 ghost use Rattle.sj_base.specs.Output.{Continues, WritesAll, WritesPrefix};
+ghost use Rattle.sj_base.specs.Text.{quoted};
 ghost use Rattle.sj_base.specs.inside.OutputLaws.{vectors_continue, sinks_continue};
 
+use crate::append::{append, append_plain};
 use crate::fault::WriteFault;
 use crate::stream::Sink;
 use std::alloc::AllocError;
@@ -27,6 +29,18 @@ pub trait Output {
         ensures ok { OnOk result (appends self.old self.new bytes.now) }
         ensures err { OnErr result (begins self.old self.new bytes.now) };
 
+    /// Appends the text between quotes and returns `true`, or appends nothing and returns `false`.
+    ///
+    /// `true` is for texts in which no byte needs an escape. An output that has no faster way than [`put`](Output::put)
+    /// returns `false` for each text.
+    ///
+    /// # Errors
+    ///
+    /// The fault of the output. A prefix of the text between quotes is then appended.
+    fn put_plain(&mut self, text: &[u8]) -> Result<bool, Self::Fault>
+        ensures ok { IfOk result (λ done. appends self.old self.new (if done then quoted text.now else [])) }
+        ensures err { OnErr result (begins self.old self.new (quoted text.now)) };
+
     ghost laws: { Continues appends begins };
 }
 
@@ -40,8 +54,14 @@ impl Output for Vec<u8> {
 
     ghost laws = { vectors_continue };
 
+    #[inline(always)]
     fn put(&mut self, bytes: &[u8]) -> Result<(), AllocError> {
-        self.extend_from_slice(bytes)
+        append(self, bytes)
+    }
+
+    #[inline(always)]
+    fn put_plain(&mut self, text: &[u8]) -> Result<bool, AllocError> {
+        append_plain(self, text)
     }
 }
 
@@ -65,5 +85,9 @@ impl<W: Sink> Output for W {
             }
         }
         Ok(())
+    }
+
+    fn put_plain(&mut self, _text: &[u8]) -> Result<bool, WriteFault> {
+        Ok(false)
     }
 }

@@ -72,6 +72,7 @@ pub fn put_break(out: &mut Vec<u8>, level: usize) -> Result<(), AllocError>
 }
 
 /// Truncates `out` to `start` bytes if printing failed, and returns the result of the printing.
+#[inline(always)]
 pub fn whole_or_none(
     out: &mut Vec<u8>,
     start: usize,
@@ -92,6 +93,7 @@ pub fn whole_or_none(
 /// # Errors
 ///
 /// The fault of the output. A prefix of the text is then printed.
+#[inline(always)]
 pub fn print_text<O: Output>(out: &mut O, scalar: &Scalar<'_>) -> Result<(), O::Fault>
     ensures ok { OnOk result (O.appends out.old out.new (text (scalar_tree scalar.now))) }
     ensures err { OnErr result (O.begins out.old out.new (text (scalar_tree scalar.now))) }
@@ -103,15 +105,29 @@ pub fn print_text<O: Output>(out: &mut O, scalar: &Scalar<'_>) -> Result<(), O::
     }
 }
 
+#[inline(always)]
 pub(crate) fn print_string<O: Output>(out: &mut O, text: &str) -> Result<(), O::Fault>
     ensures ok { OnOk result (O.appends out.old out.new (quoted text.now)) }
     ensures err { OnErr result (O.begins out.old out.new (quoted text.now)) }
 {
+    if out.put_plain(text.as_bytes())? {
+        return Ok(());
+    }
+    print_pieces(out, text)
+}
+
+// Prints the string between quotes, in as many pieces as its escapes ask for.
+#[inline(never)]
+pub(crate) fn print_pieces<O: Output>(out: &mut O, text: &str) -> Result<(), O::Fault>
+    ensures ok { OnOk result (O.appends out.old out.new (quoted text.now)) }
+    ensures err { OnErr result (O.begins out.old out.new (quoted text.now)) }
+{
     out.put(b"\"")?;
-    print_body(out, text.as_bytes())?;
+    print_runs(out, text.as_bytes())?;
     out.put(b"\"")
 }
 
+#[inline(always)]
 pub(crate) fn print_break<O: Output>(out: &mut O, level: usize) -> Result<(), O::Fault>
     ensures ok { OnOk result (O.appends out.old out.new (line_break level)) }
     ensures err { OnErr result (O.begins out.old out.new (line_break level)) }
@@ -123,6 +139,7 @@ pub(crate) fn print_break<O: Output>(out: &mut O, level: usize) -> Result<(), O:
     Ok(())
 }
 
+#[inline(always)]
 fn print_static<O: Output>(out: &mut O, node: StaticNode) -> Result<(), O::Fault>
     ensures ok { OnOk result (O.appends out.old out.new (text (static_tree node))) }
     ensures err { OnErr result (O.begins out.old out.new (text (static_tree node))) }
@@ -136,23 +153,13 @@ fn print_static<O: Output>(out: &mut O, node: StaticNode) -> Result<(), O::Fault
     }
 }
 
+#[inline(always)]
 fn print_int<O: Output, I: JsonInteger>(out: &mut O, n: I) -> Result<(), O::Fault>
     ensures ok { OnOk result (O.appends out.old out.new (text (integer (I.number n)))) }
     ensures err { OnErr result (O.begins out.old out.new (text (integer (I.number n)))) }
 {
     let mut buffer = Buffer::new();
     out.put(buffer.format(n).as_bytes())
-}
-
-fn print_body<O: Output>(out: &mut O, text: &[u8]) -> Result<(), O::Fault>
-    ensures ok { OnOk result (O.appends out.old out.new (flat_map escaped text.now)) }
-    ensures err { OnErr result (O.begins out.old out.new (flat_map escaped text.now)) }
-{
-    if is_plain_text(text) {
-        out.put(text)
-    } else {
-        print_runs(out, text)
-    }
 }
 
 // Bytes that need no escape are copied in runs.
@@ -171,18 +178,8 @@ fn print_runs<O: Output>(out: &mut O, text: &[u8]) -> Result<(), O::Fault>
     out.put(&text[copied..])
 }
 
-// Whether no byte needs an escape. The loop has no early exit, so that it can be vectorized.
-fn is_plain_text(text: &[u8]) -> bool
-    ensures { IsTrue result → flat_map escaped text.now ≡ text.now }
-{
-    let mut plain = true;
-    for byte in text {
-        plain &= is_plain(*byte);
-    }
-    plain
-}
-
-fn is_plain(byte: u8) -> bool
+#[inline(always)]
+pub(crate) fn is_plain(byte: u8) -> bool
     ensures { IsTrue result → escaped byte ≡ byte ∷ [] }
 {
     byte >= b' ' && byte != b'"' && byte != b'\\'

@@ -26,6 +26,7 @@ impl<'t, 'i> Array<'t, 'i> {
     ghost use Rattle.sj_tape.specs.Views.{value_nodes, value_tree, nodes_tree, array_items, array_runs, items_left, array_item};
 
     /// Returns the first item and a view of the items after it, or `None` if the array has no items.
+    #[inline(always)]
     pub fn split_first(&self) -> Option<(Value<'t, 'i>, Array<'t, 'i>)>
         ensures items { MatchOption result (array_items self.now ≡ no_items)
             (λ p. array_items self.now ≡ item (value_tree p.0) (array_items p.1)) }

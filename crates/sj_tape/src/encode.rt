@@ -13,11 +13,13 @@ mod tests;
 use crate::array::Array;
 use crate::object::Object;
 use crate::value::Value;
-use sj_base::{Layout, Output, Sink, WriteFault, print_text, whole_or_none};
+use sj_base::{Layout, Output, Sink, TextBuffer, WriteFault, print_text, whole_or_none};
 use sj_reads::ValueAsScalar;
 use std::alloc::AllocError;
+use std::mem;
 
 #[cycle(print)]
+#[inline(always)]
 fn print_value<O: Output>(
     value: &Value<'_, '_>,
     layout: Layout,
@@ -92,7 +94,10 @@ fn append(value: Value<'_, '_>, layout: Layout, out: &mut Vec<u8>) -> Result<(),
     ensures err { OnErr result (out.new.items ≡ out.old.items) }
 {
     let start = out.len();
-    let printed = print(value, layout, out);
+    let alloc = *out.allocator();
+    let mut text = TextBuffer::new(mem::replace(out, Vec::new(alloc)));
+    let printed = print(value, layout, &mut text);
+    *out = text.into_vec();
     whole_or_none(out, start, printed)
 }
 

@@ -29,6 +29,7 @@ impl<'t, 'i> Object<'t, 'i> {
 
     /// Returns the key and the value of the first member and a view of the members after it, or `None` if the object has no
     /// members. A repeated key is shown at each of its members.
+    #[inline(always)]
     pub fn split_first(&self) -> Option<(&'i str, Value<'t, 'i>, Object<'t, 'i>)>
         ensures members { MatchOption result (object_members self.now ≡ no_members)
             (λ p. object_members self.now ≡ member p.0.now (value_tree p.1) (object_members p.2)) }

@@ -40,6 +40,7 @@ impl<'t, 'i> Value<'t, 'i> {
     }
 
     // Returns the first value of the nodes, and the nodes after it.
+    #[inline(always)]
     pub(crate) fn split_from(nodes: &'t [Node<'i>]) -> (Value<'t, 'i>, &'t [Node<'i>])
         requires { (t : Tree) × (rest : List Entry) × IsValidTree t × (entries nodes.now ≡ listing t ++ rest) }
         ensures parts { nodes.now ≡ value_nodes result.0 ++ result.1.now }
@@ -64,6 +65,7 @@ impl<'t, 'i> Value<'t, 'i> {
 
     /// Returns a view of the array, or `None` if the value isn't an array.
     #[tactic(auto, unfolding(crate::specs::Listed::tree_of))]
+    #[inline(always)]
     pub fn as_array(&self) -> Option<Array<'t, 'i>>
         ensures tree { option_map array_items result ≡ items_in (value_tree self.now) }
         ensures nodes { option_map array_part_of result ≡ array_part (value_nodes self.now) }
@@ -77,6 +79,7 @@ impl<'t, 'i> Value<'t, 'i> {
 
     /// Returns a view of the object, or `None` if the value isn't an object.
     #[tactic(auto, unfolding(crate::specs::Listed::tree_of))]
+    #[inline(always)]
     pub fn as_object(&self) -> Option<Object<'t, 'i>>
         ensures tree { option_map object_members result ≡ members_in (value_tree self.now) }
         ensures nodes { option_map object_part_of result ≡ object_part (value_nodes self.now) }
@@ -278,6 +281,7 @@ impl<'t, 'i> Value<'t, 'i> {
 
     // Returns the value if it isn't a container.
     #[tactic(auto, unfolding(crate::specs::Listed::tree_of))]
+    #[inline(always)]
     fn scalar(&self) -> Option<Scalar<'i>>
         ensures tree { option_map scalar_tree result ≡ scalar_in (value_tree self.now) }
         ensures kind { IfSome result (λ s. scalar_type s ≡ value_kind self.now) }
@@ -313,6 +317,7 @@ impl ValueAsScalar for Value<'_, '_> {
 
     ghost scalar = { λ v. scalar_in (value_tree v) };
 
+    #[inline(always)]
     fn as_scalar(&self) -> Option<Scalar<'_>> {
         self.scalar()
     }

@@ -13,13 +13,17 @@ prefix_behind xs taken rest ys e = ap (λ (l : List ℕ). xs ++ l) e ∙ sym (ap
 prefix_before : (taken rest xs ys : List ℕ) → xs ≡ taken ++ rest → xs ++ ys ≡ taken ++ (rest ++ ys)
 prefix_before taken rest xs ys e = ap (λ (l : List ℕ). l ++ ys) e ∙ append_assoc taken rest ys
 
-pub vectors_continue : Continues {S = Vec ℕ Global} (λ old new bytes. new.items ≡ old.items ++ bytes) (λ old new bytes. (taken rest : List ℕ) × (bytes ≡ taken ++ rest) × (new.items ≡ old.items ++ taken))
-vectors_continue = record {
-  none = λ s. sym (append-nil s.items);
-  then = λ s t u xs ys h k. k ∙ ap (λ (l : List ℕ). l ++ ys) h ∙ append_assoc s.items xs ys;
-  fails = λ s t u xs ys h k. (xs ++ k.0, k.1, prefix_behind xs k.0 k.1 ys k.2, k.3 ∙ ap (λ (l : List ℕ). l ++ k.0) h ∙ append_assoc s.items xs k.0);
+-- `items` is what was appended so far
+pub lists_continue : {S : Type 0} (items : S → List ℕ) → Continues {S = S} (λ old new bytes. items new ≡ items old ++ bytes) (λ old new bytes. (taken rest : List ℕ) × (bytes ≡ taken ++ rest) × (items new ≡ items old ++ taken))
+lists_continue items = record {
+  none = λ s. sym (append-nil (items s));
+  then = λ s t u xs ys h k. k ∙ ap (λ (l : List ℕ). l ++ ys) h ∙ append_assoc (items s) xs ys;
+  fails = λ s t u xs ys h k. (xs ++ k.0, k.1, prefix_behind xs k.0 k.1 ys k.2, k.3 ∙ ap (λ (l : List ℕ). l ++ k.0) h ∙ append_assoc (items s) xs k.0);
   before = λ s t xs ys h. (h.0, h.1 ++ ys, prefix_before h.0 h.1 xs ys h.2, h.3);
 }
+
+pub vectors_continue : Continues {S = Vec ℕ Global} (λ old new bytes. new.items ≡ old.items ++ bytes) (λ old new bytes. (taken rest : List ℕ) × (bytes ≡ taken ++ rest) × (new.items ≡ old.items ++ taken))
+vectors_continue = lists_continue (λ v. v.items)
 
 pub sinks_continue : {S : Type 0} (contents : S → Option (List ℕ)) (calls : S → Calls) → Continues {S = S} (λ old new bytes. WritesAll (contents old) (contents new) (calls old) (calls new) bytes) (λ old new bytes. WritesPrefix (contents old) (contents new) (calls old) (calls new) bytes)
 sinks_continue contents calls = record {

@@ -1,28 +1,16 @@
-use Rattle.std.proofs.Common.{List, ℕ, [], ◌∷◌, ◌++◌, flat_map, subst}
+use Rattle.std.proofs.Common.{Bool, [], if◌then◌else◌, subst}
 use Rattle.std.proofs.lemmas.Result.{on_ok_weaker, on_err_weaker}
-use Rattle.sj_base.specs.Text.{escaped}
-use Rattle.sj_base.proofs.Prints.{on_err}
+use Rattle.sj_base.specs.Text.{quoted}
 use Rattle.sj_base.proofs.put.print_string.Goals as goal
-
-pub returns-in_err-put-clause-err : goal.returns-in_err-put-clause-err
-returns-in_err-put-clause-err g c =
-    let l = g.met.O.Output.laws in
-    on_err c.from_residual.result (l.before _ _ (0x22 ∷ []) (flat_map escaped c.args.text.now ++ 0x22 ∷ []) c.in_err-put.ensures.err)
-
-pub returns-in_err-print_body-clause-err : goal.returns-in_err-print_body-clause-err
-returns-in_err-print_body-clause-err g c =
-    let l = g.met.O.Output.laws in
-    let body = flat_map escaped c.args.text.now in
-    on_err c.from_residual-in_err-print_body.result (l.fails _ _ _ (0x22 ∷ []) (body ++ 0x22 ∷ []) c.in_ok-put.ensures.ok (l.before _ _ body (0x22 ∷ []) (subst (λ (s : List ℕ). g.O.Output.begins c.put.new.self c.print_body.new.out (flat_map escaped s)) c.as_bytes.ensures.value c.in_err-print_body.ensures.err)))
 
 pub returns-clause-ok : goal.returns-clause-ok
 returns-clause-ok g c =
     let l = g.met.O.Output.laws in
-    let body = flat_map escaped c.args.text.now in
-    on_ok_weaker c.put-2.result (λ k. l.then _ _ _ (0x22 ∷ []) (body ++ 0x22 ∷ []) c.in_ok-put.ensures.ok (l.then _ _ _ body (0x22 ∷ []) (subst (λ (s : List ℕ). g.O.Output.appends c.put.new.self c.print_body.new.out (flat_map escaped s)) c.as_bytes.ensures.value c.in_ok-print_body.ensures.ok) k)) c.put-2.ensures.ok
+    let nothing = subst (λ (done : Bool). g.O.Output.appends c.args.out.now c.put_plain.new.self (if done then quoted c.as_bytes.result.now else [])) c.if-branch.false c.in_ok-put_plain.ensures.ok in
+    on_ok_weaker c.print_pieces.result (λ k. l.then _ _ _ [] (quoted c.args.text.now) nothing k) c.print_pieces.ensures.ok
 
 pub returns-clause-err : goal.returns-clause-err
 returns-clause-err g c =
     let l = g.met.O.Output.laws in
-    let body = flat_map escaped c.args.text.now in
-    on_err_weaker c.put-2.result (λ k. l.fails _ _ _ (0x22 ∷ []) (body ++ 0x22 ∷ []) c.in_ok-put.ensures.ok (l.fails _ _ _ body (0x22 ∷ []) (subst (λ (s : List ℕ). g.O.Output.appends c.put.new.self c.print_body.new.out (flat_map escaped s)) c.as_bytes.ensures.value c.in_ok-print_body.ensures.ok) k)) c.put-2.ensures.err
+    let nothing = subst (λ (done : Bool). g.O.Output.appends c.args.out.now c.put_plain.new.self (if done then quoted c.as_bytes.result.now else [])) c.if-branch.false c.in_ok-put_plain.ensures.ok in
+    on_err_weaker c.print_pieces.result (λ k. l.fails _ _ _ [] (quoted c.args.text.now) nothing k) c.print_pieces.ensures.err

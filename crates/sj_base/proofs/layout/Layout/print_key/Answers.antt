@@ -1,4 +1,3 @@
-use Rattle.std.proofs.Common.{List, ℕ, subst}
 use Rattle.std.proofs.lemmas.Result.{on_ok_weaker, on_err_weaker}
 use Rattle.sj_base.specs.Text.{quoted}
 use Rattle.sj_base.specs.Layout.{colon}
@@ -13,9 +12,9 @@ returns-in_err-print_string-clause-err g c =
 pub returns-clause-ok : goal.returns-clause-ok
 returns-clause-ok g c =
     let l = g.met.O.Output.laws in
-    on_ok_weaker c.put.result (λ k. l.then _ _ _ (quoted c.args.key.now) (colon c.args.self) c.in_ok-print_string.ensures.ok (subst (λ (xs : List ℕ). g.O.Output.appends c.print_string.new.out c.put.new.self xs) c.colon.ensures k)) c.put.ensures.ok
+    on_ok_weaker c.print_colon.result (λ k. l.then _ _ _ (quoted c.args.key.now) (colon c.args.self) c.in_ok-print_string.ensures.ok k) c.print_colon.ensures.ok
 
 pub returns-clause-err : goal.returns-clause-err
 returns-clause-err g c =
     let l = g.met.O.Output.laws in
-    on_err_weaker c.put.result (λ k. l.fails _ _ _ (quoted c.args.key.now) (colon c.args.self) c.in_ok-print_string.ensures.ok (subst (λ (xs : List ℕ). g.O.Output.begins c.print_string.new.out c.put.new.self xs) c.colon.ensures k)) c.put.ensures.err
+    on_err_weaker c.print_colon.result (λ k. l.fails _ _ _ (quoted c.args.key.now) (colon c.args.self) c.in_ok-print_string.ensures.ok k) c.print_colon.ensures.err

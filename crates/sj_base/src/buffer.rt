@@ -1,0 +1,95 @@
+//! A vector of bytes as an output that is faster than the vector itself.
+ghost use Rattle.std.specs.Prelude.{◌≡◌, ◌+◌, ◌≤◌, ◌<◌, ◌++◌, ℕ, List, length, OnOk};
+ghost use Rattle.sj_base.specs.inside.OutputLaws.{lists_continue};
+
+use crate::output::Output;
+use crate::place::{place_quoted, place_text};
+use std::alloc::AllocError;
+
+const ZEROS: [u8; 1024] = [0; 1024];
+
+/// A text that is printed, in a vector whose room is initialized ahead, so that a piece is stored by a test and a copy.
+#[derive(Drop)]
+pub struct TextBuffer {
+    bytes: Vec<u8>,
+    len: usize,
+    ghost within: { len ≤ length bytes.items },
+}
+
+impl TextBuffer {
+    ghost use Rattle.sj_base.specs.Buffer.{buffer_text};
+
+    /// Creates a buffer whose text is the bytes of a vector, to append to. Takes no memory.
+    pub fn new(bytes: Vec<u8>) -> TextBuffer
+        ensures { buffer_text result ≡ bytes.items }
+    {
+        let len = bytes.len();
+        TextBuffer { bytes, len }
+    }
+
+    /// Returns the vector of the text. Takes no memory.
+    pub fn into_vec(self) -> Vec<u8>
+        ensures { result.items ≡ buffer_text self }
+    {
+        let mut bytes = self.bytes;
+        bytes.truncate(self.len);
+        bytes
+    }
+
+    #[inline(always)]
+    fn reserve(&mut self, additional: usize) -> Result<(), AllocError>
+        ensures text { buffer_text self.new ≡ buffer_text self.old }
+        ensures len { self.new.len ≡ self.old.len }
+        ensures ok { OnOk result (self.new.len + additional ≤ length self.new.bytes.items) }
+    {
+        if additional <= self.bytes.len() - self.len {
+            return Ok(());
+        }
+        self.grow(additional)
+    }
+
+    // A vector whose capacity suffices is not moved.
+    #[cold]
+    #[inline(never)]
+    fn grow(&mut self, additional: usize) -> Result<(), AllocError>
+        ensures text { buffer_text self.new ≡ buffer_text self.old }
+        ensures len { self.new.len ≡ self.old.len }
+        ensures ok { OnOk result (self.new.len + additional ≤ length self.new.bytes.items) }
+    {
+        while self.bytes.len() - self.len < additional {
+            self.bytes.extend_from_slice(&ZEROS)?;
+        }
+        Ok(())
+    }
+}
+
+/// An append fails if there is no memory for the bytes.
+impl Output for TextBuffer {
+    ghost use Rattle.sj_base.specs.Buffer.{buffer_text};
+
+    type Fault = AllocError;
+
+    ghost appends = { λ old new bytes. buffer_text new ≡ buffer_text old ++ bytes };
+
+    ghost begins = { λ old new bytes. (taken rest : List ℕ) × (bytes ≡ taken ++ rest) × (buffer_text new ≡ buffer_text old ++ taken) };
+
+    ghost laws = { lists_continue buffer_text };
+
+    #[inline(always)]
+    fn put(&mut self, bytes: &[u8]) -> Result<(), AllocError> {
+        self.reserve(bytes.len())?;
+        place_text(self.bytes.as_mut_slice(), self.len, bytes);
+        self.len += bytes.len();
+        Ok(())
+    }
+
+    #[inline(always)]
+    fn put_plain(&mut self, text: &[u8]) -> Result<bool, AllocError> {
+        self.reserve(text.len() + 2)?;
+        let plain = place_quoted(self.bytes.as_mut_slice(), self.len, text);
+        if plain {
+            self.len += text.len() + 2;
+        }
+        Ok(plain)
+    }
+}

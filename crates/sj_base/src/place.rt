@@ -1,0 +1,100 @@
+//! Storing bytes at a place of a slice in copies of a fixed size, which are a load and a store.
+//!
+//! Each copy is tested for bytes that need an escape in the same go. A text is copies that overlap, or one.
+ghost use Rattle.std.specs.Prelude.{◌≡◌, ◌+◌, ◌≤◌, ◌<◌, ◌++◌, length, take, slice_range, IsTrue, flat_map};
+ghost use Rattle.sj_base.specs.Text.{escaped, quoted};
+ghost use Rattle.sj_base.specs.inside.Plain.{IsPlain};
+
+use std::simd::Simd;
+
+// Stores the text between quotes, and returns whether it is known that no byte of it needs an escape.
+#[inline(always)]
+pub(crate) fn place_quoted(buf: &mut [u8], at: usize, text: &[u8]) -> bool
+    requires { at + (length text.now + 2) ≤ length buf.old }
+    ensures kept { take at buf.new ≡ take at buf.old }
+    ensures len { length buf.new ≡ length buf.old }
+    ensures quoted { IsTrue result
+        → take (at + (length text.now + 2)) buf.new ≡ take at buf.old ++ quoted text.now }
+{
+    let end = at + 1 + text.len();
+    buf[at] = b'"';
+    let plain = place_text(buf, at + 1, text);
+    buf[end] = b'"';
+    plain
+}
+
+// Stores the text, and returns whether it is known that no byte of it needs an escape.
+#[tactic(auto, using(crate::proofs::Blocks::plain_whole))]
+#[inline(always)]
+pub(crate) fn place_text(buf: &mut [u8], at: usize, text: &[u8]) -> bool
+    requires { at + length text.now ≤ length buf.old }
+    ensures front { take (at + length text.now) buf.new ≡ take at buf.old ++ text.now }
+    ensures len { length buf.new ≡ length buf.old }
+    ensures plain { IsTrue result → flat_map escaped text.now ≡ text.now }
+{
+    let len = text.len();
+    if len > 32 {
+        place_long(buf, at, text)
+    } else if len >= 16 {
+        place_ends::<16>(buf, at, text)
+    } else if len >= 8 {
+        place_ends::<8>(buf, at, text)
+    } else if len >= 4 {
+        place_ends::<4>(buf, at, text)
+    } else if len >= 2 {
+        place_ends::<2>(buf, at, text)
+    } else if len == 1 {
+        place_block::<1>(buf, at, text, 0)
+    } else {
+        true
+    }
+}
+
+fn place_long(buf: &mut [u8], at: usize, text: &[u8]) -> bool
+    requires long { 32 < length text.now }
+    requires room { at + length text.now ≤ length buf.old }
+    ensures front { take (at + length text.now) buf.new ≡ take at buf.old ++ text.now }
+    ensures len { length buf.new ≡ length buf.old }
+    ensures plain { IsTrue result → IsPlain text.now 0 (length text.now) }
+{
+    let last = text.len() - 32;
+    let mut plain = true;
+    let mut done = 0;
+    while done < last {
+        plain &= place_block::<32>(buf, at + done, text, done);
+        done += 32;
+    }
+    place_block::<32>(buf, at + last, text, last) & plain
+}
+
+#[inline(always)]
+fn place_ends<const N: usize>(buf: &mut [u8], at: usize, text: &[u8]) -> bool
+    requires lanes { N ≤ 64 }
+    requires covers { (N ≤ length text.now) × (length text.now ≤ N + N) }
+    requires room { at + length text.now ≤ length buf.old }
+    ensures front { take (at + length text.now) buf.new ≡ take at buf.old ++ text.now }
+    ensures len { length buf.new ≡ length buf.old }
+    ensures plain { IsTrue result → IsPlain text.now 0 (length text.now) }
+{
+    let last = text.len() - N;
+    let front = place_block::<N>(buf, at, text, 0);
+    place_block::<N>(buf, at + last, text, last) & front
+}
+
+// Stores the N bytes from this place of the text on.
+#[inline(always)]
+fn place_block<const N: usize>(buf: &mut [u8], at: usize, text: &[u8], from: usize) -> bool
+    requires lanes { N ≤ 64 }
+    requires within { from + N ≤ length text.now }
+    requires room { at + N ≤ length buf.old }
+    ensures front { take (at + N) buf.new ≡ take at buf.old ++ slice_range text.now from (from + N) }
+    ensures len { length buf.new ≡ length buf.old }
+    ensures plain { IsTrue result → IsPlain text.now from (from + N) }
+{
+    let block = Simd::<u8, N>::from_slice(&text[from..]);
+    block.copy_to_slice(&mut buf[at..]);
+    (block.simd_eq(Simd::splat(b'"'))
+        | block.simd_eq(Simd::splat(b'\\'))
+        | block.simd_lt(Simd::splat(b' '))).to_bitmask()
+        == 0
+}
