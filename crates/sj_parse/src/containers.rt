@@ -47,19 +47,14 @@ pub(crate) fn after_value(stack: &mut Vec<Frame>) -> State
     ensures stack { (ws : List Waiting) (t : Tree) → stack.old.items ≡ waiting_stack ws → stack.new.items ≡ config_stack (after_value ws t) }
     ensures capacity { vec_capacity stack.new ≡ vec_capacity stack.old }
 {
-    match stack.pop() {
-        Some(frame) => {
-            stack.push_reserved(Frame {
-                len: frame.len + 1,
-                ..frame
-            });
-            if frame.is_object {
-                State::MemberEnd
-            } else {
-                State::ItemEnd
-            }
-        }
-        None => State::End,
+    let Some(frame) = stack.last_mut() else {
+        return State::End;
+    };
+    frame.len += 1;
+    if frame.is_object {
+        State::MemberEnd
+    } else {
+        State::ItemEnd
     }
 }
 
