@@ -55,10 +55,7 @@ const UNSEEN_LINES: [(&[u8], &str); 6] = [
         b"\xa9\"",
         r#"{"error":"InvalidUtf8","index":0,"character":null}"#,
     ),
-    (
-        b"\"\xc3\xa9\"",
-        r#"{"replies":[],"document":"é"}"#,
-    ),
+    (b"\"\xc3\xa9\"", r#"{"replies":[],"document":"é"}"#),
     (
         b"[\"\x1f\"]",
         r#"{"error":"Syntax","index":0,"character":null}"#,

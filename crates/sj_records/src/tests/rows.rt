@@ -60,7 +60,13 @@ fn of_worked_lines(rt: HostRuntime) -> Result<(), Fail> {
         check_row(&rt, rt.alloc(), &mut all, line.as_bytes(), record)?;
     }
     let record = format!(in rt.alloc(); r#"{{"replies":[],"document":{BACKSLASHES_AT_64}}}"#)?;
-    check_row(&rt, rt.alloc(), &mut all, BACKSLASHES_AT_64.as_bytes(), &record)?;
+    check_row(
+        &rt,
+        rt.alloc(),
+        &mut all,
+        BACKSLASHES_AT_64.as_bytes(),
+        &record,
+    )?;
     let not_utf8 = r#"{"error":"InvalidUtf8","index":0,"character":null}"#;
     check_row(&rt, rt.alloc(), &mut all, b"\"\xff", not_utf8)?;
     for step in [1, 63, 65536] {

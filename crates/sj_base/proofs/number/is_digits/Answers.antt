@@ -8,6 +8,6 @@ pub returns-then-not-is_empty : goal.returns-then-not-is_empty
 returns-then-not-is_empty c =
     let bytes = c.args.bytes.now in
     let some : is_empty (front_digits bytes) ≡ false =
-        ap is_empty (sym c.split_digits.ensures.digits) ∙ sym (is_empty-length c.split_digits.result.0.now) ∙ sym c.is_empty.ensures ∙ c.if-not-is_empty.true in
+    ap is_empty (sym c.split_digits.ensures.digits) ∙ sym (is_empty-length c.split_digits.result.0.now) ∙ sym c.is_empty.ensures ∙ c.if-not-is_empty.true in
     c.is_empty-then-not-is_empty.ensures ∙ is_empty-length c.split_digits.result.1.now ∙ ap is_empty c.split_digits.ensures.behind
     ∙ sym (ap (λ e. not e && is_empty (behind_digits bytes)) some) ∙ is_digits-parts bytes
