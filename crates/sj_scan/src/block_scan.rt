@@ -7,8 +7,9 @@ ghost use Rattle.sj_scan.specs.inside.End.{Ends};
 ghost use Rattle.sj_scan.specs.inside.Blocks.{IsClassified, filled_up};
 ghost use Rattle.sj_scan.specs.inside.Walk.{HasWalked};
 
+use crate::classes::{Classes, is_ascii};
 use crate::end::End;
-use crate::masks::{Carry, Classes, is_ascii};
+use crate::masks::Carry;
 use crate::push::{push_each_place, push_places};
 use crate::stage1::{ScanFault, Stage1};
 use simdutf8::Checker;
@@ -72,7 +73,7 @@ fn read_blocks(bytes: &[u8], out: &mut Vec<u32>) -> Walk
     };
     while bytes.len() - walk.at > BLOCK {
         let block = u8x64::from_slice(&bytes[walk.at..]);
-        let (masks, carry) = Classes::of(block).masks(walk.carry);
+        let (masks, carry) = walk.carry.masks(Classes::of(block));
         push_places(out, walk.at as u32, masks.positions);
         walk = Walk {
             at: walk.at + BLOCK,
@@ -95,7 +96,7 @@ fn read_rest(bytes: &[u8], out: &mut Vec<u32>, walk: Walk) -> End
     ensures capacity { vec_capacity out.new ≡ vec_capacity out.old }
 {
     let (classes, is_utf8) = classify_rest(bytes, walk.at, walk.utf8);
-    let (masks, carry) = classes.masks(walk.carry);
+    let (masks, carry) = walk.carry.masks(classes);
     push_each_place(out, walk.at as u32, masks.positions);
     End {
         is_utf8,

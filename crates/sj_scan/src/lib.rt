@@ -8,6 +8,7 @@
 #![tactic(auto)]
 
 mod block_scan;
+mod classes;
 mod end;
 mod masks;
 mod plain;

@@ -2,29 +2,13 @@
 //!
 //! A mask has one bit for each byte, the lowest for the first. The tricks on masks are simdjson's (Langdale and Lemire,
 //! "Parsing Gigabytes of JSON per Second").
-ghost use Rattle.std.specs.Prelude.{◌≡◌, ℕ, suc, ◌<◌, ◌==◌, List, [], ◌++◌, length, drop, replicate, slice_index, nat_lt, Bool, IsTrue};
-ghost use Rattle.std.specs.Str.{IsAscii};
-ghost use Rattle.sj_scan.specs.Positions.{is_whitespace, is_operator, is_odd, backslashes, real_quotes, is_real_quote, is_separated, is_position};
+ghost use Rattle.std.specs.Prelude.{◌≡◌, ℕ, suc, List, [], Bool};
+ghost use Rattle.sj_scan.specs.Positions.{is_odd, backslashes, real_quotes, is_real_quote, is_position};
 ghost use Rattle.sj_scan.specs.Scan.{is_control};
-ghost use Rattle.sj_scan.specs.inside.Lanes.{Computes, IsFourfold, low_entry};
 ghost use Rattle.sj_scan.specs.inside.Masks.{is_set, Marks, first_if, all_if, is_odd_run, is_odd_count};
 ghost use Rattle.sj_scan.specs.inside.Blocks.{before_in, test_in, Precedes, IsClassified};
 
-use std::simd::prelude::*;
-
-// The whitespace with these four lowest bits, four times over. No other byte has the entry of its lowest bits.
-const WHITESPACE: [u8; 64] = [
-    b' ', 0, 0, 0, 0, 0, 0, 0, 0, b'\t', b'\n', 0, 0, b'\r', 0, 0, b' ', 0, 0, 0, 0, 0, 0, 0, 0,
-    b'\t', b'\n', 0, 0, b'\r', 0, 0, b' ', 0, 0, 0, 0, 0, 0, 0, 0, b'\t', b'\n', 0, 0, b'\r', 0, 0,
-    b' ', 0, 0, 0, 0, 0, 0, 0, 0, b'\t', b'\n', 0, 0, b'\r', 0, 0,
-];
-
-// The same of operators, where a bracket stands as the brace that differs from it in one bit.
-const OPERATORS: [u8; 64] = [
-    0, 0, 0, 0, 0, 0, 0, 0, 0, 0, b':', b'{', b',', b'}', 0, 0, 0, 0, 0, 0, 0, 0, 0, 0, 0, 0, b':',
-    b'{', b',', b'}', 0, 0, 0, 0, 0, 0, 0, 0, 0, 0, 0, 0, b':', b'{', b',', b'}', 0, 0, 0, 0, 0, 0,
-    0, 0, 0, 0, 0, 0, b':', b'{', b',', b'}', 0, 0,
-];
+use crate::classes::Classes;
 
 const ODD_PLACES: u64 = 0xaaaa_aaaa_aaaa_aaaa;
 
@@ -37,16 +21,6 @@ pub(crate) struct Carry {
     inside: u64,
     // The first bit where nothing, whitespace, an operator or a real quote stands directly before, else none.
     separated: u64,
-}
-
-// The bytes of a block by kind.
-#[derive(Clone, Copy)]
-pub(crate) struct Classes {
-    backslashes: u64,
-    quotes: u64,
-    operators: u64,
-    whitespace: u64,
-    below_space: u64,
 }
 
 // What is at each place of a block.
@@ -73,52 +47,22 @@ impl Carry {
     {
         self.inside != 0
     }
-}
 
-impl Classes {
+    // The masks of the block, and what the next one has to know.
     #[inline(always)]
-    pub(crate) fn of(block: u8x64) -> Classes
-        ensures { IsClassified block result }
+    pub(crate) fn masks(self, classes: Classes) -> (Masks, Carry)
+        ensures positions { (before block : List ℕ) → Precedes before self → IsClassified block classes → Marks result.0.positions (test_in is_position before block) }
+        ensures controls { (before block : List ℕ) → Precedes before self → IsClassified block classes → Marks result.0.controls (test_in is_control before block) }
+        ensures carry { (before block : List ℕ) → Precedes before self → IsClassified block classes → Precedes (before_in before block 64) result.1 }
     {
-        let below_space = below(block, b' ');
-        Classes {
-            backslashes: equal_to(block, b'\\'),
-            quotes: equal_to(block, b'"'),
-            operators: operators(block, below_space),
-            whitespace: whitespace(block),
-            below_space,
-        }
-    }
-
-    // The classes without those of the first places, and those of as many spaces at the end.
-    #[inline(always)]
-    pub(crate) fn skipped(self, count: u32) -> Classes
-        requires { count < 64 }
-        ensures { (block : List ℕ) → length block ≡ 64 → IsClassified block self → IsClassified (drop count block ++ replicate count 0x20) result }
-    {
-        Classes {
-            backslashes: self.backslashes >> count,
-            quotes: self.quotes >> count,
-            operators: self.operators >> count,
-            whitespace: (self.whitespace >> count) | !(u64::MAX >> count),
-            below_space: self.below_space >> count,
-        }
-    }
-
-    #[inline(always)]
-    pub(crate) fn masks(self, carry: Carry) -> (Masks, Carry)
-        ensures positions { (before block : List ℕ) → Precedes before carry → IsClassified block self → Marks result.0.positions (test_in is_position before block) }
-        ensures controls { (before block : List ℕ) → Precedes before carry → IsClassified block self → Marks result.0.controls (test_in is_control before block) }
-        ensures carry { (before block : List ℕ) → Precedes before carry → IsClassified block self → Precedes (before_in before block 64) result.1 }
-    {
-        let (quotes, odd_backslashes) = self.real_quotes(carry.odd_backslashes);
-        let inside_after = prefix_xor(quotes) ^ carry.inside;
+        let (quotes, odd_backslashes) = real_quotes(classes, self.odd_backslashes);
+        let inside_after = prefix_xor(quotes) ^ self.inside;
         let inside = inside_after ^ quotes;
-        let separators = self.whitespace | self.operators | quotes;
-        let separated = shifted(separators, carry.separated);
+        let separators = classes.whitespace | classes.operators | quotes;
+        let separated = shifted(separators, self.separated);
         let masks = Masks {
-            positions: !inside & !self.whitespace & (self.operators | quotes | separated),
-            controls: self.below_space & inside,
+            positions: !inside & !classes.whitespace & (classes.operators | quotes | separated),
+            controls: classes.below_space & inside,
         };
         let next = Carry {
             odd_backslashes,
@@ -127,64 +71,16 @@ impl Classes {
         };
         (masks, next)
     }
-
-    // The real quotes, and the carry of backslashes of the next block.
-    #[inline(always)]
-    fn real_quotes(self, carry: u64) -> (u64, u64)
-        ensures quotes { (before block : List ℕ) → carry ≡ first_if (is_odd (backslashes before)) → IsClassified block self → Marks result.0 (test_in is_real_quote before block) }
-        ensures carry { (before block : List ℕ) → carry ≡ first_if (is_odd (backslashes before)) → IsClassified block self → result.1 ≡ first_if (is_odd (backslashes (before_in before block 64))) }
-    {
-        let (escaped, next) = escaped(self.backslashes, carry);
-        (self.quotes & !escaped, next)
-    }
 }
 
-// Whether all bytes of the block are ASCII.
+// The real quotes, and the carry of backslashes of the next block.
 #[inline(always)]
-pub(crate) fn is_ascii(block: u8x64) -> bool
-    ensures { IsTrue result → IsAscii block }
+fn real_quotes(classes: Classes, carry: u64) -> (u64, u64)
+    ensures quotes { (before block : List ℕ) → carry ≡ first_if (is_odd (backslashes before)) → IsClassified block classes → Marks result.0 (test_in is_real_quote before block) }
+    ensures carry { (before block : List ℕ) → carry ≡ first_if (is_odd (backslashes before)) → IsClassified block classes → result.1 ≡ first_if (is_odd (backslashes (before_in before block 64))) }
 {
-    below(block, 0x80) == u64::MAX
-}
-
-#[inline(always)]
-fn operators(block: u8x64, below_space: u64) -> u64
-    requires { Marks below_space (λ place. nat_lt (slice_index block place) 0x20) }
-    ensures { Marks result (λ place. is_operator (slice_index block place)) }
-{
-    // Brackets and braces differ in this bit alone. Two control characters become operators by it.
-    let curly = block | u8x64::splat(0x20);
-    curly.simd_eq(by_low_bits(OPERATORS, block)).to_bitmask() & !below_space
-}
-
-#[inline(always)]
-fn whitespace(block: u8x64) -> u64
-    ensures { Marks result (λ place. is_whitespace (slice_index block place)) }
-{
-    block.simd_eq(by_low_bits(WHITESPACE, block)).to_bitmask()
-}
-
-// The entry of the table at the four lowest bits of each ASCII byte.
-#[inline(always)]
-fn by_low_bits(table: [u8; 64], block: u8x64) -> u8x64
-    requires { IsFourfold table }
-    ensures { Computes block result (low_entry table) }
-{
-    u8x64::from_array(table).swizzle_dyn_within::<16>(block & u8x64::splat(0x8f))
-}
-
-#[inline(always)]
-fn equal_to(block: u8x64, byte: u8) -> u64
-    ensures { Marks result (λ place. slice_index block place == byte) }
-{
-    block.simd_eq(u8x64::splat(byte)).to_bitmask()
-}
-
-#[inline(always)]
-fn below(block: u8x64, byte: u8) -> u64
-    ensures { Marks result (λ place. nat_lt (slice_index block place) byte) }
-{
-    block.simd_lt(u8x64::splat(byte)).to_bitmask()
+    let (escaped, next) = escaped(classes.backslashes, carry);
+    (classes.quotes & !escaped, next)
 }
 
 // The places directly behind a run of backslashes of odd length, and the carry of the next block.

@@ -3,7 +3,7 @@ use Rattle.std.specs.Prelude.{◌≡◌, ◌==◌, ℕ, zero, suc, Bool, ◌-◌
 use Rattle.sj_scan.specs.Positions.{is_odd, is_whitespace, is_operator, backslashes, real_quotes, is_separated}
 use Rattle.sj_scan.specs.inside.Masks.{Marks, first_if, all_if}
 use Rattle.sj_scan.specs.declared.masks.Carry.{Carry}
-use Rattle.sj_scan.specs.declared.masks.Classes.{Classes}
+use Rattle.sj_scan.specs.declared.classes.Classes.{Classes}
 
 -- the bytes before a place of the block, the nearest first; `before` are those before the block
 unfoldable pub before_in : List ℕ → List ℕ → ℕ → List ℕ

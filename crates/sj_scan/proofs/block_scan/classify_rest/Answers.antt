@@ -1,7 +1,7 @@
 use Rattle.std.proofs.Common.{◌≡◌, ℕ, ◌+◌, ◌-◌, ◌≤◌, Bool, List, ◌++◌, length, take, drop, replicate, ap, subst, ◌∙◌, arith, refl, IsTrue, ◌↔◌, take-append-drop}
 use Rattle.std.specs.Str.{IsUtf8, is_utf8}
 use lib.Lanes.{chunk}
-use Rattle.sj_scan.specs.declared.masks.Classes.{Classes}
+use Rattle.sj_scan.specs.declared.classes.Classes.{Classes}
 use Rattle.sj_scan.specs.inside.Blocks.{IsClassified, filled_up}
 use Rattle.sj_scan.proofs.Skips.{skipped}
 use Rattle.sj_scan.proofs.Utf8.{IsAscii-spaces, is_utf8-front, is_utf8-whole}

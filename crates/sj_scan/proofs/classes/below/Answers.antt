@@ -1,6 +1,6 @@
 use Rattle.std.specs.Prelude.{nat_lt}
 use Rattle.sj_scan.proofs.Lanes.{block_itself, splat, lanewise, Marks-lanes, top-cond}
-use Rattle.sj_scan.proofs.masks.below.Goals as goal
+use Rattle.sj_scan.proofs.classes.below.Goals as goal
 
 pub returns : goal.returns
 returns c =

@@ -1,6 +1,6 @@
 use Rattle.std.proofs.Common.{◌==◌}
 use Rattle.sj_scan.proofs.Lanes.{block_itself, splat, lanewise, Marks-lanes, top-cond}
-use Rattle.sj_scan.proofs.masks.equal_to.Goals as goal
+use Rattle.sj_scan.proofs.classes.equal_to.Goals as goal
 
 pub returns : goal.returns
 returns c =

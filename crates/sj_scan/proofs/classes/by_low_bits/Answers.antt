@@ -1,5 +1,5 @@
 use Rattle.sj_scan.proofs.Lookup.{SwzOk-indices, Computes-low_entry}
-use Rattle.sj_scan.proofs.masks.by_low_bits.Goals as goal
+use Rattle.sj_scan.proofs.classes.by_low_bits.Goals as goal
 
 pub swizzle : goal.swizzle
 swizzle c = SwzOk-indices c.args.block c.fits-block

@@ -3,7 +3,7 @@ use Rattle.std.proofs.lemmas.Bool.{cases_lt, ltb-true, eqb-true}
 use Rattle.std.proofs.lemmas.List.{get_or_past}
 use Rattle.sj_scan.specs.inside.Masks.{is_set}
 use Rattle.sj_scan.proofs.Words.{is_set-all_if}
-use Rattle.sj_scan.proofs.masks.is_ascii.Goals as goal
+use Rattle.sj_scan.proofs.classes.is_ascii.Goals as goal
 
 pub returns : goal.returns
 returns c = λ full place.

@@ -2,7 +2,7 @@ use Rattle.std.proofs.Common.{◌==◌, refl}
 use Rattle.std.specs.Prelude.{nat_lt}
 use Rattle.sj_scan.specs.Positions.{is_operator, is_whitespace}
 use Rattle.sj_scan.proofs.Skips.{Marks-skipped, Marks-skipped_whitespace}
-use Rattle.sj_scan.proofs.masks.Classes.skipped.Goals as goal
+use Rattle.sj_scan.proofs.classes.Classes.skipped.Goals as goal
 
 pub returns : goal.returns
 returns c = λ block long classified.

@@ -1,9 +1,9 @@
 use Rattle.std.proofs.Common.{◌%◌, true, eqb, slice_index, refl, eqb-true}
 use Rattle.std.proofs.lemmas.Bool.{agree_below_at}
-use Rattle.sj_scan.specs.declared.masks.TheConstants.{WHITESPACE}
+use Rattle.sj_scan.specs.declared.classes.TheConstants.{WHITESPACE}
 use Rattle.sj_scan.specs.Positions.{is_whitespace}
 use Rattle.sj_scan.proofs.Lanes.{block_itself, lanewise, equal, Marks-tabled}
-use Rattle.sj_scan.proofs.masks.whitespace.Goals as goal
+use Rattle.sj_scan.proofs.classes.whitespace.Goals as goal
 
 pub by_low_bits-requires : goal.by_low_bits-requires
 by_low_bits-requires c = λ place within.

@@ -3,12 +3,12 @@ use Rattle.std.proofs.Common.{ℕ, ◌%◌, true, not, ◌&&◌, eqb, get_or, sl
 use Rattle.std.proofs.lemmas.Bool.{agree_below_at}
 use Rattle.std.proofs.lemmas.Simd.{Each1-get_or}
 use lib.Lanes.{top}
-use Rattle.sj_scan.specs.declared.masks.TheConstants.{OPERATORS}
+use Rattle.sj_scan.specs.declared.classes.TheConstants.{OPERATORS}
 use Rattle.sj_scan.specs.Positions.{is_operator}
 use Rattle.sj_scan.specs.inside.Lanes.{low_entry}
 use Rattle.sj_scan.proofs.Lanes.{block_itself, splat, lanewise, equal, Marks-lanes}
 use Rattle.sj_scan.proofs.Marks.{Marks-agree, Marks-and, Marks-not}
-use Rattle.sj_scan.proofs.masks.operators.Goals as goal
+use Rattle.sj_scan.proofs.classes.operators.Goals as goal
 
 pub by_low_bits-requires : goal.by_low_bits-requires
 by_low_bits-requires c = λ place within.

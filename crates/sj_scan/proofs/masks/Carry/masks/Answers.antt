@@ -4,7 +4,7 @@ use Rattle.sj_scan.specs.Positions.{is_separated}
 use Rattle.sj_scan.specs.inside.Masks.{first_if, all_if}
 use Rattle.sj_scan.specs.inside.Blocks.{before_in}
 use Rattle.sj_scan.proofs.Blocks.{Marks-after, Marks-inside, Marks-separators, Marks-positions, Marks-controls}
-use Rattle.sj_scan.proofs.masks.Classes.masks.Goals as goal
+use Rattle.sj_scan.proofs.masks.Carry.masks.Goals as goal
 
 pub returns-clause-positions : goal.returns-clause-positions
 unfolding before_in
