@@ -100,9 +100,9 @@ pub fn print_text<O: Output>(out: &mut O, scalar: &Scalar<'_>) -> Result<(), O::
     ensures err { OnErr result (O.begins out.old out.new (text (scalar_tree scalar.now))) }
 {
     match scalar {
-        Scalar::Static(StaticNode::Null) => out.put(b"null"),
-        Scalar::Static(StaticNode::Bool(true)) => out.put(b"true"),
-        Scalar::Static(StaticNode::Bool(false)) => out.put(b"false"),
+        Scalar::Static(StaticNode::Null) => print_word(out, b"null"),
+        Scalar::Static(StaticNode::Bool(true)) => print_word(out, b"true"),
+        Scalar::Static(StaticNode::Bool(false)) => print_word(out, b"false"),
         Scalar::Static(StaticNode::I64(n)) => print_int(out, *n),
         Scalar::Static(StaticNode::U64(n)) => print_int(out, *n),
         Scalar::Text(text) => print_string(out, text),
@@ -144,6 +144,16 @@ pub(crate) fn print_break<O: Output>(out: &mut O, level: usize) -> Result<(), O:
     Ok(())
 }
 
+// This and `print_int` are calls, so that `print_text` stays small enough to be inlined.
+#[inline(never)]
+fn print_word<O: Output>(out: &mut O, word: &[u8]) -> Result<(), O::Fault>
+    ensures ok { OnOk result (O.appends out.old out.new word.now) }
+    ensures err { OnErr result (O.begins out.old out.new word.now) }
+{
+    out.put(word)
+}
+
+#[inline(never)]
 fn print_int<O: Output, I: JsonInteger>(out: &mut O, n: I) -> Result<(), O::Fault>
     ensures ok { OnOk result (O.appends out.old out.new (text (integer (I.number n)))) }
     ensures err { OnErr result (O.begins out.old out.new (text (integer (I.number n)))) }
