@@ -1,4 +1,4 @@
-//! What text is printed to: a vector, or a sink.
+//! What text is printed to: a vector, a buffer, or a sink.
 ghost use Rattle.std.specs.Prelude.{◌≡◌, List, ℕ, [], ◌++◌, if◌then◌else◌, IfOk, OnOk, OnErr};
 ghost use Rattle.sj_base.specs.Output.{Continues, WritesAll, WritesPrefix};
 ghost use Rattle.sj_base.specs.Text.{quoted};
@@ -8,7 +8,7 @@ use crate::fault::WriteFault;
 use crate::stream::Sink;
 use std::alloc::AllocError;
 
-/// An output that bytes are appended to: a vector of bytes, or any [`Sink`].
+/// An output that bytes are appended to: a vector of bytes, a [`TextBuffer`](crate::TextBuffer), or any [`Sink`].
 pub trait Output {
     /// The error of an append.
     type Fault;
