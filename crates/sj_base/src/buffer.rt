@@ -67,7 +67,14 @@ impl TextBuffer {
         ensures ok { OnOk result (self.new.len + additional ≤ length self.new.bytes.items) }
     {
         while self.bytes.len() - self.len < additional {
-            self.bytes.extend_from_slice(&ZEROS[..self.step])?;
+            // A vector that has room is not moved.
+            let room = self.bytes.capacity() - self.bytes.len();
+            let step = if room == 0 {
+                self.step
+            } else {
+                self.step.min(room)
+            };
+            self.bytes.extend_from_slice(&ZEROS[..step])?;
             self.step = (self.step * 2).min(LAST_STEP);
         }
         Ok(())
