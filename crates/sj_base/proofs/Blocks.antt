@@ -3,7 +3,8 @@ use Rattle.std.proofs.Common.{◌≡◌, ℕ, suc, ◌+◌, ◌-◌, ◌%◌, �
 use Rattle.std.specs.Prelude.{IsTrue, nat_lt, slice_range}
 use Rattle.std.proofs.lemmas.Bool.{agree_below, agree_below_at, false≢true, cases_lt}
 use Rattle.std.proofs.lemmas.Simd.{length-chunk, zip2_splat, zip2_of_maps, map-map, mask_l-mod, none_from_empty_mask}
-use Rattle.std.proofs.lemmas.List.{length-map, take-append-drop, take-take, take-set-le, take-append-le, length-set, take_at, take_all, drop-take, length-take-le, length-append}
+use Rattle.std.proofs.lemmas.List.{length-map, take-append-drop, take-take, take-set-le, take-append-le, length-set, get_or-take, take_at, take_all, drop-take, length-take-le, length-append}
+use Rattle.std.proofs.lemmas.List.Concat.{flat_map-append}
 use lib.Lanes.{chunk, mask_l, zip2, top}
 use Rattle.sj_base.specs.Text.{escaped}
 use Rattle.sj_base.specs.inside.Plain.{IsPlain}
@@ -126,3 +127,20 @@ kept_front buf placed text len room stored =
     ∙ take-append-le len (take (len + 1) opened) text front
     ∙ take-take len (len + 1) opened (omega arith)
     ∙ take-set-le len buf len 0x22 (omega arith)
+
+-- a run without escapes, and the bytes behind it
+pub run_first : (text run behind : List ℕ) (n : ℕ) → n ≤ length text → IsPlain text 0 n → run ≡ take n text → behind ≡ drop n text → flat_map escaped text ≡ run ++ flat_map escaped behind
+run_first text run behind n within plain is_run is_behind =
+    let short = length-take-le n text within in
+    let same : IsPlain (take n text) 0 (length (take n text)) = λ k p q.
+    let low : k < n = omega (arith, q, short) in
+    let byte = get_or-take n text k 0 low in
+    ap escaped byte ∙ plain k p low ∙ ap (λ (b : ℕ). b ∷ []) (sym byte) in
+    ap (λ (xs : List ℕ). flat_map escaped xs) (sym (take-append-drop n text))
+    ∙ flat_map-append escaped (take n text) (drop n text)
+    ∙ ap (λ (xs : List ℕ). xs ++ flat_map escaped (drop n text)) (plain_whole (take n text) same ∙ sym is_run)
+    ∙ ap (λ (xs : List ℕ). run ++ flat_map escaped xs) (sym is_behind)
+
+pub none_left : (xs : List ℕ) → length xs ≡ 0 → flat_map escaped xs ≡ []
+none_left [] e = refl
+none_left (x ∷ xs) e = absurd (omega arith)

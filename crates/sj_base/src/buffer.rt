@@ -6,14 +6,21 @@ use crate::output::Output;
 use crate::place::{place_quoted, place_text};
 use std::alloc::AllocError;
 
-const ZEROS: [u8; 1024] = [0; 1024];
+const FIRST_STEP: usize = 256;
+
+const LAST_STEP: usize = 4096;
+
+static ZEROS: [u8; LAST_STEP] = [0; LAST_STEP];
 
 /// A text that is printed, in a vector whose room is initialized ahead, so that a piece is stored by a test and a copy.
 #[derive(Drop)]
 pub struct TextBuffer {
     bytes: Vec<u8>,
     len: usize,
+    // How much room is made next. It doubles, so that a short text doesn't pay for the room of a long one.
+    step: usize,
     ghost within: { len ≤ length bytes.items },
+    ghost step_fits: { (0 < step) × (step ≤ 4096) },
 }
 
 impl TextBuffer {
@@ -24,7 +31,11 @@ impl TextBuffer {
         ensures { buffer_text result ≡ bytes.items }
     {
         let len = bytes.len();
-        TextBuffer { bytes, len }
+        TextBuffer {
+            bytes,
+            len,
+            step: FIRST_STEP,
+        }
     }
 
     /// Returns the vector of the text. Takes no memory.
@@ -48,7 +59,6 @@ impl TextBuffer {
         self.grow(additional)
     }
 
-    // A vector whose capacity suffices is not moved.
     #[cold]
     #[inline(never)]
     fn grow(&mut self, additional: usize) -> Result<(), AllocError>
@@ -57,7 +67,15 @@ impl TextBuffer {
         ensures ok { OnOk result (self.new.len + additional ≤ length self.new.bytes.items) }
     {
         while self.bytes.len() - self.len < additional {
-            self.bytes.extend_from_slice(&ZEROS)?;
+            // A vector that has room is not moved.
+            let room = self.bytes.capacity() - self.bytes.len();
+            let step = if room == 0 {
+                self.step
+            } else {
+                self.step.min(room)
+            };
+            self.bytes.extend_from_slice(&ZEROS[..step])?;
+            self.step = (self.step * 2).min(LAST_STEP);
         }
         Ok(())
     }

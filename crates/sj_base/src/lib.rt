@@ -3,7 +3,6 @@
 //! The definitions of what a JSON text means, and of what is printed, stand in this crate's `specs`.
 #![tactic(auto)]
 
-mod append;
 mod buffer;
 mod decimal;
 mod error;

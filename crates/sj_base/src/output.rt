@@ -1,15 +1,14 @@
-//! What text is printed to: a vector, or a sink.
+//! What text is printed to: a vector, a buffer, or a sink.
 ghost use Rattle.std.specs.Prelude.{◌≡◌, List, ℕ, [], ◌++◌, if◌then◌else◌, IfOk, OnOk, OnErr};
 ghost use Rattle.sj_base.specs.Output.{Continues, WritesAll, WritesPrefix};
 ghost use Rattle.sj_base.specs.Text.{quoted};
 ghost use Rattle.sj_base.specs.inside.OutputLaws.{vectors_continue, sinks_continue};
 
-use crate::append::{append, append_plain};
 use crate::fault::WriteFault;
 use crate::stream::Sink;
 use std::alloc::AllocError;
 
-/// An output that bytes are appended to: a vector of bytes, or any [`Sink`].
+/// An output that bytes are appended to: a vector of bytes, a [`TextBuffer`](crate::TextBuffer), or any [`Sink`].
 pub trait Output {
     /// The error of an append.
     type Fault;
@@ -56,12 +55,11 @@ impl Output for Vec<u8> {
 
     #[inline(always)]
     fn put(&mut self, bytes: &[u8]) -> Result<(), AllocError> {
-        append(self, bytes)
+        self.extend_from_slice(bytes)
     }
 
-    #[inline(always)]
-    fn put_plain(&mut self, text: &[u8]) -> Result<bool, AllocError> {
-        append_plain(self, text)
+    fn put_plain(&mut self, _text: &[u8]) -> Result<bool, AllocError> {
+        Ok(false)
     }
 }
 

@@ -1,7 +1,7 @@
 //! Storing bytes at a place of a slice in copies of a fixed size, which are a load and a store.
 //!
 //! Each copy is tested for bytes that need an escape in the same go. A text is copies that overlap, or one.
-ghost use Rattle.std.specs.Prelude.{◌≡◌, ◌+◌, ◌≤◌, ◌<◌, ◌++◌, length, take, slice_range, IsTrue, flat_map};
+ghost use Rattle.std.specs.Prelude.{◌≡◌, ◌+◌, ◌≤◌, ◌<◌, ◌++◌, [], ◌∷◌, length, take, slice_range, IsTrue, flat_map};
 ghost use Rattle.sj_base.specs.Text.{escaped, quoted};
 ghost use Rattle.sj_base.specs.inside.Plain.{IsPlain};
 
@@ -91,10 +91,42 @@ fn place_block<const N: usize>(buf: &mut [u8], at: usize, text: &[u8], from: usi
     ensures len { length buf.new ≡ length buf.old }
     ensures plain { IsTrue result → IsPlain text.now from (from + N) }
 {
-    let block = Simd::<u8, N>::from_slice(&text[from..]);
-    block.copy_to_slice(&mut buf[at..]);
+    let plain = is_plain_block::<N>(text, from);
+    Simd::<u8, N>::from_slice(&text[from..]).copy_to_slice(&mut buf[at..]);
+    plain
+}
+
+/// Returns how many bytes at the front are known to need no escape.
+pub(crate) fn plain_len(text: &[u8]) -> usize
+    ensures within { result ≤ length text.now }
+    ensures plain { IsPlain text.now 0 result }
+{
+    let mut at = 0;
+    while text.len() - at >= 16 && is_plain_block::<16>(text, at) {
+        at += 16;
+    }
+    while at < text.len() && is_plain(text[at]) {
+        at += 1;
+    }
+    at
+}
+
+#[inline(always)]
+fn is_plain_block<const N: usize>(text: &[u8], at: usize) -> bool
+    requires lanes { N ≤ 64 }
+    requires within { at + N ≤ length text.now }
+    ensures { IsTrue result → IsPlain text.now at (at + N) }
+{
+    let block = Simd::<u8, N>::from_slice(&text[at..]);
     (block.simd_eq(Simd::splat(b'"'))
         | block.simd_eq(Simd::splat(b'\\'))
         | block.simd_lt(Simd::splat(b' '))).to_bitmask()
         == 0
+}
+
+#[inline(always)]
+fn is_plain(byte: u8) -> bool
+    ensures { IsTrue result → escaped byte ≡ byte ∷ [] }
+{
+    byte >= b' ' && byte != b'"' && byte != b'\\'
 }

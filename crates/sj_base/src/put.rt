@@ -10,6 +10,7 @@ ghost use Rattle.sj_base.specs.Text.{escaped, quoted, text, line_break};
 
 use crate::integer::JsonInteger;
 use crate::output::Output;
+use crate::place::plain_len;
 use crate::scalar::Scalar;
 use crate::static_node::StaticNode;
 use itoa::Buffer;
@@ -99,7 +100,11 @@ pub fn print_text<O: Output>(out: &mut O, scalar: &Scalar<'_>) -> Result<(), O::
     ensures err { OnErr result (O.begins out.old out.new (text (scalar_tree scalar.now))) }
 {
     match scalar {
-        Scalar::Static(node) => print_static(out, *node),
+        Scalar::Static(StaticNode::Null) => print_word(out, b"null"),
+        Scalar::Static(StaticNode::Bool(true)) => print_word(out, b"true"),
+        Scalar::Static(StaticNode::Bool(false)) => print_word(out, b"false"),
+        Scalar::Static(StaticNode::I64(n)) => print_int(out, *n),
+        Scalar::Static(StaticNode::U64(n)) => print_int(out, *n),
         Scalar::Text(text) => print_string(out, text),
         Scalar::Literal(literal) => out.put(literal.as_str().as_bytes()),
     }
@@ -118,7 +123,7 @@ pub(crate) fn print_string<O: Output>(out: &mut O, text: &str) -> Result<(), O::
 
 // Prints the string between quotes, in as many pieces as its escapes ask for.
 #[inline(never)]
-pub(crate) fn print_pieces<O: Output>(out: &mut O, text: &str) -> Result<(), O::Fault>
+fn print_pieces<O: Output>(out: &mut O, text: &str) -> Result<(), O::Fault>
     ensures ok { OnOk result (O.appends out.old out.new (quoted text.now)) }
     ensures err { OnErr result (O.begins out.old out.new (quoted text.now)) }
 {
@@ -139,21 +144,16 @@ pub(crate) fn print_break<O: Output>(out: &mut O, level: usize) -> Result<(), O:
     Ok(())
 }
 
-#[inline(always)]
-fn print_static<O: Output>(out: &mut O, node: StaticNode) -> Result<(), O::Fault>
-    ensures ok { OnOk result (O.appends out.old out.new (text (static_tree node))) }
-    ensures err { OnErr result (O.begins out.old out.new (text (static_tree node))) }
+// This and `print_int` are calls, so that `print_text` stays small enough to be inlined.
+#[inline(never)]
+fn print_word<O: Output>(out: &mut O, word: &[u8]) -> Result<(), O::Fault>
+    ensures ok { OnOk result (O.appends out.old out.new word.now) }
+    ensures err { OnErr result (O.begins out.old out.new word.now) }
 {
-    match node {
-        StaticNode::Null => out.put(b"null"),
-        StaticNode::Bool(true) => out.put(b"true"),
-        StaticNode::Bool(false) => out.put(b"false"),
-        StaticNode::I64(n) => print_int(out, n),
-        StaticNode::U64(n) => print_int(out, n),
-    }
+    out.put(word)
 }
 
-#[inline(always)]
+#[inline(never)]
 fn print_int<O: Output, I: JsonInteger>(out: &mut O, n: I) -> Result<(), O::Fault>
     ensures ok { OnOk result (O.appends out.old out.new (text (integer (I.number n)))) }
     ensures err { OnErr result (O.begins out.old out.new (text (integer (I.number n)))) }
@@ -167,22 +167,18 @@ fn print_runs<O: Output>(out: &mut O, text: &[u8]) -> Result<(), O::Fault>
     ensures ok { OnOk result (O.appends out.old out.new (flat_map escaped text.now)) }
     ensures err { OnErr result (O.begins out.old out.new (flat_map escaped text.now)) }
 {
-    let mut copied = 0;
-    for (i, byte) in text.iter().enumerate() {
-        if !is_plain(*byte) {
-            out.put(&text[copied..i])?;
-            print_escape(out, *byte)?;
-            copied = i + 1;
+    let mut rest = text;
+    loop {
+        let (run, behind) = rest.split_at(plain_len(rest));
+        out.put(run)?;
+        match behind.split_first() {
+            None => return Ok(()),
+            Some((byte, others)) => {
+                print_escape(out, *byte)?;
+                rest = others;
+            }
         }
     }
-    out.put(&text[copied..])
-}
-
-#[inline(always)]
-pub(crate) fn is_plain(byte: u8) -> bool
-    ensures { IsTrue result → escaped byte ≡ byte ∷ [] }
-{
-    byte >= b' ' && byte != b'"' && byte != b'\\'
 }
 
 fn print_escape<O: Output>(out: &mut O, byte: u8) -> Result<(), O::Fault>

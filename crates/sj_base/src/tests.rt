@@ -25,6 +25,21 @@ fn strings(rt: HostRuntime) -> Result<(), Fail> {
     Ok(())
 }
 
+// A buffer stores a text in blocks that overlap, and a vector takes it whole.
+#[test]
+fn strings_of_each_length(rt: HostRuntime) -> Result<(), Fail> {
+    let letters = "the quick brown fox jumps over the lazy dog, and then over the \"wall\"";
+    for len in 0..=letters.len() {
+        let text = letters.get(..len).ok_or("no boundary")?;
+        let mut plain = Vec::from_slice(rt.alloc(), b"[")?;
+        put_string(&mut plain, text)?;
+        let mut buffer = TextBuffer::new(Vec::from_slice(rt.alloc(), b"[")?);
+        print_text(&mut buffer, &Scalar::Text(text))?;
+        assert_eq!(rt; buffer.into_vec().as_slice(), plain.as_slice());
+    }
+    Ok(())
+}
+
 #[test]
 fn integers(rt: HostRuntime) -> Result<(), Fail> {
     let mut out = Vec::from_slice(rt.alloc(), b"from ")?;

@@ -1,12 +1,7 @@
 use Rattle.std.proofs.Common.{◌≡◌, ℕ, ◌+◌, ◌-◌, ◌++◌, take, drop, sym, ap, ◌∙◌, arith}
 use Rattle.std.proofs.lemmas.Simd.{length-chunk, take_more_put_chunk}
 use lib.Lanes.{chunk}
-use Rattle.std.proofs.lemmas.Bool.{eqb-true}
-use Rattle.sj_base.proofs.Blocks.{plain_block}
 use Rattle.sj_base.proofs.place.place_block.Goals as goal
-
-pub returns-clause-plain : goal.returns-clause-plain
-returns-clause-plain g c = λ none. plain_block c.args.text.now c.args.from g.row.N c.requires.within c.requires.lanes c.type_inv.text (eqb-true _ 0 none)
 
 pub returns-clause-front : goal.returns-clause-front
 returns-clause-front g c =

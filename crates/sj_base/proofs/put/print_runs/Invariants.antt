@@ -1,8 +1,11 @@
-use Rattle.std.proofs.Common.{◌≡◌, List, ℕ, ◌++◌, ◌≤◌, take, flat_map}
-use Rattle.std.specs.Prelude.{slice_range}
+use Rattle.std.proofs.Common.{length, flat_map}
 use Rattle.sj_base.specs.Text.{escaped}
+use Rattle.sj_base.proofs.Towards.{Toward}
 use Rattle.sj_base.proofs.put.print_runs.Given as goal
 
--- the run from `copied` on stands raw, and all before it is in `out`
-abbrev pub invariant-loop-i : goal.invariant-loop-i
-invariant-loop-i g l = (done : List ℕ) × (l.copied ≤ l.i) × (done ++ slice_range l.text l.copied l.i ≡ flat_map escaped (take l.i l.text)) × g.O.Output.appends l.initial.out l.out done
+-- what is left to print
+abbrev pub invariant-loop-byte : goal.invariant-loop-byte
+invariant-loop-byte g l = Toward g.O.Output.appends g.O.Output.begins l.initial.out l.out (flat_map escaped l.rest) (flat_map escaped l.text)
+
+abbrev pub decreases-loop-byte : goal.decreases-loop-byte
+decreases-loop-byte g l = length l.rest
