@@ -11,6 +11,7 @@ pub mod Layout
 pub mod Laws
 pub mod Examples
 pub mod Scalar
+pub mod Copied
 pub mod Names
 pub mod Classes
 pub mod Calls
