@@ -1,0 +1,49 @@
+-- The keys stay distinct.
+use Rattle.std.proofs.Common.{◌≡◌, ℕ, zero, suc, false, List, [], ◌∷◌, ◌++◌, get_or, set, refl, ap, ◌∙◌, inl, inr}
+use Rattle.std.specs.Prelude.{bytes_eq}
+use Rattle.std.specs.Cmp.Lexicographic.{nat_list_eq_equiv}
+use Rattle.std.proofs.lemmas.Bool.{cases_Bool, or_parts, or_from}
+use Rattle.sj_object.specs.declared.entry.Entry.{Entry}
+use Rattle.sj_object.specs.Pairs.{keys_of, drop_key, has_text, AreDistinct}
+
+has_text-push : (ks : List (List ℕ)) (x k : List ℕ) → has_text ks x ≡ false → bytes_eq k x ≡ false → has_text (ks ++ k ∷ []) x ≡ false
+has_text-push [] x k h n = or_from _ _ n refl
+has_text-push (y ∷ ks) x k h n =
+    let s = or_parts (bytes_eq y x) (has_text ks x) h in or_from _ _ s.0 (has_text-push ks x k s.1 n)
+
+AreDistinct-push : (ks : List (List ℕ)) (k : List ℕ) → AreDistinct ks → has_text ks k ≡ false → AreDistinct (ks ++ k ∷ [])
+AreDistinct-push [] k d h = (refl, tt)
+AreDistinct-push (x ∷ ks) k d h =
+    let s = or_parts (bytes_eq x k) (has_text ks k) h in
+    (has_text-push ks x k d.0 (nat_list_eq_equiv.symm k x ∙ s.0), AreDistinct-push ks k d.1 s.1)
+
+module _ {K V : Type 0} (text : K → List ℕ) where
+  -- a new value in the place of a pair leaves the keys
+  pub keys_of-set : (d : Entry K V) (v : V) (es : List (Entry K V)) (i : ℕ) → keys_of text (set es i (record { key = (get_or es i d).key; value = v })) ≡ keys_of text es
+  keys_of-set d v [] i = refl
+  keys_of-set d v (e ∷ es) zero = refl
+  keys_of-set d v (e ∷ es) (suc i) = ap (λ l. text e.key ∷ l) (keys_of-set d v es i)
+
+  keys_of-push : (es : List (Entry K V)) (e : Entry K V) → keys_of text (es ++ e ∷ []) ≡ keys_of text es ++ text e.key ∷ []
+  keys_of-push [] e = refl
+  keys_of-push (x ∷ es) e = ap (λ l. text x.key ∷ l) (keys_of-push es e)
+
+  pub distinct_push : (es : List (Entry K V)) (e : Entry K V) → AreDistinct (keys_of text es) → has_text (keys_of text es) (text e.key) ≡ false → AreDistinct (keys_of text (es ++ e ∷ []))
+  distinct_push es e d h = rw (keys_of-push es e) (AreDistinct-push (keys_of text es) (text e.key) d h)
+
+  has_text-drop : (es : List (Entry K V)) (k x : List ℕ) → has_text (keys_of text es) x ≡ false → has_text (keys_of text (drop_key text es k)) x ≡ false
+  has_text-drop [] k x h = refl
+  has_text-drop (e ∷ es) k x h =
+      let s = or_parts (bytes_eq (text e.key) x) (has_text (keys_of text es) x) h in
+      elim (cases_Bool (bytes_eq (text e.key) k)) [
+        | inl t ↦ rw t s.1
+        | inr f ↦ rw f (or_from _ _ s.0 (has_text-drop es k x s.1))
+      ]
+
+  pub distinct_drop : (es : List (Entry K V)) (k : List ℕ) → AreDistinct (keys_of text es) → AreDistinct (keys_of text (drop_key text es k))
+  distinct_drop [] k d = tt
+  distinct_drop (e ∷ es) k d =
+      elim (cases_Bool (bytes_eq (text e.key) k)) [
+        | inl t ↦ rw t d.1
+        | inr f ↦ rw f (has_text-drop es k (text e.key) d.0, distinct_drop es k d.1)
+      ]

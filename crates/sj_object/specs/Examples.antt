@@ -1,0 +1,40 @@
+-- Worked values. A key is its text, and a value is a number.
+use Rattle.std.specs.Prelude.{◌≡◌, refl, ℕ, List, [], ◌∷◌, Some, None, codes}
+use Rattle.sj_object.specs.declared.entry.Entry.{Entry}
+use Rattle.sj_object.specs.Pairs.{value_at, set_value, put_key, drop_key}
+
+abbrev Pairs : Type 0
+Pairs = List (Entry (List ℕ) ℕ)
+
+abbrev text : List ℕ → List ℕ
+text k = k
+
+abbrev put : Pairs → List ℕ → ℕ → Pairs
+put es k v = put_key text es k v
+
+abbrev a_to : ℕ → Entry (List ℕ) ℕ
+a_to v = record { key = codes "a"; value = v }
+
+abbrev b_to : ℕ → Entry (List ℕ) ℕ
+b_to v = record { key = codes "b"; value = v }
+
+replaced_in_place : put (put (put [] (codes "a") 1) (codes "b") 2) (codes "a") 3 ≡ a_to 3 ∷ b_to 2 ∷ []
+replaced_in_place = refl
+
+closed_up : drop_key text (a_to 3 ∷ b_to 2 ∷ []) (codes "a") ≡ b_to 2 ∷ []
+closed_up = refl
+
+nothing_dropped : drop_key text (a_to 3 ∷ b_to 2 ∷ []) (codes "c") ≡ a_to 3 ∷ b_to 2 ∷ []
+nothing_dropped = refl
+
+found : value_at text (a_to 3 ∷ b_to 2 ∷ []) (codes "b") ≡ Some 2
+found = refl
+
+not_found : value_at text (a_to 3 ∷ b_to 2 ∷ []) (codes "") ≡ None
+not_found = refl
+
+written : set_value text (a_to 3 ∷ b_to 2 ∷ []) (codes "b") 5 ≡ a_to 3 ∷ b_to 5 ∷ []
+written = refl
+
+not_written : set_value text (a_to 3 ∷ b_to 2 ∷ []) (codes "c") 5 ≡ a_to 3 ∷ b_to 2 ∷ []
+not_written = refl

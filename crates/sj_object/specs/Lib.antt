@@ -1,0 +1,5 @@
+pub mod Pairs
+pub mod Iterators
+pub mod Examples
+pub mod inside
+pub mod formers

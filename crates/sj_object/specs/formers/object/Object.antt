@@ -1,0 +1,67 @@
+-- `Object` as a type that may hold the type that holds it, by its values.
+use Rattle.std.specs.Prelude.{ℕ, List, [], ◌∷◌, map}
+use mathlib.Core.Path.{◌≡◌, refl, sym, ap, subst}
+use mathlib.Core.Former.{Former, this, const, pair, list, via, children}
+use base.Stored.{code_map, gcons}
+use denote.RattleType.{RattleType}
+use denote.HoleLaws.{Alike}
+use denote.HolePlaces.{Recodes, struct_places, laid, stays}
+use denote.Hole.Carrier.{listed}
+use denote.Hole.Fix.{over}
+use denote.Param.Weighed.{Weighed, w_list, w_pair, w_const, w_via}
+use denote.Model.Placed.{view_places}
+use Rattle.std.specs.formers.vec.Vec as vec
+use Rattle.std.specs.declared.alloc.Global.{Global}
+use Rattle.std.specs.contracts.alloc.Global as heap
+use Rattle.std.specs.contracts.impls.GlobalAllocator.TheImpl.{ghosts}
+use Rattle.sj_object.specs.Pairs.{keys_of, AreDistinct, AreDistinct-prop}
+use Rattle.sj_object.specs.declared.entry.Entry.{Entry}
+use Rattle.sj_object.specs.declared.key.ObjectKey.{Ghosts}
+use Rattle.sj_object.specs.declared.object.Object.TheInside.{Inside}
+use Rattle.sj_object.specs.declared.object.Object.TheView.{view, invariant}
+use Rattle.sj_object.specs.contracts.entry.Entry as E
+use Rattle.sj_object.specs.contracts.object.Object as C
+use Rattle.sj_object.specs.contracts.object.Object.TheInside as I
+
+abbrev entry : Former {0} → Type 0 → Former {0}
+entry g K = via (pair (const K) g) (λ X. Entry K (g.Of X)) (λ X e. (e.key, e.value)) (λ X v. record { key = v.0; value = v.1 }) (λ X e. refl) (λ X v. refl)
+
+abbrev pub the_former : Former {0} → Type 0 → Former {0}
+the_former g K = list (entry g K)
+
+abbrev pub the_weighed : {g : Former {0}} → Weighed g → (K : Type 0) → Weighed (the_former g K)
+the_weighed {g} w K = w_list (w_via (w_pair (w_const K) w) (λ X. Entry K (g.Of X)) (λ X e. (e.key, e.value)) (λ X v. record { key = v.0; value = v.1 }) (λ X e. refl) (λ X v. refl))
+
+pub the_empty : (K : Type 0) → K → List (Entry K ⊥)
+the_empty K k = []
+
+abbrev pub the_items : (K X : Type 0) → List (Entry K X) → List X
+the_items K X es = map (λ e. e.value) es
+
+pub the_items_listed : (K X : Type 0) (es : List (Entry K X)) → listed _ (children (the_former this K) X es) ≡ the_items K X es
+the_items_listed K X [] = refl
+the_items_listed K X (e ∷ es) = ap (λ l. e.value ∷ l) (the_items_listed K X es)
+
+abbrev on_value : {K X Y : Type 0} → (X → Y) → Entry K X → Entry K Y
+on_value h e = record { key = e.key; value = h e.value }
+
+keys_kept : {K X Y : Type 0} (text : K → List ℕ) (h : X → Y) (es : List (Entry K X)) → keys_of text (map (on_value h) es) ≡ keys_of text es
+keys_kept text h [] = refl
+keys_kept text h (e ∷ es) = ap (λ l. text e.key ∷ l) (keys_kept text h es)
+
+abbrev fields : Type 0 → Former {0}
+fields K = via (vec.the_former (entry this K) Global) (λ X. Inside K X) (λ X a. a.entries) (λ X v. record { entries = v }) (λ X a. refl) (λ X v. refl)
+
+module _ (K : RattleType) (G : Ghosts K.Denot) (R S : RattleType) (h : R.Denot → S.Denot) where
+  entry_places : Alike R S h → Alike (E.the_row K R) (E.the_row K S) (on_value h)
+  entry_places a = struct_places (E.the_type K R) (E.the_type K S) (λ k. k, (h, tt)) _ (λ d. refl) refl (stays K, (laid _ _ _ a, tt))
+
+  pub the_places : Alike R S h → Alike (C.the_row K R G) (C.the_row K S G) ((the_former this K.Denot).map R.Denot S.Denot h)
+  the_places a = view_places (fields K.Denot) (the_former this K.Denot) (λ X. view K.Denot X G) (λ X Y k u. refl) (λ X u. refl) R.Denot S.Denot h (C.the_row K R G).coded (C.the_row K S G).coded
+      (invariant K.Denot R.Denot G) (invariant K.Denot S.Denot G) (λ u. AreDistinct-prop _) (λ u. AreDistinct-prop _)
+      (λ u. subst AreDistinct (sym (keys_kept G.text h u.entries.items))) (λ u. subst AreDistinct (keys_kept G.text h u.entries.items))
+      (over (I.the_row K R G)) (over (I.the_row K S G))
+      (struct_places (I.the_type K R G) (I.the_type K S G) (vec.mapped (on_value h), tt) _ (λ d. refl) refl (laid _ _ _ (vec.the_places heap.the_row ghosts (E.the_row K R) (E.the_row K S) (on_value h) (entry_places a)), tt))
+
+  pub the_codes_placed : Recodes R S h → Recodes (C.the_row K R G) (C.the_row K S G) ((the_former this K.Denot).map R.Denot S.Denot h)
+  the_codes_placed e d = sym (code_map (λ x. gcons (K.coded.code x.key) (R.coded.code x.value)) (λ x. gcons (K.coded.code x.key) (S.coded.code x.value)) (on_value h) (λ x. ap (gcons (K.coded.code x.key)) (sym (e x.value))) d)

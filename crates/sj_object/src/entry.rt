@@ -1,0 +1,15 @@
+//! Pairs of a key and a value.
+
+/// A pair of a key and a value, as an object stores it.
+#[derive(Debug, Drop)]
+pub struct Entry<K, V> {
+    pub key: K,
+    pub value: V,
+}
+
+/// A pair that an object had no memory for. It is handed back.
+#[derive(Debug, Drop)]
+pub struct Refused<K, V> {
+    pub key: K,
+    pub value: V,
+}

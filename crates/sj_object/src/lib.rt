@@ -1,0 +1,15 @@
+//! JSON objects: pairs of a key and a value in insertion order, with no key twice.
+//!
+//! [`Object`] is a list of pairs. A key is found by its text, so a look-up takes a `&str` whatever type stores the keys.
+//! Contracts see an object as the list of its pairs: an insertion is `put_key` on that list, a removal `drop_key`.
+#![tactic(auto)]
+
+mod entry;
+mod iter;
+mod key;
+mod object;
+
+pub use entry::{Entry, Refused};
+pub use iter::Iter;
+pub use key::ObjectKey;
+pub use object::Object;

@@ -1,0 +1,144 @@
+//! The object and its calls by key.
+ghost use Rattle.std.specs.Prelude.{◌≡◌, ◌↔◌, [], length, IsTrue, IsSome, IsOk, IfOk, IfErr, OnOk, OnErr};
+ghost use Rattle.std.specs.Option.{option_copied};
+ghost use Rattle.sj_object.specs.Pairs.{value_at, put_key, drop_key};
+ghost use Rattle.sj_object.specs.inside.Places.{place_of};
+
+use crate::entry::{Entry, Refused};
+use crate::iter::Iter;
+use crate::key::ObjectKey;
+use std::alloc::{AllocError, Global};
+use std::marker::Model;
+use std::mem;
+
+/// Pairs of a key and a value in insertion order, with no key twice. Port of `simd_json::value::owned::Object`.
+///
+/// A key is found by comparing texts from the first pair on.
+#[derive(Debug, Drop)]
+pub struct Object<K: ObjectKey, V> {
+    entries: Vec<Entry<K, V>>,
+}
+
+impl<K: ObjectKey, V> Model for Object<K, V> {
+    ghost use Rattle.std.specs.Prelude.{List};
+    ghost use Rattle.sj_object.specs.declared.entry.Entry.{Entry};
+    ghost use Rattle.sj_object.specs.Pairs.{keys_of, AreDistinct};
+
+    ghost Value = { List (Entry K V) };
+
+    ghost view = { λ o. o.entries.items };
+
+    ghost invariant = { λ o. AreDistinct (keys_of K.text o.entries.items) };
+}
+
+impl<K: ObjectKey, V> Object<K, V> {
+    ghost use Rattle.sj_object.specs.Iterators.{entries_left};
+
+    /// Returns an object without pairs. Allocates nothing.
+    pub fn new(alloc: Global) -> Self
+        ensures { result ≡ [] }
+    {
+        Object {
+            entries: Vec::new(alloc),
+        }
+    }
+
+    /// Returns an object without pairs that has room for this many.
+    ///
+    /// # Errors
+    ///
+    /// `AllocError` if there is no memory for that room.
+    pub fn with_capacity(alloc: Global, capacity: usize) -> Result<Self, AllocError>
+        ensures { IfOk result (λ object. object ≡ []) }
+    {
+        let entries = Vec::with_capacity(alloc, capacity)?;
+        Ok(Object { entries })
+    }
+
+    /// Returns the number of pairs.
+    pub fn len(&self) -> usize
+        ensures { result ≡ length self.now }
+    {
+        self.entries.len()
+    }
+
+    /// Returns `true` if the object has no pairs.
+    pub fn is_empty(&self) -> bool
+        ensures { IsTrue result ↔ (self.now ≡ []) }
+    {
+        self.entries.is_empty()
+    }
+
+    // The place of the pair with this key.
+    fn position(&self, key: &str) -> Option<usize>
+        ensures { result ≡ place_of K.text self.now key.now }
+    {
+        self.entries
+            .iter()
+            .position(|entry| entry.key.as_text() == key)
+    }
+
+    /// Returns the value of this key.
+    pub fn get(&self, key: &str) -> Option<&V>
+        ensures { option_copied result ≡ value_at K.text self.now key.now }
+    {
+        let at = self.position(key)?;
+        Some(&self.entries[at].value)
+    }
+
+    /// Puts the value in the place of the value of this key, which is returned. A new key goes last.
+    ///
+    /// A key that is there stays as it is, and replacing its value needs no memory.
+    ///
+    /// # Errors
+    ///
+    /// The key and the value come back if there is no memory for a new pair. The object is unchanged.
+    pub fn insert(&mut self, key: K, value: V) -> Result<Option<V>, Refused<K, V>>
+    where
+        K: Drop,
+        ensures ok { OnOk result (self.new ≡ put_key K.text self.old key value) }
+        ensures replaced { IfOk result (λ old. old ≡ value_at K.text self.old (K.text key)) }
+        ensures succeeds { IsSome (value_at K.text self.old (K.text key)) → IsOk result }
+        ensures err { OnErr result (self.new ≡ self.old) }
+        ensures handed_back { IfErr result (λ pair. (pair.key ≡ key) × (pair.value ≡ value)) }
+    {
+        let Some(at) = self.position(key.as_text()) else {
+            return self.append(key, value);
+        };
+        Ok(Some(mem::replace(&mut self.entries[at].value, value)))
+    }
+
+    // Puts a pair with a new key last.
+    fn append(&mut self, key: K, value: V) -> Result<Option<V>, Refused<K, V>>
+        requires { place_of K.text self.old (K.text key) ≡ None }
+        ensures ok { OnOk result (self.new ≡ put_key K.text self.old key value) }
+        ensures none { IfOk result (λ old. old ≡ None) }
+        ensures err { OnErr result (self.new ≡ self.old) }
+        ensures handed_back { IfErr result (λ pair. (pair.key ≡ key) × (pair.value ≡ value)) }
+    {
+        if let Err(refused) = self.entries.push(Entry { key, value }) {
+            let Entry { key, value } = refused.value;
+            return Err(Refused { key, value });
+        }
+        Ok(None)
+    }
+
+    /// Removes the pair of this key and returns its value. The pairs after it close up.
+    pub fn remove(&mut self, key: &str) -> Option<V>
+    where
+        K: Drop,
+        ensures value { result ≡ value_at K.text self.old key.now }
+        ensures rest { self.new ≡ drop_key K.text self.old key.now }
+    {
+        let at = self.position(key)?;
+        let Entry { key: _key, value } = self.entries.remove(at);
+        Some(value)
+    }
+
+    /// Returns an iterator over the pairs in insertion order.
+    pub fn iter(&self) -> Iter<'_, K, V>
+        ensures { entries_left result ≡ self.now }
+    {
+        Iter::new(&self.entries)
+    }
+}
