@@ -279,12 +279,12 @@ impl<'t, 'i> Value<'t, 'i> {
         }
     }
 
-    // Returns the value if it isn't a container.
+    /// Returns the value as a scalar, whose text may outlive the tape, or `None` if the value is an array or an object.
     #[tactic(auto, unfolding(crate::specs::Listed::tree_of))]
     #[inline(always)]
-    fn scalar(&self) -> Option<Scalar<'i>>
-        ensures tree { option_map scalar_tree result ≡ scalar_in (value_tree self.now) }
-        ensures kind { IfSome result (λ s. scalar_type s ≡ value_kind self.now) }
+    pub fn into_scalar(self) -> Option<Scalar<'i>>
+        ensures tree { option_map scalar_tree result ≡ scalar_in (value_tree self.entry) }
+        ensures kind { IfSome result (λ s. scalar_type s ≡ value_kind self.entry) }
     {
         match take_node(self.nodes) {
             Some((first, _)) => first.scalar(),
@@ -319,7 +319,7 @@ impl ValueAsScalar for Value<'_, '_> {
 
     #[inline(always)]
     fn as_scalar(&self) -> Option<Scalar<'_>> {
-        self.scalar()
+        self.into_scalar()
     }
 }
 
@@ -332,7 +332,7 @@ impl ValueGetScalar for Value<'_, '_> {
         match self.try_get(key)? {
             Some(member) => Ok(Some(Member {
                 kind: member.value_type(),
-                scalar: member.scalar(),
+                scalar: member.into_scalar(),
             })),
             None => Ok(None),
         }

@@ -1,0 +1,53 @@
+-- The tree of a document, level by level.
+use Rattle.std.proofs.Common.{◌≡◌, ℕ, zero, suc, true, false, ◌<◌, ◌≤◌, length, get_or, List, [], ◌∷◌, ◌++◌, refl, ap, sym, ◌∙◌, rules, arith, Vec, Option, Some, None, option_map, if◌then◌else◌, Bool, bytes_eq}
+use Rattle.std.specs.Borrow.{Bor}
+use Rattle.std.specs.Slice.{IsGetResult}
+use Rattle.std.specs.Option.{option_copied}
+use Rattle.std.specs.declared.alloc.Global.{Global}
+use Rattle.sj_base.specs.Tree.{Tree, decimal, string, list, object, Items, no_items, item, Members, no_members, member}
+use Rattle.sj_base.specs.Containers.{items_in, members_in}
+use Rattle.sj_base.specs.Scalar.{static_tree}
+use Rattle.sj_base.specs.Path.{item_at, member_at}
+use Rattle.sj_object.specs.Pairs.{value_at}
+use Rattle.sj_object.specs.declared.entry.Entry.{Entry}
+use Rattle.sj_owned.specs.Trees.{members_of, on_values}
+use Rattle.sj_owned.specs.Views.{value_tree, items_view, members_view}
+use Rattle.sj_owned.specs.declared.value.Value.{Value, Array, Object, the_lemmas}
+
+module _ {K D : Type 0} (text : K → List ℕ) (literal : D → List ℕ) where
+  pub tree-Array : (v : Vec (Value K D) Global) → value_tree text literal (Array v) ≡ list (items_view text literal v.items)
+  tree-Array v = search (rules, the_lemmas)
+
+  pub tree-Object : (es : List (Entry K (Value K D))) → value_tree text literal (Object es) ≡ object (members_view text literal es)
+  tree-Object es = search (rules, the_lemmas)
+
+  item_within : (vs : List (Value K D)) (i : ℕ) (v : Value K D) → i < length vs → Some (value_tree text literal (get_or vs i v)) ≡ item_at (items_view text literal vs) i
+  item_within [] i v within = absurd (omega arith)
+  item_within (u ∷ vs) zero v within = refl
+  item_within (u ∷ vs) (suc i) v within = item_within vs i v (omega arith)
+
+  item_past : (vs : List (Value K D)) (i : ℕ) → length vs ≤ i → None ≡ item_at (items_view text literal vs) i
+  item_past [] i past = refl
+  item_past (u ∷ vs) zero past = absurd (omega arith)
+  item_past (u ∷ vs) (suc i) past = item_past vs i (omega arith)
+
+  -- what `get` finds at an index
+  pub item_found : (vs : List (Value K D)) (i : ℕ) (r : Option (Bor (Value K D))) → IsGetResult vs i i r → option_map (λ (v : Bor (Value K D)). value_tree text literal v.now) r ≡ item_at (items_view text literal vs) i
+  item_found vs i None h = item_past vs i h.3
+  item_found vs i (Some x) h = ap (λ v. Some (value_tree text literal v)) h.1 ∙ item_within vs i x.now h.3.0
+
+  found_first : (b : Bool) (v : Value K D) (o : Option (Value K D)) → option_map (value_tree text literal) (if b then Some v else o) ≡ (if b then Some (value_tree text literal v) else option_map (value_tree text literal) o)
+  found_first true v o = refl
+  found_first false v o = refl
+
+  -- a look-up in the pairs is one in the members
+  pub value_member : (es : List (Entry K (Value K D))) (k : List ℕ) → option_map (value_tree text literal) (value_at text es k) ≡ member_at (members_view text literal es) k
+  value_member [] k = refl
+  value_member (e ∷ es) k =
+      found_first (bytes_eq (text e.key) k) e.value (value_at text es k)
+      ∙ ap (λ o. if bytes_eq (text e.key) k then Some (value_tree text literal e.value) else o) (value_member es k)
+
+  -- what `get` finds under a key
+  pub member_found : (es : List (Entry K (Value K D))) (k : List ℕ) (r : Option (Bor (Value K D))) → option_copied r ≡ value_at text es k → option_map (λ (v : Bor (Value K D)). value_tree text literal v.now) r ≡ member_at (members_view text literal es) k
+  member_found es k None h = ap (option_map (value_tree text literal)) h ∙ value_member es k
+  member_found es k (Some v) h = ap (option_map (value_tree text literal)) h ∙ value_member es k

@@ -1,0 +1,2 @@
+pub mod Layers
+pub mod Pieces

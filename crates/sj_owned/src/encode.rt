@@ -1,0 +1,127 @@
+//! Encoders: the JSON text of a document, appended to a vector.
+ghost use Rattle.std.specs.Prelude.{◌≡◌, ◌+◌, ◌++◌, ◌<◌, ◌^◌, OnOk, OnErr};
+ghost use Rattle.sj_base.specs.Text.{text, pretty};
+ghost use Rattle.sj_base.specs.Tree.{list, object};
+ghost use Rattle.sj_base.specs.Layout.{level_of, laid_out};
+ghost use Rattle.sj_base.specs.Buffer.{buffer_text};
+ghost use Rattle.sj_owned.specs.Views.{value_tree, items_view, members_view};
+
+use crate::literal::Literal;
+use crate::value::Value;
+use sj_base::{Layout, Scalar, TextBuffer, print_text, whole_or_none};
+use sj_object::{Object, ObjectKey};
+use std::alloc::AllocError;
+use std::mem;
+
+// Tests that the next level has a number. A text with more levels has more bytes than there can be.
+#[inline(always)]
+fn test_level(layout: Layout) -> Result<(), AllocError>
+    ensures { OnOk result (level_of layout + 1 < 2 ^ 64) }
+{
+    match layout {
+        Layout::Indented(usize::MAX) => Err(AllocError),
+        _ => Ok(()),
+    }
+}
+
+#[cycle(print)]
+fn print_value<K: ObjectKey, D: Literal>(
+    value: &Value<K, D>,
+    layout: Layout,
+    out: &mut TextBuffer,
+) -> Result<(), AllocError>
+    ensures { OnOk result (buffer_text out.new
+        ≡ buffer_text out.old ++ laid_out layout (value_tree K.text D.literal value.now)) }
+{
+    match value {
+        Value::Static(scalar) => print_text(out, &Scalar::Static(*scalar)),
+        Value::Decimal(literal) => print_text(out, &Scalar::Literal(literal.as_decimal())),
+        Value::String(string) => print_text(out, &Scalar::Text(string.as_text())),
+        Value::Array(items) => print_items(items, layout, out),
+        Value::Object(members) => print_members(members, layout, out),
+    }
+}
+
+#[cycle(print)]
+fn print_items<K: ObjectKey, D: Literal>(
+    items: &[Value<K, D>],
+    layout: Layout,
+    out: &mut TextBuffer,
+) -> Result<(), AllocError>
+    ensures { OnOk result (buffer_text out.new
+        ≡ buffer_text out.old ++ laid_out layout (list (items_view K.text D.literal items.now))) }
+{
+    test_level(layout)?;
+    let mut list = layout.open_list(out)?;
+    for item in items {
+        list.next(out)?;
+        print_value(item, list.inside(), out)?;
+    }
+    list.close(out)
+}
+
+#[cycle(print)]
+fn print_members<K: ObjectKey, D: Literal>(
+    members: &Object<K, Value<K, D>>,
+    layout: Layout,
+    out: &mut TextBuffer,
+) -> Result<(), AllocError>
+    ensures { OnOk result (buffer_text out.new
+        ≡ buffer_text out.old ++ laid_out layout (object (members_view K.text D.literal members.now))) }
+{
+    test_level(layout)?;
+    let mut object = layout.open_object(out)?;
+    for (key, value) in members.iter() {
+        object.key(key.as_text(), out)?;
+        print_value(value, object.inside(), out)?;
+    }
+    object.close(out)
+}
+
+// Appends the text, or nothing.
+fn append<K: ObjectKey, D: Literal>(
+    value: &Value<K, D>,
+    layout: Layout,
+    out: &mut Vec<u8>,
+) -> Result<(), AllocError>
+    ensures ok { OnOk result (out.new.items ≡ out.old.items ++ laid_out layout (value_tree K.text D.literal value.now)) }
+    ensures err { OnErr result (out.new.items ≡ out.old.items) }
+{
+    let start = out.len();
+    let alloc = *out.allocator();
+    let mut text = TextBuffer::new(mem::replace(out, Vec::new(alloc)));
+    let printed = print_value(value, layout, &mut text);
+    *out = text.into_vec();
+    whole_or_none(out, start, printed)
+}
+
+impl<K: ObjectKey, D: Literal> Value<K, D> {
+    /// Appends the compact text of the value to `out` (`value_trait::Writable::encode`).
+    ///
+    /// The recursion is as deep as the value nests.
+    ///
+    /// # Errors
+    ///
+    /// `AllocError` if there is no memory for the text. Nothing is then appended.
+    pub fn encode(&self, out: &mut Vec<u8>) -> Result<(), AllocError>
+        ensures ok { OnOk result (out.new.items ≡ out.old.items ++ text (value_tree K.text D.literal self.now)) }
+        ensures err { OnErr result (out.new.items ≡ out.old.items) }
+    {
+        append(self, Layout::Compact, out)
+    }
+
+    /// Appends the text of the value to `out`, with each item and member on a line of its own, indented by two spaces a
+    /// level (`value_trait::Writable::encode_pp`).
+    ///
+    /// The recursion is as deep as the value nests.
+    ///
+    /// # Errors
+    ///
+    /// `AllocError` if there is no memory for the text. Nothing is then appended.
+    pub fn encode_pp(&self, out: &mut Vec<u8>) -> Result<(), AllocError>
+        ensures ok { OnOk result (out.new.items ≡ out.old.items ++ pretty (value_tree K.text D.literal self.now)) }
+        ensures err { OnErr result (out.new.items ≡ out.old.items) }
+    {
+        append(self, Layout::Indented(0), out)
+    }
+}
