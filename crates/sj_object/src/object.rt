@@ -1,11 +1,11 @@
 //! The object and its calls by key.
-ghost use Rattle.std.specs.Prelude.{◌≡◌, ◌↔◌, [], length, IsTrue, IsSome, IsOk, IfOk, IfErr, OnOk, OnErr};
+ghost use Rattle.std.specs.Prelude.{◌≡◌, ◌↔◌, [], length, map, is_some, IsTrue, IsSome, IsOk, IfOk, IfErr, OnOk, OnErr};
 ghost use Rattle.std.specs.Option.{option_copied};
 ghost use Rattle.sj_object.specs.Pairs.{value_at, put_key, drop_key};
 ghost use Rattle.sj_object.specs.inside.Places.{place_of};
 
 use crate::entry::{Entry, Refused};
-use crate::iter::Iter;
+use crate::iter::{IntoIter, Iter, Keys, Values};
 use crate::key::ObjectKey;
 use std::alloc::{AllocError, Global};
 use std::marker::Model;
@@ -32,7 +32,7 @@ impl<K: ObjectKey, V> Model for Object<K, V> {
 }
 
 impl<K: ObjectKey, V> Object<K, V> {
-    ghost use Rattle.sj_object.specs.Iterators.{entries_left};
+    ghost use Rattle.sj_object.specs.Iterators.{entries_left, keys_left, values_left};
 
     /// Returns an object without pairs. Allocates nothing.
     pub fn new(alloc: Global) -> Self
@@ -84,6 +84,13 @@ impl<K: ObjectKey, V> Object<K, V> {
     {
         let at = self.position(key)?;
         Some(&self.entries[at].value)
+    }
+
+    /// Returns `true` if the object has this key.
+    pub fn contains_key(&self, key: &str) -> bool
+        ensures { result ≡ is_some (value_at K.text self.now key.now) }
+    {
+        self.get(key).is_some()
     }
 
     /// Puts the value in the place of the value of this key, which is returned. A new key goes last.
@@ -140,5 +147,49 @@ impl<K: ObjectKey, V> Object<K, V> {
         ensures { entries_left result ≡ self.now }
     {
         Iter::new(&self.entries)
+    }
+
+    /// Returns an iterator over the keys in insertion order.
+    pub fn keys(&self) -> Keys<'_, K, V>
+        ensures { keys_left result ≡ map (λ e. e.key) self.now }
+    {
+        Keys::new(self.iter())
+    }
+
+    /// Returns an iterator over the values in insertion order.
+    pub fn values(&self) -> Values<'_, K, V>
+        ensures { values_left result ≡ map (λ e. e.value) self.now }
+    {
+        Values::new(self.iter())
+    }
+}
+
+impl<'a, K: ObjectKey, V> IntoIterator for &'a Object<K, V> {
+    type Item = (&'a K, &'a V);
+
+    type IntoIter = Iter<'a, K, V>;
+
+    ghost use Rattle.sj_object.specs.Iterators.{entries_left};
+
+    ghost into_iter_gives = { λ object it. entries_left it ≡ object.now };
+
+    fn into_iter(self) -> Iter<'a, K, V> {
+        self.iter()
+    }
+}
+
+/// Takes the object apart. Needs no memory.
+impl<K: ObjectKey + Drop, V: Drop> IntoIterator for Object<K, V> {
+    type Item = (K, V);
+
+    type IntoIter = IntoIter<K, V>;
+
+    ghost use Rattle.sj_object.specs.Iterators.{owned_left};
+
+    ghost into_iter_gives = { λ object it. owned_left it ≡ object };
+
+    fn into_iter(self) -> IntoIter<K, V> {
+        let Object { entries } = self;
+        IntoIter::new(entries)
     }
 }
