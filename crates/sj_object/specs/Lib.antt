@@ -1,5 +1,6 @@
 pub mod Pairs
 pub mod Iterators
+pub mod Lends
 pub mod Hash
 pub mod Examples
 pub mod inside

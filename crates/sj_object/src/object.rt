@@ -1,6 +1,7 @@
 //! The object and its calls by key.
-ghost use Rattle.std.specs.Prelude.{◌≡◌, ◌↔◌, [], length, map, is_some, IsTrue, IsSome, IsOk, IfOk, IfErr, OnOk, OnErr};
-ghost use Rattle.std.specs.Option.{option_copied};
+ghost use Rattle.std.specs.Prelude.{◌≡◌, ◌<◌, ◌↔◌, [], length, map, slice_get, is_some, IsTrue, IsSome, IsOk, IfOk, IfErr, OnOk, OnErr};
+ghost use Rattle.std.specs.Borrow.{sem};
+ghost use Rattle.std.specs.Option.{option_copied, option_copied_mut};
 ghost use Rattle.sj_object.specs.Pairs.{value_at, put_key, drop_key};
 ghost use Rattle.sj_object.specs.inside.Places.{place_of};
 
@@ -33,6 +34,7 @@ impl<K: ObjectKey, V> Model for Object<K, V> {
 
 impl<K: ObjectKey, V> Object<K, V> {
     ghost use Rattle.sj_object.specs.Iterators.{entries_left, keys_left, values_left};
+    ghost use Rattle.sj_object.specs.Lends.{lends_place, lends_value};
 
     /// Returns an object without pairs. Allocates nothing.
     pub fn new(alloc: Global) -> Self
@@ -84,6 +86,26 @@ impl<K: ObjectKey, V> Object<K, V> {
     {
         let at = self.position(key)?;
         Some(&self.entries[at].value)
+    }
+
+    /// Returns the value of this key for writing.
+    pub fn get_mut(&mut self, key: &str) -> Option<&mut V>
+        ensures* writes_back { sem 𝓛 (lends_value K.row V.row K.ObjectKey self.entry key.now result) }
+        ensures value { option_copied_mut result ≡ value_at K.text self.old key.now }
+    {
+        match self.position(key) {
+            Some(at) => Some(self.value_mut(at)),
+            None => None,
+        }
+    }
+
+    // The value of the pair at this place.
+    pub(crate) fn value_mut(&mut self, at: usize) -> &mut V
+        requires { at < length self.old }
+        ensures* writes_back { sem 𝓛 (lends_place K.row V.row K.ObjectKey self.entry at result) }
+        ensures value { slice_get (map (λ e. e.value) self.old) at ≡ Some result.now }
+    {
+        &mut self.entries[at].value
     }
 
     /// Returns `true` if the object has this key.
