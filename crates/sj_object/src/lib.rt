@@ -6,6 +6,7 @@
 
 mod entry;
 mod hash;
+mod hashed;
 mod iter;
 mod key;
 mod object;

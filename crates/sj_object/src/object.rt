@@ -17,7 +17,7 @@ use std::mem;
 /// A key is found by comparing texts from the first pair on.
 #[derive(Debug, Drop)]
 pub struct Object<K: ObjectKey, V> {
-    entries: Vec<Entry<K, V>>,
+    pub(crate) entries: Vec<Entry<K, V>>,
 }
 
 impl<K: ObjectKey, V> Model for Object<K, V> {
@@ -72,7 +72,7 @@ impl<K: ObjectKey, V> Object<K, V> {
     }
 
     // The place of the pair with this key.
-    fn position(&self, key: &str) -> Option<usize>
+    pub(crate) fn position(&self, key: &str) -> Option<usize>
         ensures { result ≡ place_of K.text self.now key.now }
     {
         self.entries
