@@ -1,14 +1,14 @@
 -- What the place of a key says of look-ups and edits.
-use Rattle.std.proofs.Common.{◌≡◌, ltb, ℕ, suc, ◌<◌, ◌+◌, true, false, List, [], ◌∷◌, ◌++◌, Option, Some, None, length, get_or, set, take, drop, refl, sym, subst, ap, inl, inr, arith, cond}
+use Rattle.std.proofs.Common.{◌≡◌, ltb, ℕ, zero, suc, ◌<◌, map, slice_get, ◌+◌, true, false, List, [], ◌∷◌, ◌++◌, Option, Some, None, length, get_or, set, take, drop, refl, sym, subst, ap, inl, inr, arith, cond}
 use Rattle.std.specs.Prelude.{bytes_eq, option_map}
 use Rattle.std.specs.List.{position, position_or_len}
 use Rattle.std.proofs.lemmas.Bool.{cases_Bool, or_from}
 use Rattle.std.proofs.lemmas.Bool.Decides.{nat_tests}
 use Rattle.sj_object.specs.declared.entry.Entry.{Entry}
 use Rattle.sj_object.specs.Pairs.{keys_of, value_at, set_value, put_key, drop_key, has_text}
-use Rattle.sj_object.specs.inside.Places.{place_of}
+use Rattle.sj_object.specs.inside.Places.{place_of, set_place}
 
-some_same : {X : Type 0} (a b : X) → Some a ≡ Some b → a ≡ b
+pub some_same : {X : Type 0} (a b : X) → Some a ≡ Some b → a ≡ b
 some_same a b h = cc
 
 none_some : {X : Type 0} (a : X) → None ≡ Some a → ⊥
@@ -85,11 +85,34 @@ module _ {K V : Type 0} (text : K → List ℕ) (k : List ℕ) where
   pub has_text_no_place : (es : List (Entry K V)) → place_of text es k ≡ None → has_text (keys_of text es) k ≡ false
   has_text_no_place = at_no_place (λ es. has_text (keys_of text es) k ≡ false) refl (λ e es f p. or_from _ _ f p)
 
+  pub set_value-set_place : (v : V) (es : List (Entry K V)) (i : ℕ) → place_of text es k ≡ Some i → set_value text es k v ≡ set_place es i v
+  set_value-set_place v = at_place (λ es i. set_value text es k v ≡ set_place es i v) (λ e es t. rw t) (λ e es i f p. rw f (ap (λ l. e ∷ l) p))
+
+  pub value_at-values : (es : List (Entry K V)) (i : ℕ) → place_of text es k ≡ Some i → value_at text es k ≡ slice_get (map (λ e. e.value) es) i
+  value_at-values = at_place (λ es i. value_at text es k ≡ slice_get (map (λ e. e.value) es) i) (λ e es t. rw t) (λ e es i f p. rw f p)
+
 module _ {K V : Type 0} (text : K → List ℕ) (k : K) (v : V) where
-  pub put_key_place : (d : Entry K V) (es : List (Entry K V)) (i : ℕ) → place_of text es (text k) ≡ Some i
-      → put_key text es k v ≡ set es i (record { key = (get_or es i d).key; value = v })
-  put_key_place d = at_place text (text k) (λ es i. put_key text es k v ≡ set es i (record { key = (get_or es i d).key; value = v }))
-      (λ e es t. rw t) (λ e es i f p. rw f (ap (λ l. e ∷ l) p))
+  pub put_key-set_place : (es : List (Entry K V)) (i : ℕ) → place_of text es (text k) ≡ Some i → put_key text es k v ≡ set_place es i v
+  put_key-set_place = at_place text (text k) (λ es i. put_key text es k v ≡ set_place es i v) (λ e es t. rw t) (λ e es i f p. rw f (ap (λ l. e ∷ l) p))
 
   pub put_key_no_place : (es : List (Entry K V)) → place_of text es (text k) ≡ None → put_key text es k v ≡ es ++ record { key = k; value = v } ∷ []
   put_key_no_place = at_no_place text (text k) (λ es. put_key text es k v ≡ es ++ record { key = k; value = v } ∷ []) refl (λ e es f p. rw f (ap (λ l. e ∷ l) p))
+
+module _ {K V : Type 0} where
+  pub set_place-set : (d : Entry K V) (v : V) (es : List (Entry K V)) (i : ℕ) → set_place es i v ≡ set es i (record { key = (get_or es i d).key; value = v })
+  set_place-set d v [] i = refl
+  set_place-set d v (e ∷ es) zero = refl
+  set_place-set d v (e ∷ es) (suc i) = ap (λ l. e ∷ l) (set_place-set d v es i)
+
+  pub values_at : (d : Entry K V) (es : List (Entry K V)) (i : ℕ) → i < length es → slice_get (map (λ e. e.value) es) i ≡ Some (get_or es i d).value
+  values_at d [] i h = absurd (omega arith)
+  values_at d (e ∷ es) zero h = refl
+  values_at d (e ∷ es) (suc i) h = values_at d es i (omega arith)
+
+  pub set_place-last : (v : V) (es : List (Entry K V)) (e : Entry K V) (i : ℕ) → i ≡ length es → set_place (es ++ e ∷ []) i v ≡ es ++ record e { value = v } ∷ []
+  set_place-last v [] e i h = rw h
+  set_place-last v (x ∷ es) e i h = rw h (ap (λ l. x ∷ l) (set_place-last v es e (length es) refl))
+
+  pub values_last : (es : List (Entry K V)) (e : Entry K V) (i : ℕ) → i ≡ length es → slice_get (map (λ x. x.value) (es ++ e ∷ [])) i ≡ Some e.value
+  values_last [] e i h = rw h
+  values_last (x ∷ es) e i h = rw h (values_last es e (length es) refl)

@@ -1,5 +1,7 @@
 pub mod Pairs
 pub mod Iterators
+pub mod Lends
+pub mod Hash
 pub mod Examples
 pub mod inside
 pub mod formers

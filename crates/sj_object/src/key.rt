@@ -1,5 +1,9 @@
 //! Types of keys.
-ghost use Rattle.std.specs.Prelude.{◌≡◌, ℕ, List, string_bytes};
+ghost use Rattle.std.specs.Prelude.{◌≡◌, ℕ, List, IfOk, string_bytes};
+ghost use Rattle.std.specs.Cow.{cow_str_bytes};
+
+use std::alloc::{AllocError, Global};
+use std::borrow::CowStr;
 
 /// A type of keys. Keys are compared by their texts.
 pub trait ObjectKey {
@@ -16,5 +20,38 @@ impl ObjectKey for String {
 
     fn as_text(&self) -> &str {
         self.as_str()
+    }
+}
+
+impl ObjectKey for CowStr<'_> {
+    ghost text = { cow_str_bytes };
+
+    fn as_text(&self) -> &str {
+        self.as_str()
+    }
+}
+
+/// A type of keys that can be made of a text.
+pub trait MakeKey<'de>: ObjectKey + Sized {
+    /// Returns a key with this text.
+    ///
+    /// # Errors
+    ///
+    /// `AllocError` if there is no memory for a copy of the text.
+    fn from_text(alloc: Global, text: &'de str) -> Result<Self, AllocError>
+        ensures { IfOk result (λ key. Self.text key ≡ text.now) };
+}
+
+/// The key is a copy of the text.
+impl<'de> MakeKey<'de> for String {
+    fn from_text(alloc: Global, text: &'de str) -> Result<String, AllocError> {
+        String::from_str(alloc, text)
+    }
+}
+
+/// The key borrows the text.
+impl<'de> MakeKey<'de> for CowStr<'de> {
+    fn from_text(_alloc: Global, text: &'de str) -> Result<CowStr<'de>, AllocError> {
+        Ok(CowStr::Borrowed(text))
     }
 }

@@ -5,11 +5,14 @@
 #![tactic(auto)]
 
 mod entry;
+mod hash;
+mod hashed;
 mod iter;
 mod key;
 mod object;
 
 pub use entry::{Entry, Refused};
-pub use iter::Iter;
-pub use key::ObjectKey;
+pub use hash::{NotSoRandomState, ObjectHasher, hash_key};
+pub use iter::{IntoIter, Iter, Keys, Values};
+pub use key::{MakeKey, ObjectKey};
 pub use object::Object;

@@ -1,11 +1,12 @@
 //! The object and its calls by key.
-ghost use Rattle.std.specs.Prelude.{◌≡◌, ◌↔◌, [], length, IsTrue, IsSome, IsOk, IfOk, IfErr, OnOk, OnErr};
-ghost use Rattle.std.specs.Option.{option_copied};
+ghost use Rattle.std.specs.Prelude.{◌≡◌, ◌<◌, ◌↔◌, [], length, map, slice_get, is_some, IsTrue, IsSome, IsOk, IfOk, IfErr, OnOk, OnErr};
+ghost use Rattle.std.specs.Borrow.{sem};
+ghost use Rattle.std.specs.Option.{option_copied, option_copied_mut};
 ghost use Rattle.sj_object.specs.Pairs.{value_at, put_key, drop_key};
 ghost use Rattle.sj_object.specs.inside.Places.{place_of};
 
 use crate::entry::{Entry, Refused};
-use crate::iter::Iter;
+use crate::iter::{IntoIter, Iter, Keys, Values};
 use crate::key::ObjectKey;
 use std::alloc::{AllocError, Global};
 use std::marker::Model;
@@ -16,7 +17,7 @@ use std::mem;
 /// A key is found by comparing texts from the first pair on.
 #[derive(Debug, Drop)]
 pub struct Object<K: ObjectKey, V> {
-    entries: Vec<Entry<K, V>>,
+    pub(crate) entries: Vec<Entry<K, V>>,
 }
 
 impl<K: ObjectKey, V> Model for Object<K, V> {
@@ -32,7 +33,8 @@ impl<K: ObjectKey, V> Model for Object<K, V> {
 }
 
 impl<K: ObjectKey, V> Object<K, V> {
-    ghost use Rattle.sj_object.specs.Iterators.{entries_left};
+    ghost use Rattle.sj_object.specs.Iterators.{entries_left, keys_left, values_left};
+    ghost use Rattle.sj_object.specs.Lends.{lends_place, lends_value};
 
     /// Returns an object without pairs. Allocates nothing.
     pub fn new(alloc: Global) -> Self
@@ -70,7 +72,7 @@ impl<K: ObjectKey, V> Object<K, V> {
     }
 
     // The place of the pair with this key.
-    fn position(&self, key: &str) -> Option<usize>
+    pub(crate) fn position(&self, key: &str) -> Option<usize>
         ensures { result ≡ place_of K.text self.now key.now }
     {
         self.entries
@@ -84,6 +86,33 @@ impl<K: ObjectKey, V> Object<K, V> {
     {
         let at = self.position(key)?;
         Some(&self.entries[at].value)
+    }
+
+    /// Returns the value of this key for writing.
+    pub fn get_mut(&mut self, key: &str) -> Option<&mut V>
+        ensures* writes_back { sem 𝓛 (lends_value K.row V.row K.ObjectKey self.entry key.now result) }
+        ensures value { option_copied_mut result ≡ value_at K.text self.old key.now }
+    {
+        match self.position(key) {
+            Some(at) => Some(self.value_mut(at)),
+            None => None,
+        }
+    }
+
+    // The value of the pair at this place.
+    pub(crate) fn value_mut(&mut self, at: usize) -> &mut V
+        requires { at < length self.old }
+        ensures* writes_back { sem 𝓛 (lends_place K.row V.row K.ObjectKey self.entry at result) }
+        ensures value { slice_get (map (λ e. e.value) self.old) at ≡ Some result.now }
+    {
+        &mut self.entries[at].value
+    }
+
+    /// Returns `true` if the object has this key.
+    pub fn contains_key(&self, key: &str) -> bool
+        ensures { result ≡ is_some (value_at K.text self.now key.now) }
+    {
+        self.get(key).is_some()
     }
 
     /// Puts the value in the place of the value of this key, which is returned. A new key goes last.
@@ -140,5 +169,49 @@ impl<K: ObjectKey, V> Object<K, V> {
         ensures { entries_left result ≡ self.now }
     {
         Iter::new(&self.entries)
+    }
+
+    /// Returns an iterator over the keys in insertion order.
+    pub fn keys(&self) -> Keys<'_, K, V>
+        ensures { keys_left result ≡ map (λ e. e.key) self.now }
+    {
+        Keys::new(self.iter())
+    }
+
+    /// Returns an iterator over the values in insertion order.
+    pub fn values(&self) -> Values<'_, K, V>
+        ensures { values_left result ≡ map (λ e. e.value) self.now }
+    {
+        Values::new(self.iter())
+    }
+}
+
+impl<'a, K: ObjectKey, V> IntoIterator for &'a Object<K, V> {
+    type Item = (&'a K, &'a V);
+
+    type IntoIter = Iter<'a, K, V>;
+
+    ghost use Rattle.sj_object.specs.Iterators.{entries_left};
+
+    ghost into_iter_gives = { λ object it. entries_left it ≡ object.now };
+
+    fn into_iter(self) -> Iter<'a, K, V> {
+        self.iter()
+    }
+}
+
+/// Takes the object apart. Needs no memory.
+impl<K: ObjectKey + Drop, V: Drop> IntoIterator for Object<K, V> {
+    type Item = (K, V);
+
+    type IntoIter = IntoIter<K, V>;
+
+    ghost use Rattle.sj_object.specs.Iterators.{owned_left};
+
+    ghost into_iter_gives = { λ object it. owned_left it ≡ object };
+
+    fn into_iter(self) -> IntoIter<K, V> {
+        let Object { entries } = self;
+        IntoIter::new(entries)
     }
 }

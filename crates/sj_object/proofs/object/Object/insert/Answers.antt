@@ -1,7 +1,7 @@
 use Rattle.std.proofs.Common.{Some, sym, ap, ◌∙◌, subst, set, arith, rules}
 use Rattle.sj_object.specs.Pairs.{AreDistinct, keys_of}
 use Rattle.sj_object.proofs.Distinct.{keys_of-set}
-use Rattle.sj_object.proofs.Places.{place_within, value_at_place, value_at_no_place, put_key_place}
+use Rattle.sj_object.proofs.Places.{place_within, value_at_place, value_at_no_place, put_key-set_place, set_place-set}
 use Rattle.sj_object.proofs.object.Object.insert.Goals as goal
 
 pub returns-in_default-clause-replaced : goal.returns-in_default-clause-replaced
@@ -35,7 +35,7 @@ returns-clause-ok g c =
     let found = rw (← c.self.view_is, c.as_text.ensures) at (sym c.in-Some.ensures) in
     rw (← c.self.view_is, c.replace.ensures.after) (
     ap (λ e. set items c.in-Some.at (record { key = e.key; value = c.args.value })) c.index_mut.ensures.value
-    ∙ sym (put_key_place text c.args.key c.args.value c.index_mut.result.now items c.in-Some.at found))
+    ∙ sym (put_key-set_place text c.args.key c.args.value items c.in-Some.at found ∙ set_place-set c.index_mut.result.now c.args.value items c.in-Some.at))
 
 pub returns-clause-replaced : goal.returns-clause-replaced
 returns-clause-replaced g c =

@@ -1,0 +1,30 @@
+//! Hashes of keys.
+ghost use Rattle.std.specs.Prelude.{◌≡◌};
+ghost use Rattle.sj_object.specs.Hash.{text_hash};
+
+/// Returns the hash of a key's text: it starts at 0, and each byte of the text takes a hash `h` to `31 * h` plus that
+/// byte, modulo 2^64.
+pub fn hash_key(key: &str) -> u64
+    ensures { result ≡ text_hash key.now }
+{
+    key.bytes().fold(0, |hash: u64, byte| {
+        hash.wrapping_mul(31).wrapping_add(u64::from(byte))
+    })
+}
+
+/// The hasher of every object, with one fixed hash. Port of `simd_json::value::owned::ObjectHasher`'s
+/// `NotSoRandomState`.
+#[derive(Clone, Copy, Debug, Default)]
+pub struct NotSoRandomState;
+
+impl NotSoRandomState {
+    /// Returns the hash of a text, which is its [`hash_key`].
+    pub fn hash_text(&self, text: &str) -> u64
+        ensures { result ≡ text_hash text.now }
+    {
+        hash_key(text)
+    }
+}
+
+/// The hasher of objects. Port of `simd_json::ObjectHasher`.
+pub type ObjectHasher = NotSoRandomState;

@@ -1,0 +1,91 @@
+//! Calls by key with the key's hash at hand.
+//!
+//! They answer as the calls without a hash, and compare texts as those do. A caller that keeps hashes states them here.
+ghost use Rattle.std.specs.Prelude.{◌≡◌, None, IsSome, IsOk, IfOk, IfErr, OnOk, OnErr, MatchOption};
+ghost use Rattle.std.specs.Borrow.{sem};
+ghost use Rattle.std.specs.Option.{ForNone, option_copied, option_copied_mut};
+ghost use Rattle.sj_object.specs.Hash.{text_hash};
+ghost use Rattle.sj_object.specs.Pairs.{value_at, put_key};
+
+use crate::entry::{Entry, Refused};
+use crate::key::ObjectKey;
+use crate::object::Object;
+
+impl<K: ObjectKey, V> Object<K, V> {
+    ghost use Rattle.sj_object.specs.Lends.{lends_value, lends_put};
+
+    /// Returns the value of this key, whose [`hash_key`](crate::hash_key) is `hash`.
+    pub fn get_hashed(&self, hash: u64, key: &str) -> Option<&V>
+        requires { hash ≡ text_hash key.now }
+        ensures { option_copied result ≡ value_at K.text self.now key.now }
+    {
+        let _ = hash;
+        self.get(key)
+    }
+
+    /// Returns the value of this key, whose [`hash_key`](crate::hash_key) is `hash`, for writing.
+    pub fn get_hashed_mut(&mut self, hash: u64, key: &str) -> Option<&mut V>
+        requires { hash ≡ text_hash key.now }
+        ensures* writes_back { sem 𝓛 (lends_value K.row V.row K.ObjectKey self.entry key.now result) }
+        ensures value { option_copied_mut result ≡ value_at K.text self.old key.now }
+    {
+        let _ = hash;
+        self.get_mut(key)
+    }
+
+    /// Puts the value in the place of the value of this key, as [`Object::insert`] does. The key's
+    /// [`hash_key`](crate::hash_key) is `hash`.
+    ///
+    /// # Errors
+    ///
+    /// The key and the value come back if there is no memory for a new pair. The object is unchanged.
+    pub fn insert_hashed(&mut self, hash: u64, key: K, value: V) -> Result<Option<V>, Refused<K, V>>
+    where
+        K: Drop,
+        requires { hash ≡ text_hash (K.text key) }
+        ensures ok { OnOk result (self.new ≡ put_key K.text self.old key value) }
+        ensures replaced { IfOk result (λ old. old ≡ value_at K.text self.old (K.text key)) }
+        ensures succeeds { IsSome (value_at K.text self.old (K.text key)) → IsOk result }
+        ensures err { OnErr result (self.new ≡ self.old) }
+        ensures handed_back { IfErr result (λ pair. (pair.key ≡ key) × (pair.value ≡ value)) }
+    {
+        let _ = hash;
+        self.insert(key, value)
+    }
+
+    /// Returns the value of this key for writing. A new key goes last, with the value that `with` returns. The key's
+    /// [`hash_key`](crate::hash_key) is `hash`.
+    ///
+    /// `with` is called for a new key alone, after room has been made for it.
+    ///
+    /// # Errors
+    ///
+    /// The key comes back if there is no memory for a new pair. The object is unchanged, and `with` isn't called.
+    pub fn get_or_insert_hashed<F: FnOnce() -> V + Drop>(
+        &mut self,
+        hash: u64,
+        key: K,
+        with: F,
+    ) -> Result<&mut V, K>
+    where
+        K: Drop,
+        requires hash { hash ≡ text_hash (K.text key) }
+        requires callable { ForNone (value_at K.text self.old (K.text key)) (F.pre with) }
+        ensures* writes_back { sem 𝓛 (lends_put K.row V.row K.ObjectKey self.entry key result) }
+        ensures value { IfOk result (λ value. MatchOption (value_at K.text self.old (K.text key))
+            (F.post with value.now) (λ old. value.now ≡ old)) }
+        ensures succeeds { IsSome (value_at K.text self.old (K.text key)) → IsOk result }
+        ensures handed_back { IfErr result (λ refused. refused ≡ key) }
+    {
+        let _ = hash;
+        let Some(at) = self.position(key.as_text()) else {
+            if self.entries.reserve(1).is_err() {
+                return Err(key);
+            }
+            let at = self.entries.len();
+            self.entries.push_reserved(Entry { key, value: with() });
+            return Ok(self.value_mut(at));
+        };
+        Ok(self.value_mut(at))
+    }
+}
