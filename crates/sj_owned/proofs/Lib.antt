@@ -1,2 +1,4 @@
 pub mod Layers
 pub mod Pieces
+pub mod Kept
+pub mod Placed

@@ -6,11 +6,13 @@
 #![tactic(auto)]
 
 mod access;
+mod build;
 mod encode;
 mod literal;
 pub mod owned;
 mod value;
 
+pub use build::{BuildContainer, BuildValue, build_value};
 pub use literal::{Literal, MakeLiteral};
 pub use owned::Value as OwnedValue;
 pub use value::Value;

@@ -53,6 +53,15 @@ impl<'t, 'i> Value<'t, 'i> {
         (Value { nodes: first }, rest)
     }
 
+    /// Returns the nodes of the value, in preorder. [`Value::null`] has none.
+    #[inline(always)]
+    pub fn nodes(&self) -> &'t [Node<'i>]
+        ensures nodes { result.now ≡ value_nodes self.now }
+        ensures listed { IsTape (entries result.now) }
+    {
+        self.nodes
+    }
+
     /// Returns the type, which tells an `I64` from a `U64`.
     pub fn value_type(&self) -> ValueType
         ensures { result ≡ value_kind self.now }
