@@ -20,3 +20,5 @@ pub mod Prints
 pub mod LaidOut
 pub mod Towards
 mod Blocks
+pub mod Keys
+pub mod Keeping

@@ -1,8 +1,10 @@
--- Laws of spelling and printing.
-use Rattle.std.specs.Prelude.{◌≡◌, ℕ, ◌≤◌, ◌↔◌, List, ◌∷◌, IsUtf8}
+-- Laws of spelling and printing, and of kept trees.
+use Rattle.std.specs.Prelude.{◌≡◌, ℕ, ◌≤◌, ◌↔◌, List, ◌∷◌, option_map, IsUtf8}
 use Rattle.std.specs.List.{AllByRecursion}
 use Rattle.sj_base.specs.Tree.{Tree, list, object, Items, Members, IsValidTree}
 use Rattle.sj_base.specs.Spelling.{Spells}
+use Rattle.sj_base.specs.Keep.{keep, IsKept}
+use Rattle.sj_base.specs.Path.{Part, at, put}
 use Rattle.sj_base.specs.Text.{text}
 use Rattle.sj_base.specs.Layout.{laid_out, inside, opened_list, opened_object, rest_text, item_texts, member_texts}
 use Rattle.sj_base.specs.declared.layout.Layout.{Layout}
@@ -41,3 +43,16 @@ LaysOutLists = (y : Layout) (ts : Items) → laid_out y (list ts) ≡ 0x5b ∷ r
 
 abbrev pub LaysOutObjects : Type 0
 LaysOutObjects = (y : Layout) (ms : Members) → laid_out y (object ms) ≡ 0x7b ∷ rest_text (opened_object y) (member_texts (inside y) ms)
+
+-- `keep` of a tree is kept.
+abbrev pub KeepsOnce : Type 0
+KeepsOnce = (t : Tree) → IsKept (keep t)
+
+-- A path selects in `keep` of a tree `keep` of the part that it selects in the tree, and nothing exactly if it selects
+-- nothing there.
+abbrev pub KeepsParts : Type 0
+KeepsParts = (t : Tree) (path : List Part) → at (keep t) path ≡ option_map keep (at t path)
+
+-- A part may be replaced before `keep` or after it.
+abbrev pub KeepsPut : Type 0
+KeepsPut = (t : Tree) (path : List Part) (new : Tree) → keep (put t path new) ≡ put (keep t) path (keep new)

@@ -1,5 +1,6 @@
 //! Laws of the definitions that contracts cite. Each function does nothing, and its contract is the law.
 ghost use Rattle.sj_base.specs.Laws.{OneMeaning, PrintsBack, OneText, SpellsTrees, SpelledInUtf8, PrintsUtf8, OneLine, LaysOutLists, LaysOutObjects};
+ghost use Rattle.sj_base.specs.Laws.{KeepsOnce, KeepsParts, KeepsPut};
 ghost use Rattle.sj_base.specs.Text.{text, pretty};
 
 /// No bytes spell two trees.
@@ -35,4 +36,11 @@ pub fn printed_bytes()
 pub fn laid_out()
     ensures lists { LaysOutLists }
     ensures objects { LaysOutObjects }
+{}
+
+/// `keep` gives a kept tree, and commutes with paths: with the part that a path selects, if any, and with replacing it.
+pub fn keep_commutes()
+    ensures once { KeepsOnce }
+    ensures parts { KeepsParts }
+    ensures put { KeepsPut }
 {}
