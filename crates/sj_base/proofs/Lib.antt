@@ -22,3 +22,4 @@ pub mod Towards
 mod Blocks
 pub mod Keys
 pub mod Keeping
+pub mod Kept

@@ -3,12 +3,13 @@ use Rattle.std.specs.Prelude.{◌≡◌, refl, pos, negsuc, true, [], ◌∷◌,
 use Rattle.std.specs.Fmt.{digits}
 use Rattle.std.specs.Str.Parse.{digits_value}
 use Rattle.sj_base.specs.declared.static_node.StaticNode.TheVariants.{I64, U64}
-use Rattle.sj_base.specs.Tree.{Tree, null, integer, decimal, string, list, object, no_items, item, no_members, member, depth}
+use Rattle.sj_base.specs.Tree.{Tree, null, integer, decimal, string, list, object, Items, no_items, item, Members, no_members, member, depth}
 use Rattle.sj_base.specs.Number.{signed}
 use Rattle.sj_base.specs.Characters.{short_character, hex_value, pair, form_character}
 use Rattle.sj_base.specs.Scalar.{static_tree}
 use Rattle.sj_base.specs.Keep.{keep}
 use Rattle.sj_base.specs.Path.{key, place, at, put}
+use Rattle.sj_base.specs.Edit.{put_member, drop_member, push_item, last_item, pop_item}
 use Rattle.sj_base.specs.Text.{text, pretty}
 
 -- {"a":1,"a":2}
@@ -145,3 +146,43 @@ put_at_first_of_two = refl
 
 same_scalar : static_tree (I64 (pos 5)) ≡ static_tree (U64 5)
 same_scalar = refl
+
+-- "a":1,"b":2
+abbrev two_members : Members
+two_members = member (codes "a") (integer (pos 1)) (member (codes "b") (integer (pos 2)) no_members)
+
+put_in_place : text (object (put_member two_members (codes "a") null)) ≡ codes "{\"a\":null,\"b\":2}"
+unfolding digits
+put_in_place = refl
+
+put_at_the_end : text (object (put_member two_members (codes "c") null)) ≡ codes "{\"a\":1,\"b\":2,\"c\":null}"
+unfolding digits
+put_at_the_end = refl
+
+dropped : text (object (drop_member two_members (codes "a"))) ≡ codes "{\"b\":2}"
+unfolding digits
+dropped = refl
+
+nothing_dropped : drop_member two_members (codes "c") ≡ two_members
+nothing_dropped = refl
+
+-- [1,2]
+abbrev two_items : Items
+two_items = item (integer (pos 1)) (item (integer (pos 2)) no_items)
+
+pushed : text (list (push_item two_items null)) ≡ codes "[1,2,null]"
+unfolding digits
+pushed = refl
+
+last_of_two : last_item two_items ≡ Some (integer (pos 2))
+last_of_two = refl
+
+popped : text (list (pop_item two_items)) ≡ codes "[1]"
+unfolding digits
+popped = refl
+
+no_last : last_item no_items ≡ None
+no_last = refl
+
+nothing_popped : pop_item no_items ≡ no_items
+nothing_popped = refl

@@ -1,10 +1,11 @@
--- Laws of spelling and printing, and of kept trees.
-use Rattle.std.specs.Prelude.{◌≡◌, ℕ, ◌≤◌, ◌↔◌, List, ◌∷◌, option_map, IsUtf8}
+-- Laws of spelling and printing, and of kept trees, paths and edits.
+use Rattle.std.specs.Prelude.{◌≡◌, ℕ, ◌≤◌, ◌↔◌, List, ◌∷◌, Some, option_map, IsUtf8}
 use Rattle.std.specs.List.{AllByRecursion}
 use Rattle.sj_base.specs.Tree.{Tree, list, object, Items, Members, IsValidTree}
 use Rattle.sj_base.specs.Spelling.{Spells}
 use Rattle.sj_base.specs.Keep.{keep, IsKept}
 use Rattle.sj_base.specs.Path.{Part, at, put}
+use Rattle.sj_base.specs.Edit.{put_member, drop_member, push_item, pop_item}
 use Rattle.sj_base.specs.Text.{text}
 use Rattle.sj_base.specs.Layout.{laid_out, inside, opened_list, opened_object, rest_text, item_texts, member_texts}
 use Rattle.sj_base.specs.declared.layout.Layout.{Layout}
@@ -56,3 +57,27 @@ KeepsParts = (t : Tree) (path : List Part) → at (keep t) path ≡ option_map k
 -- A part may be replaced before `keep` or after it.
 abbrev pub KeepsPut : Type 0
 KeepsPut = (t : Tree) (path : List Part) (new : Tree) → keep (put t path new) ≡ put (keep t) path (keep new)
+
+-- P holds of each part of a tree of which it holds.
+abbrev pub HoldsOfParts : (Tree → Type 0) → Type 0
+HoldsOfParts P = (t : Tree) (path : List Part) (part : Tree) → P t → at t path ≡ Some part → P part
+
+-- P still holds of a tree after a part is replaced by a tree of which it holds.
+abbrev pub StaysWhenPut : (Tree → Type 0) → Type 0
+StaysWhenPut P = (t : Tree) (path : List Part) (new : Tree) → P t → P new → P (put t path new)
+
+-- P still holds of an object after a member is dropped.
+abbrev pub StaysWhenDropped : (Tree → Type 0) → Type 0
+StaysWhenDropped P = (ms : Members) (k : List ℕ) → P (object ms) → P (object (drop_member ms k))
+
+-- P still holds of a list after a tree of which it holds is pushed.
+abbrev pub StaysWhenPushed : (Tree → Type 0) → Type 0
+StaysWhenPushed P = (ts : Items) (new : Tree) → P (list ts) → P new → P (list (push_item ts new))
+
+-- P still holds of a list after the last item is popped.
+abbrev pub StaysWhenPopped : (Tree → Type 0) → Type 0
+StaysWhenPopped P = (ts : Items) → P (list ts) → P (list (pop_item ts))
+
+-- A kept object stays kept after a kept tree is put in it.
+abbrev pub KeptWithMember : Type 0
+KeptWithMember = (ms : Members) (k : List ℕ) (new : Tree) → IsKept (object ms) → IsKept new → IsKept (object (put_member ms k new))

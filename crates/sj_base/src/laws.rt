@@ -1,6 +1,7 @@
 //! Laws of the definitions that contracts cite. Each function does nothing, and its contract is the law.
 ghost use Rattle.sj_base.specs.Laws.{OneMeaning, PrintsBack, OneText, SpellsTrees, SpelledInUtf8, PrintsUtf8, OneLine, LaysOutLists, LaysOutObjects};
-ghost use Rattle.sj_base.specs.Laws.{KeepsOnce, KeepsParts, KeepsPut};
+ghost use Rattle.sj_base.specs.Laws.{KeepsOnce, KeepsParts, KeepsPut, HoldsOfParts, StaysWhenPut, StaysWhenDropped, StaysWhenPushed, StaysWhenPopped, KeptWithMember};
+ghost use Rattle.sj_base.specs.Keep.{IsKept};
 ghost use Rattle.sj_base.specs.Text.{text, pretty};
 
 /// No bytes spell two trees.
@@ -43,4 +44,14 @@ pub fn keep_commutes()
     ensures once { KeepsOnce }
     ensures parts { KeepsParts }
     ensures put { KeepsPut }
+{}
+
+/// The parts of a kept tree are kept, and so is a kept tree after each edit.
+pub fn kept_edits()
+    ensures parts { HoldsOfParts IsKept }
+    ensures put { StaysWhenPut IsKept }
+    ensures put_member { KeptWithMember }
+    ensures dropped { StaysWhenDropped IsKept }
+    ensures pushed { StaysWhenPushed IsKept }
+    ensures popped { StaysWhenPopped IsKept }
 {}
