@@ -23,3 +23,4 @@ mod Blocks
 pub mod Keys
 pub mod Keeping
 pub mod Kept
+pub mod Valid

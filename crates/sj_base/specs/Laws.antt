@@ -81,3 +81,11 @@ StaysWhenPopped P = (ts : Items) → P (list ts) → P (list (pop_item ts))
 -- A kept object stays kept after a kept tree is put in it.
 abbrev pub KeptWithMember : Type 0
 KeptWithMember = (ms : Members) (k : List ℕ) (new : Tree) → IsKept (object ms) → IsKept new → IsKept (object (put_member ms k new))
+
+-- A valid object stays valid after a valid tree is put in it under a key in UTF-8.
+abbrev pub ValidWithMember : Type 0
+ValidWithMember = (ms : Members) (k : List ℕ) (new : Tree) → IsValidTree (object ms) → IsUtf8 k → IsValidTree new → IsValidTree (object (put_member ms k new))
+
+-- `keep` of a valid tree is valid.
+abbrev pub ValidWhenKept : Type 0
+ValidWhenKept = (t : Tree) → IsValidTree t → IsValidTree (keep t)

@@ -1,7 +1,8 @@
 //! Laws of the definitions that contracts cite. Each function does nothing, and its contract is the law.
 ghost use Rattle.sj_base.specs.Laws.{OneMeaning, PrintsBack, OneText, SpellsTrees, SpelledInUtf8, PrintsUtf8, OneLine, LaysOutLists, LaysOutObjects};
-ghost use Rattle.sj_base.specs.Laws.{KeepsOnce, KeepsParts, KeepsPut, HoldsOfParts, StaysWhenPut, StaysWhenDropped, StaysWhenPushed, StaysWhenPopped, KeptWithMember};
+ghost use Rattle.sj_base.specs.Laws.{KeepsOnce, KeepsParts, KeepsPut, HoldsOfParts, StaysWhenPut, StaysWhenDropped, StaysWhenPushed, StaysWhenPopped, KeptWithMember, ValidWithMember, ValidWhenKept};
 ghost use Rattle.sj_base.specs.Keep.{IsKept};
+ghost use Rattle.sj_base.specs.Tree.{IsValidTree};
 ghost use Rattle.sj_base.specs.Text.{text, pretty};
 
 /// No bytes spell two trees.
@@ -54,4 +55,15 @@ pub fn kept_edits()
     ensures dropped { StaysWhenDropped IsKept }
     ensures pushed { StaysWhenPushed IsKept }
     ensures popped { StaysWhenPopped IsKept }
+{}
+
+/// The parts of a valid tree are valid, and so is a valid tree after `keep` and after each edit.
+pub fn valid_edits()
+    ensures kept { ValidWhenKept }
+    ensures parts { HoldsOfParts IsValidTree }
+    ensures put { StaysWhenPut IsValidTree }
+    ensures put_member { ValidWithMember }
+    ensures dropped { StaysWhenDropped IsValidTree }
+    ensures pushed { StaysWhenPushed IsValidTree }
+    ensures popped { StaysWhenPopped IsValidTree }
 {}
