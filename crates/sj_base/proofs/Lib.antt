@@ -24,3 +24,4 @@ pub mod Keys
 pub mod Keeping
 pub mod Kept
 pub mod Valid
+pub mod Depths

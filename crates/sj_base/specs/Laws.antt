@@ -1,7 +1,7 @@
 -- Laws of spelling and printing, and of kept trees, paths and edits.
-use Rattle.std.specs.Prelude.{◌≡◌, ℕ, ◌≤◌, ◌↔◌, List, ◌∷◌, Some, option_map, IsUtf8}
+use Rattle.std.specs.Prelude.{◌≡◌, ℕ, ◌+◌, ◌≤◌, max, ◌↔◌, List, ◌∷◌, length, Some, option_map, IsUtf8}
 use Rattle.std.specs.List.{AllByRecursion}
-use Rattle.sj_base.specs.Tree.{Tree, list, object, Items, Members, IsValidTree}
+use Rattle.sj_base.specs.Tree.{Tree, list, object, Items, Members, IsValidTree, depth}
 use Rattle.sj_base.specs.Spelling.{Spells}
 use Rattle.sj_base.specs.Keep.{keep, IsKept}
 use Rattle.sj_base.specs.Path.{Part, at, put}
@@ -89,3 +89,30 @@ ValidWithMember = (ms : Members) (k : List ℕ) (new : Tree) → IsValidTree (ob
 -- `keep` of a valid tree is valid.
 abbrev pub ValidWhenKept : Type 0
 ValidWhenKept = (t : Tree) → IsValidTree t → IsValidTree (keep t)
+
+-- `keep` of a tree is no deeper than the tree.
+abbrev pub DepthWhenKept : Type 0
+DepthWhenKept = (t : Tree) → depth (keep t) ≤ depth t
+
+-- The steps of a path and the depth of the part that it selects are together at most the depth of the tree.
+abbrev pub DepthOfParts : Type 0
+DepthOfParts = (t : Tree) (path : List Part) (part : Tree) → at t path ≡ Some part → length path + depth part ≤ depth t
+
+-- A tree with a new part is no deeper than the tree was, or else than the steps of the path and the new part together.
+abbrev pub DepthWhenPut : Type 0
+DepthWhenPut = (t : Tree) (path : List Part) (new : Tree) → depth (put t path new) ≤ max (depth t) (length path + depth new)
+
+-- An object with a new member is no deeper than it was, or else than the new member, which stands one level below it.
+abbrev pub DepthWithMember : Type 0
+DepthWithMember = (ms : Members) (k : List ℕ) (new : Tree) → depth (object (put_member ms k new)) ≤ max (depth (object ms)) (1 + depth new)
+
+-- A list with a new item is as deep as it was, or as the new item makes it.
+abbrev pub DepthWhenPushed : Type 0
+DepthWhenPushed = (ts : Items) (new : Tree) → depth (list (push_item ts new)) ≡ max (depth (list ts)) (1 + depth new)
+
+-- Nothing gets deeper if a member is dropped or the last item popped.
+abbrev pub DepthWhenDropped : Type 0
+DepthWhenDropped = (ms : Members) (k : List ℕ) → depth (object (drop_member ms k)) ≤ depth (object ms)
+
+abbrev pub DepthWhenPopped : Type 0
+DepthWhenPopped = (ts : Items) → depth (list (pop_item ts)) ≤ depth (list ts)

@@ -1,6 +1,7 @@
 //! Laws of the definitions that contracts cite. Each function does nothing, and its contract is the law.
 ghost use Rattle.sj_base.specs.Laws.{OneMeaning, PrintsBack, OneText, SpellsTrees, SpelledInUtf8, PrintsUtf8, OneLine, LaysOutLists, LaysOutObjects};
 ghost use Rattle.sj_base.specs.Laws.{KeepsOnce, KeepsParts, KeepsPut, HoldsOfParts, StaysWhenPut, StaysWhenDropped, StaysWhenPushed, StaysWhenPopped, KeptWithMember, ValidWithMember, ValidWhenKept};
+ghost use Rattle.sj_base.specs.Laws.{DepthWhenKept, DepthOfParts, DepthWhenPut, DepthWithMember, DepthWhenDropped, DepthWhenPushed, DepthWhenPopped};
 ghost use Rattle.sj_base.specs.Keep.{IsKept};
 ghost use Rattle.sj_base.specs.Tree.{IsValidTree};
 ghost use Rattle.sj_base.specs.Text.{text, pretty};
@@ -66,4 +67,15 @@ pub fn valid_edits()
     ensures dropped { StaysWhenDropped IsValidTree }
     ensures pushed { StaysWhenPushed IsValidTree }
     ensures popped { StaysWhenPopped IsValidTree }
+{}
+
+/// How many levels deep a part of a tree is, and a tree after `keep` and after each edit.
+pub fn depth_bounds()
+    ensures kept { DepthWhenKept }
+    ensures parts { DepthOfParts }
+    ensures put { DepthWhenPut }
+    ensures put_member { DepthWithMember }
+    ensures dropped { DepthWhenDropped }
+    ensures pushed { DepthWhenPushed }
+    ensures popped { DepthWhenPopped }
 {}
