@@ -25,3 +25,5 @@ pub mod Keeping
 pub mod Kept
 pub mod Valid
 pub mod Depths
+pub mod KeyCounts
+pub mod Alike

@@ -1,10 +1,12 @@
--- Laws of spelling and printing, and of kept trees, paths and edits.
-use Rattle.std.specs.Prelude.{◌≡◌, ℕ, ◌+◌, ◌≤◌, max, ◌↔◌, List, ◌∷◌, length, Some, option_map, IsUtf8}
+-- Laws of spelling and printing, of kept trees, paths and edits, and of trees that are alike.
+use Rattle.std.specs.Prelude.{◌≡◌, ℕ, ◌+◌, ◌≤◌, max, ◌==◌, ◌&&◌, ◌↔◌, true, List, ◌∷◌, length, Some, option_map, IsUtf8}
 use Rattle.std.specs.List.{AllByRecursion}
 use Rattle.sj_base.specs.Tree.{Tree, list, object, Items, Members, IsValidTree, depth}
+use Rattle.sj_base.specs.Containers.{members_len}
 use Rattle.sj_base.specs.Spelling.{Spells}
 use Rattle.sj_base.specs.Keep.{keep, IsKept}
 use Rattle.sj_base.specs.Path.{Part, at, put}
+use Rattle.sj_base.specs.Alike.{alike, alike_members}
 use Rattle.sj_base.specs.Edit.{put_member, drop_member, push_item, pop_item}
 use Rattle.sj_base.specs.Text.{text}
 use Rattle.sj_base.specs.Layout.{laid_out, inside, opened_list, opened_object, rest_text, item_texts, member_texts}
@@ -116,3 +118,20 @@ DepthWhenDropped = (ms : Members) (k : List ℕ) → depth (object (drop_member 
 
 abbrev pub DepthWhenPopped : Type 0
 DepthWhenPopped = (ts : Items) → depth (list (pop_item ts)) ≤ depth (list ts)
+
+-- A kept tree is alike to itself.
+abbrev pub AlikeToItself : Type 0
+AlikeToItself = (t : Tree) → IsKept t → alike t t ≡ true
+
+-- Of two kept trees each is alike to the other, or neither is.
+abbrev pub AlikeBothWays : Type 0
+AlikeBothWays = (s t : Tree) → IsKept s → IsKept t → alike s t ≡ alike t s
+
+-- Trees that are alike to one tree in turn are alike. Here they need not be kept.
+abbrev pub AlikeInTurn : Type 0
+AlikeInTurn = (s t u : Tree) → alike s t ≡ true → alike t u ≡ true → alike s u ≡ true
+
+-- Two kept objects are alike exactly if they have equally many members, and each member of the first has an alike member
+-- under its key in the second.
+abbrev pub AlikeByCount : Type 0
+AlikeByCount = (ms ns : Members) → IsKept (object ms) → IsKept (object ns) → alike (object ms) (object ns) ≡ (members_len ms == members_len ns && alike_members ms ns)

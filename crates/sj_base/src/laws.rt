@@ -1,7 +1,7 @@
 //! Laws of the definitions that contracts cite. Each function does nothing, and its contract is the law.
 ghost use Rattle.sj_base.specs.Laws.{OneMeaning, PrintsBack, OneText, SpellsTrees, SpelledInUtf8, PrintsUtf8, OneLine, LaysOutLists, LaysOutObjects};
 ghost use Rattle.sj_base.specs.Laws.{KeepsOnce, KeepsParts, KeepsPut, HoldsOfParts, StaysWhenPut, StaysWhenDropped, StaysWhenPushed, StaysWhenPopped, KeptWithMember, ValidWithMember, ValidWhenKept};
-ghost use Rattle.sj_base.specs.Laws.{DepthWhenKept, DepthOfParts, DepthWhenPut, DepthWithMember, DepthWhenDropped, DepthWhenPushed, DepthWhenPopped};
+ghost use Rattle.sj_base.specs.Laws.{DepthWhenKept, DepthOfParts, DepthWhenPut, DepthWithMember, DepthWhenDropped, DepthWhenPushed, DepthWhenPopped, AlikeToItself, AlikeBothWays, AlikeInTurn, AlikeByCount};
 ghost use Rattle.sj_base.specs.Keep.{IsKept};
 ghost use Rattle.sj_base.specs.Tree.{IsValidTree};
 ghost use Rattle.sj_base.specs.Text.{text, pretty};
@@ -78,4 +78,16 @@ pub fn depth_bounds()
     ensures dropped { DepthWhenDropped }
     ensures pushed { DepthWhenPushed }
     ensures popped { DepthWhenPopped }
+{}
+
+/// `alike` is an equivalence on kept trees.
+pub fn alike_equivalence()
+    ensures reflexive { AlikeToItself }
+    ensures symmetric { AlikeBothWays }
+    ensures transitive { AlikeInTurn }
+{}
+
+/// The numbers of members and one pass over the members of the first tell whether two kept objects are alike.
+pub fn alike_objects()
+    ensures { AlikeByCount }
 {}
