@@ -164,7 +164,7 @@ order_of_items = refl
 fewer_items : alike (list no_items) (list (item null no_items)) ≡ false
 fewer_items = refl
 
--- {"a":1} against {"a":1,"b":2}, {"b":1} and {"a":2}
+-- {"a":1} has no "b".
 key_left_out : alike (object (drop_member two_members (codes "b"))) (object two_members) ≡ false
 key_left_out = refl
 
@@ -181,8 +181,12 @@ other_value = refl
 literals_by_text : alike (decimal (codes "1.50")) (decimal (codes "1.5")) ≡ false
 literals_by_text = refl
 
-integer_by_number : alike (static_tree (I64 (pos 5))) (static_tree (U64 5)) ≡ true
-integer_by_number = refl
+sign_of_integer : alike (integer (pos 1)) (integer (negsuc 0)) ≡ false
+sign_of_integer = refl
+
+-- The second member of {"a":1,"a":2} finds the first. So a tree that isn't kept need not be alike to itself.
+repeated_key : alike repeats repeats ≡ false
+repeated_key = refl
 
 empty_containers : alike (list no_items) (object no_members) ≡ false
 empty_containers = refl
