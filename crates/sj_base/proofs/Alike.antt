@@ -22,6 +22,7 @@ IsLike (list ts) t = (us : Items) × (t ≡ list us) × (alike_items ts us ≡ t
 IsLike (object ms) t = (ns : Members) × (t ≡ object ns) × (alike_members ms ns ≡ true) × (keys_within ns ms ≡ true)
 IsLike s t = s ≡ t
 
+-- An alike tree has that form.
 opened : (s t : Tree) → alike s t ≡ true → IsLike s t
 opened null null h = refl
 opened (boolean true) (boolean true) h = refl
@@ -64,6 +65,7 @@ keys_alike (member k t ms) ns h =
     let there = tested (alike t) (member_at ns k) parts.0 in
     and_from (is_some (member_at ns k)) (keys_within ms ns) (ap is_some there.1) (keys_alike ms ns parts.1)
 
+-- Keys within others are within all that have those.
 keys_in_turn : (os ns ms : Members) → keys_within os ns ≡ true → keys_within ns ms ≡ true → keys_within os ms ≡ true
 keys_in_turn no_members ns ms h g = refl
 keys_in_turn (member k t os) ns ms h g =
@@ -85,6 +87,7 @@ matching (member n t ns) ms kept each =
     (each n t (ap (λ b. cond b (Some t) (member_at ns n)) (own_key n)))
     (matching ns ms parts.2 (λ k u found. each k u (found_behind n k t u ns parts.1 found (bytes_eq n k) refl)))
 
+-- A kept tree is alike to itself, and so are kept items, and what is found among kept members.
 mutual
   pub alike_to_itself : AlikeToItself
   alike_to_itself null kept = refl
@@ -114,15 +117,18 @@ mutual
 abbrev IsTurned : Tree → Type 0
 IsTurned s = (t : Tree) → IsKept t → alike s t ≡ true → alike t s ≡ true
 
+-- Members may be turned round if what is alike to each of their values may be.
 turned_members : (ms ns : Members) → keep_members ns ≡ ns → alike_members ms ns ≡ true → keys_within ns ms ≡ true → ((k : List ℕ) (t : Tree) → member_at ms k ≡ Some t → IsTurned t) → alike_members ns ms ≡ true
 turned_members ms ns kept h keys each = matching ns ms kept turned
   where
+    -- Each of the second finds an alike one in the first.
     turned : (k : List ℕ) (u : Tree) → member_at ns k ≡ Some u → option_map_or (alike u) (member_at ms k) false ≡ true
     turned k u found =
         let there = some_is (member_at ms k) (key_found ns ms k u keys found) in
         let same : alike there.0 u ≡ true = sym (ap (λ o. option_map_or (alike there.0) o false) found) ∙ matched ms ns k there.0 h there.1 in
         ap (λ o. option_map_or (alike u) o false) there.1 ∙ each k there.0 there.1 u (kept_found ns k u kept found) same
 
+-- What is alike to a tree may be turned round, and so may items, and what is alike to a value that is found.
 mutual
   turn : (s : Tree) → IsTurned s
   turn null t kept h = subst (λ u. alike u null ≡ true) (opened null t h) refl
@@ -152,9 +158,11 @@ mutual
   turn_found no_members k t found = absurd (none-some t found)
   turn_found (member n s ms) k t found = found_either IsTurned (bytes_eq n k) s t (member_at ms k) found (λ same. turn s) (λ behind. turn_found ms k t behind)
 
+-- Of two kept trees each is alike to the other, or neither is.
 pub alike_both_ways : AlikeBothWays
 alike_both_ways s t kept_s kept_t = both_ways (alike s t) (alike t s) (turn s t kept_t) (turn t s kept_s)
 
+-- Trees that are alike in turn are alike, and so are items and members.
 mutual
   pub alike_in_turn : AlikeInTurn
   alike_in_turn null t u h g = subst (λ s. alike s u ≡ true) (sym (opened null t h)) g
@@ -193,6 +201,7 @@ mutual
       (ap (λ o. option_map_or (alike t) o false) last.1 ∙ alike_in_turn t middle.0 last.0 middle.2 last.2)
       (members_in_turn ms ns os parts.1 g)
 
+-- Kept objects are alike if they have equally many members, and those of the first are alike.
 pub alike_by_count : AlikeByCount
 alike_by_count ms ns kept_ms kept_ns = both_ways (alike_members ms ns && keys_within ns ms) (eqb (members_len ms) (members_len ns) && alike_members ms ns) there back
   where

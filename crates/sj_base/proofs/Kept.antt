@@ -1,7 +1,8 @@
 -- Kept trees: their parts, and what edits leave of them.
-use Rattle.std.proofs.Common.{◌≡◌, ℕ, Bool, true, false, cond, List, Some, None, refl, sym, ap, ◌∙◌}
+use Rattle.std.proofs.Common.{◌≡◌, ℕ, false, List, Some, None, refl, sym, ap, ◌∙◌}
 use Rattle.std.specs.Prelude.{option_map}
 use Rattle.std.specs.Str.{bytes_eq}
+use Rattle.std.proofs.lemmas.Bool.{cond_both, cond-false}
 use Rattle.std.proofs.lemmas.Option.{same_Some}
 use Rattle.sj_base.specs.Tree.{Tree, list, object, Items, no_items, item, Members, no_members, member}
 use Rattle.sj_base.specs.Keep.{keep, keep_items, keep_members, without, IsKept}
@@ -24,21 +25,19 @@ item_parts t u ts us e = (cc, cc)
 member_parts : (k : List ℕ) (t u : Tree) (ms ns : Members) → member k t ms ≡ member k u ns → (t ≡ u) × (ms ≡ ns)
 member_parts k t u ms ns e = (cc, cc)
 
-gone_at : (k n : List ℕ) (t : Tree) (ms : Members) → member_at ms k ≡ None → (test : Bool) → bytes_eq n k ≡ test → member_at (cond test ms (member n t ms)) k ≡ None
-gone_at k n t ms none true e = none
-gone_at k n t ms none false e = ap (λ b. cond b (Some t) (member_at ms k)) e ∙ none
-
--- A key that is left out isn't found,
-pub member_at-own : (k : List ℕ) (ms : Members) → member_at (without k ms) k ≡ None
+-- A key that is left out isn't found.
+member_at-own : (k : List ℕ) (ms : Members) → member_at (without k ms) k ≡ None
 member_at-own k no_members = refl
-member_at-own k (member n t ms) = gone_at k n t (without k ms) (member_at-own k ms) (bytes_eq n k) refl
+member_at-own k (member n t ms) =
+    cond_both (bytes_eq n k) (without k ms) (member n t (without k ms)) (λ ns. member_at ns k ≡ None)
+    (λ _. member_at-own k ms) (λ e. cond-false (bytes_eq n k) (Some t) (member_at (without k ms) k) e ∙ member_at-own k ms)
 
--- and one that isn't found need not be left out.
-pub without-none : (k : List ℕ) (ms : Members) → member_at ms k ≡ None → without k ms ≡ ms
+-- A key that isn't found need not be left out.
+without-none : (k : List ℕ) (ms : Members) → member_at ms k ≡ None → without k ms ≡ ms
 without-none k no_members none = refl
 without-none k (member n t ms) none =
     let parts = found_nowhere (bytes_eq n k) t (member_at ms k) none in
-    ap (λ b. cond b (without k ms) (member n t (without k ms))) parts.0 ∙ ap (member n t) (without-none k ms parts.1)
+    cond-false (bytes_eq n k) (without k ms) (member n t (without k ms)) parts.0 ∙ ap (member n t) (without-none k ms parts.1)
 
 -- In kept members no later one has the first one's key, and each value is kept.
 pub kept_member : (k : List ℕ) (t : Tree) (ms : Members) → keep_members (member k t ms) ≡ member k t ms → IsKept t × (member_at ms k ≡ None) × (keep_members ms ≡ ms)
@@ -49,7 +48,7 @@ kept_member k t ms kept =
       sym (ap keep_members parts.1) ∙ keep_members-without k (keep_members ms) ∙ ap (without k) (keeps_members_once ms) ∙ parts.1,
     )
 
--- So one more member with a new key leaves them kept.
+-- One more member with a new key leaves members kept.
 pub kept_with : (k : List ℕ) (t : Tree) (ms : Members) → IsKept t → member_at ms k ≡ None → keep_members ms ≡ ms → keep_members (member k t ms) ≡ member k t ms
 kept_with k t ms value none kept =
     ap (λ u. member k u (without k (keep_members ms))) value ∙ ap (member k t) (ap (without k) kept ∙ without-none k ms none)
@@ -59,75 +58,74 @@ pub kept_found : (ms : Members) (k : List ℕ) (t : Tree) → keep_members ms �
 kept_found ms k t kept found =
     same_Some (keep t) t (sym (ap (option_map keep) found) ∙ sym (member_at-keep ms k) ∙ ap (λ ns. member_at ns k) kept ∙ found)
 
+-- So is what a path selects.
 pub kept_part : HoldsOfParts IsKept
 kept_part t path part kept found =
     same_Some (keep part) part (sym (ap (option_map keep) found) ∙ sym (keeps_parts t path) ∙ ap (λ u. at u path) kept ∙ found)
 
+-- A kept tree stays kept after a part is replaced by a kept tree.
 pub kept_put : StaysWhenPut IsKept
 kept_put t path new kept kept_new =
     keeps_put t path new ∙ ap (λ u. put u path (keep new)) kept ∙ ap (put t path) kept_new
 
-module _ (k : List ℕ) (new : Tree) where
-  none_put_at : (n m : List ℕ) (t : Tree) (ms more : Members) → bytes_eq m n ≡ false → member_at ms n ≡ None → member_at more n ≡ None → (test : Bool)
-      → member_at (cond test (member m new ms) (member m t more)) n ≡ None
-  none_put_at n m t ms more other none ind true = ap (λ b. cond b (Some new) (member_at ms n)) other ∙ none
-  none_put_at n m t ms more other none ind false = ap (λ b. cond b (Some t) (member_at more n)) other ∙ ind
+-- A key that isn't there stays away if another one is put.
+none_put : (k : List ℕ) (new : Tree) (n : List ℕ) (ms : Members) → bytes_eq n k ≡ false → member_at ms n ≡ None → member_at (put_member ms k new) n ≡ None
+none_put k new n no_members other none = cond-false (bytes_eq k n) (Some new) None (key_flip n k false other)
+none_put k new n (member m t ms) other none =
+    let parts = found_nowhere (bytes_eq m n) t (member_at ms n) none in
+    let more = put_member ms k new in
+    cond_both (bytes_eq m k) (member m new ms) (member m t more) (λ ns. member_at ns n ≡ None)
+    (λ _. cond-false (bytes_eq m n) (Some new) (member_at ms n) parts.0 ∙ parts.1)
+    (λ _. cond-false (bytes_eq m n) (Some t) (member_at more n) parts.0 ∙ none_put k new n ms other parts.1)
 
-  -- A key that isn't there stays away if another one is put.
-  none_put : (n : List ℕ) (ms : Members) → bytes_eq n k ≡ false → member_at ms n ≡ None → member_at (put_member ms k new) n ≡ None
-  none_put n no_members other none = ap (λ b. cond b (Some new) None) (key_flip n k false other)
-  none_put n (member m t ms) other none =
-      let parts = found_nowhere (bytes_eq m n) t (member_at ms n) none in
-      none_put_at n m t ms (put_member ms k new) parts.0 parts.1 (none_put n ms other parts.1) (bytes_eq m k)
+-- Kept members stay kept after a kept tree is put.
+kept_members_put : (k : List ℕ) (new : Tree) → IsKept new → (ms : Members) → keep_members ms ≡ ms → keep_members (put_member ms k new) ≡ put_member ms k new
+kept_members_put k new kept_new no_members kept = ap (λ u. member k u no_members) kept_new
+kept_members_put k new kept_new (member n t ms) kept =
+    let parts = kept_member n t ms kept in
+    let more = put_member ms k new in
+    cond_both (bytes_eq n k) (member n new ms) (member n t more) (λ ns. keep_members ns ≡ ns)
+    (λ _. kept_with n new ms kept_new parts.1 parts.2)
+    (λ e. kept_with n t more parts.0 (none_put k new n ms e parts.1) (kept_members_put k new kept_new ms parts.2))
 
-  kept_member_at : IsKept new → (n : List ℕ) (t : Tree) (ms : Members) → keep_members (member n t ms) ≡ member n t ms → keep_members (put_member ms k new) ≡ put_member ms k new → (test : Bool) → bytes_eq n k ≡ test
-      → keep_members (cond test (member n new ms) (member n t (put_member ms k new))) ≡ cond test (member n new ms) (member n t (put_member ms k new))
-  kept_member_at kept_new n t ms kept ind true e = let parts = kept_member n t ms kept in kept_with n new ms kept_new parts.1 parts.2
-  kept_member_at kept_new n t ms kept ind false e = let parts = kept_member n t ms kept in kept_with n t (put_member ms k new) parts.0 (none_put n ms e parts.1) ind
-
-  kept_members_put : IsKept new → (ms : Members) → keep_members ms ≡ ms → keep_members (put_member ms k new) ≡ put_member ms k new
-  kept_members_put kept_new no_members kept = ap (λ u. member k u no_members) kept_new
-  kept_members_put kept_new (member n t ms) kept = kept_member_at kept_new n t ms kept (kept_members_put kept_new ms (kept_member n t ms kept).2) (bytes_eq n k) refl
-
+-- A kept object stays kept after a kept tree is put in it.
 pub kept_with_member : KeptWithMember
 kept_with_member ms k new kept kept_new = ap object (kept_members_put k new kept_new ms (object_parts (keep_members ms) ms kept))
 
+-- Kept items stay kept after a kept tree is pushed.
 kept_pushed_items : (new : Tree) → IsKept new → (ts : Items) → keep_items ts ≡ ts → keep_items (push_item ts new) ≡ push_item ts new
 kept_pushed_items new kept_new no_items kept = ap (λ u. item u no_items) kept_new
 kept_pushed_items new kept_new (item t ts) kept =
     let parts = item_parts (keep t) t (keep_items ts) ts kept in
     ap (λ u. item u (keep_items (push_item ts new))) parts.0 ∙ ap (item t) (kept_pushed_items new kept_new ts parts.1)
 
+-- So does a list.
 pub kept_pushed : StaysWhenPushed IsKept
 kept_pushed ts new kept kept_new = ap list (kept_pushed_items new kept_new ts (list_parts (keep_items ts) ts kept))
-
-none_dropped_at : (n m : List ℕ) (t : Tree) (ms more : Members) → bytes_eq m n ≡ false → member_at ms n ≡ None → member_at more n ≡ None → (test : Bool)
-    → member_at (cond test ms (member m t more)) n ≡ None
-none_dropped_at n m t ms more other none ind true = none
-none_dropped_at n m t ms more other none ind false = ap (λ b. cond b (Some t) (member_at more n)) other ∙ ind
 
 -- A key that isn't there stays away if a member is dropped.
 none_dropped : (n k : List ℕ) (ms : Members) → member_at ms n ≡ None → member_at (drop_member ms k) n ≡ None
 none_dropped n k no_members none = refl
 none_dropped n k (member m t ms) none =
     let parts = found_nowhere (bytes_eq m n) t (member_at ms n) none in
-    none_dropped_at n m t ms (drop_member ms k) parts.0 parts.1 (none_dropped n k ms parts.1) (bytes_eq m k)
+    let more = drop_member ms k in
+    cond_both (bytes_eq m k) ms (member m t more) (λ ns. member_at ns n ≡ None)
+    (λ _. parts.1) (λ _. cond-false (bytes_eq m n) (Some t) (member_at more n) parts.0 ∙ none_dropped n k ms parts.1)
 
-kept_dropped_at : (n : List ℕ) (t : Tree) (ms more : Members) → keep_members ms ≡ ms → keep_members (member n t more) ≡ member n t more → (test : Bool)
-    → keep_members (cond test ms (member n t more)) ≡ cond test ms (member n t more)
-kept_dropped_at n t ms more here there true = here
-kept_dropped_at n t ms more here there false = there
-
+-- Kept members stay kept after one is dropped.
 kept_members_dropped : (k : List ℕ) (ms : Members) → keep_members ms ≡ ms → keep_members (drop_member ms k) ≡ drop_member ms k
 kept_members_dropped k no_members kept = refl
 kept_members_dropped k (member n t ms) kept =
     let parts = kept_member n t ms kept in
-    let there = kept_with n t (drop_member ms k) parts.0 (none_dropped n k ms parts.1) (kept_members_dropped k ms parts.2) in
-    kept_dropped_at n t ms (drop_member ms k) parts.2 there (bytes_eq n k)
+    let more = drop_member ms k in
+    cond_both (bytes_eq n k) ms (member n t more) (λ ns. keep_members ns ≡ ns)
+    (λ _. parts.2) (λ _. kept_with n t more parts.0 (none_dropped n k ms parts.1) (kept_members_dropped k ms parts.2))
 
+-- So does an object.
 pub kept_dropped : StaysWhenDropped IsKept
 kept_dropped ms k kept = ap object (kept_members_dropped k ms (object_parts (keep_members ms) ms kept))
 
+-- Kept items stay kept after the last one is popped.
 kept_popped_items : (ts : Items) → keep_items ts ≡ ts → keep_items (pop_item ts) ≡ pop_item ts
 kept_popped_items no_items kept = refl
 kept_popped_items (item t no_items) kept = refl
@@ -135,5 +133,6 @@ kept_popped_items (item t (item u us)) kept =
     let parts = item_parts (keep t) t (keep_items (item u us)) (item u us) kept in
     ap (λ v. item v (keep_items (pop_item (item u us)))) parts.0 ∙ ap (item t) (kept_popped_items (item u us) parts.1)
 
+-- So does a list.
 pub kept_popped : StaysWhenPopped IsKept
 kept_popped ts kept = ap list (kept_popped_items ts (list_parts (keep_items ts) ts kept))
