@@ -69,7 +69,7 @@ pub fn valid_edits()
     ensures popped { StaysWhenPopped IsValidTree }
 {}
 
-/// How many levels deep a part of a tree is, and a tree after `keep` and after each edit.
+/// Bounds on the depth of a part of a tree, and of a tree after `keep` and after each edit, in levels.
 pub fn depth_bounds()
     ensures kept { DepthWhenKept }
     ensures parts { DepthOfParts }
