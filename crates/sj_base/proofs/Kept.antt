@@ -1,14 +1,14 @@
 -- Kept trees: their parts, and what edits leave of them.
-use Rattle.std.proofs.Common.{◌≡◌, ℕ, false, List, Some, None, refl, sym, ap, ◌∙◌}
+use Rattle.std.proofs.Common.{◌≡◌, ℕ, false, List, Some, None, refl, sym, ap, subst, ◌∙◌}
 use Rattle.std.specs.Prelude.{option_map}
 use Rattle.std.specs.Str.{bytes_eq}
 use Rattle.std.proofs.lemmas.Bool.{cond_both, cond-false}
-use Rattle.std.proofs.lemmas.Option.{same_Some}
+use Rattle.std.proofs.lemmas.Option.{none-some, same_Some}
 use Rattle.sj_base.specs.Tree.{Tree, list, object, Items, no_items, item, Members, no_members, member}
 use Rattle.sj_base.specs.Keep.{keep, keep_items, keep_members, without, IsKept}
 use Rattle.sj_base.specs.Path.{member_at, at, put}
-use Rattle.sj_base.specs.Edit.{put_member, drop_member, push_item, pop_item}
-use Rattle.sj_base.specs.Laws.{HoldsOfParts, StaysWhenPut, KeptWithMember, StaysWhenDropped, StaysWhenPushed, StaysWhenPopped}
+use Rattle.sj_base.specs.Edit.{put_member, drop_member, push_item, last_item, pop_item}
+use Rattle.sj_base.specs.Laws.{HoldsOfParts, HoldsOfLast, StaysWhenPut, KeptWithMember, StaysWhenDropped, StaysWhenPushed, StaysWhenPopped}
 use Rattle.sj_base.proofs.Keys.{key_flip, found_nowhere}
 use Rattle.sj_base.proofs.Keeping.{keep_members-without, keeps_members_once, member_at-keep, keeps_parts, keeps_put}
 
@@ -62,6 +62,16 @@ kept_found ms k t kept found =
 pub kept_part : HoldsOfParts IsKept
 kept_part t path part kept found =
     same_Some (keep part) part (sym (ap (option_map keep) found) ∙ sym (keeps_parts t path) ∙ ap (λ u. at u path) kept ∙ found)
+
+-- The last of kept items is kept.
+kept_last_item : (ts : Items) (last : Tree) → keep_items ts ≡ ts → last_item ts ≡ Some last → IsKept last
+kept_last_item no_items last kept found = absurd (none-some last found)
+kept_last_item (item t no_items) last kept found = subst IsKept (same_Some t last found) (item_parts (keep t) t no_items no_items kept).0
+kept_last_item (item t (item u us)) last kept found = kept_last_item (item u us) last (item_parts (keep t) t (keep_items (item u us)) (item u us) kept).1 found
+
+-- So is that of a kept list.
+pub kept_last : HoldsOfLast IsKept
+kept_last ts last kept found = kept_last_item ts last (list_parts (keep_items ts) ts kept) found
 
 -- A kept tree stays kept after a part is replaced by a kept tree.
 pub kept_put : StaysWhenPut IsKept

@@ -6,7 +6,7 @@ use Rattle.sj_base.specs.Tree.{Tree, null, boolean, integer, decimal, string, li
 use Rattle.sj_base.specs.Keep.{keep_items, keep_members, without}
 use Rattle.sj_base.specs.Path.{Part, key, place, member_at, item_at, child, at, change_member, change_item, change_child, put}
 use Rattle.sj_base.specs.Edit.{put_member, drop_member}
-use Rattle.sj_base.specs.Laws.{ValidWhenKept, HoldsOfParts, StaysWhenPut, ValidWithMember, StaysWhenDropped, StaysWhenPushed, StaysWhenPopped}
+use Rattle.sj_base.specs.Laws.{ValidWhenKept, HoldsOfParts, HoldsOfLast, StaysWhenPut, ValidWithMember, StaysWhenDropped, StaysWhenPushed, StaysWhenPopped}
 use Rattle.sj_base.proofs.Keys.{found_either}
 
 -- one of two lists of members
@@ -63,6 +63,12 @@ pub valid_part : HoldsOfParts IsValidTree
 valid_part t [] part valid found = subst IsValidTree (same_Some t part found) valid
 valid_part t (step ∷ path) part valid found =
     option_and_then_some (λ u. at u path) (child t step) part found (λ u is_child further. valid_part u path part (valid_child t step u valid is_child) further)
+
+-- The last item of a valid list is valid.
+pub valid_last : HoldsOfLast IsValidTree
+valid_last no_items last valid found = absurd (none-some last found)
+valid_last (item t no_items) last valid found = subst IsValidTree (same_Some t last found) valid.0
+valid_last (item t (item u us)) last valid found = valid_last (item u us) last valid.1 found
 
 -- What leaves trees valid may be done to a member, an item, or the part that one step selects.
 module _ (change : Tree → Tree) (stays : (t : Tree) → IsValidTree t → IsValidTree (change t)) where

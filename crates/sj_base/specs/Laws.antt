@@ -7,7 +7,7 @@ use Rattle.sj_base.specs.Spelling.{Spells}
 use Rattle.sj_base.specs.Keep.{keep, IsKept}
 use Rattle.sj_base.specs.Path.{Part, at, put}
 use Rattle.sj_base.specs.Alike.{alike, alike_members}
-use Rattle.sj_base.specs.Edit.{put_member, drop_member, push_item, pop_item}
+use Rattle.sj_base.specs.Edit.{put_member, drop_member, push_item, last_item, pop_item}
 use Rattle.sj_base.specs.Text.{text}
 use Rattle.sj_base.specs.Layout.{laid_out, inside, opened_list, opened_object, rest_text, item_texts, member_texts}
 use Rattle.sj_base.specs.declared.layout.Layout.{Layout}
@@ -63,6 +63,10 @@ KeepsPut = (t : Tree) (path : List Part) (new : Tree) → keep (put t path new) 
 -- P holds of each part of a tree of which it holds.
 abbrev pub HoldsOfParts : (Tree → Type 0) → Type 0
 HoldsOfParts P = (t : Tree) (path : List Part) (part : Tree) → P t → at t path ≡ Some part → P part
+
+-- P holds of the last item of a list of which it holds.
+abbrev pub HoldsOfLast : (Tree → Type 0) → Type 0
+HoldsOfLast P = (ts : Items) (last : Tree) → P (list ts) → last_item ts ≡ Some last → P last
 
 -- P still holds of a tree after a part is replaced by a tree of which it holds.
 abbrev pub StaysWhenPut : (Tree → Type 0) → Type 0

@@ -1,6 +1,6 @@
 //! Laws of the definitions that contracts cite. Each function does nothing, and its contract is the law.
 ghost use Rattle.sj_base.specs.Laws.{OneMeaning, PrintsBack, OneText, SpellsTrees, SpelledInUtf8, PrintsUtf8, OneLine, LaysOutLists, LaysOutObjects};
-ghost use Rattle.sj_base.specs.Laws.{KeepsOnce, KeepsParts, KeepsPut, HoldsOfParts, StaysWhenPut, StaysWhenDropped, StaysWhenPushed, StaysWhenPopped, KeptWithMember, ValidWithMember, ValidWhenKept};
+ghost use Rattle.sj_base.specs.Laws.{KeepsOnce, KeepsParts, KeepsPut, HoldsOfParts, HoldsOfLast, StaysWhenPut, StaysWhenDropped, StaysWhenPushed, StaysWhenPopped, KeptWithMember, ValidWithMember, ValidWhenKept};
 ghost use Rattle.sj_base.specs.Laws.{DepthWhenKept, DepthOfParts, DepthWhenPut, DepthWithMember, DepthWhenDropped, DepthWhenPushed, DepthWhenPopped, AlikeToItself, AlikeBothWays, AlikeInTurn, AlikeByCount};
 ghost use Rattle.sj_base.specs.Keep.{IsKept};
 ghost use Rattle.sj_base.specs.Tree.{IsValidTree};
@@ -51,6 +51,7 @@ pub fn keep_commutes()
 /// The parts of a kept tree are kept, and so is a kept tree after each edit.
 pub fn kept_edits()
     ensures parts { HoldsOfParts IsKept }
+    ensures last { HoldsOfLast IsKept }
     ensures put { StaysWhenPut IsKept }
     ensures put_member { KeptWithMember }
     ensures dropped { StaysWhenDropped IsKept }
@@ -62,6 +63,7 @@ pub fn kept_edits()
 pub fn valid_edits()
     ensures kept { ValidWhenKept }
     ensures parts { HoldsOfParts IsValidTree }
+    ensures last { HoldsOfLast IsValidTree }
     ensures put { StaysWhenPut IsValidTree }
     ensures put_member { ValidWithMember }
     ensures dropped { StaysWhenDropped IsValidTree }

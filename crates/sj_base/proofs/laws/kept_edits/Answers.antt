@@ -1,8 +1,11 @@
-use Rattle.sj_base.proofs.Kept.{kept_part, kept_put, kept_with_member, kept_dropped, kept_pushed, kept_popped}
+use Rattle.sj_base.proofs.Kept.{kept_part, kept_last, kept_put, kept_with_member, kept_dropped, kept_pushed, kept_popped}
 use Rattle.sj_base.proofs.laws.kept_edits.Goals as goal
 
 pub returns-clause-parts : goal.returns-clause-parts
 returns-clause-parts c = kept_part
+
+pub returns-clause-last : goal.returns-clause-last
+returns-clause-last c = kept_last
 
 pub returns-clause-put : goal.returns-clause-put
 returns-clause-put c = kept_put

@@ -1,4 +1,4 @@
-use Rattle.sj_base.proofs.Valid.{valid_when_kept, valid_part, valid_put, valid_with_member, valid_dropped, valid_pushed, valid_popped}
+use Rattle.sj_base.proofs.Valid.{valid_when_kept, valid_part, valid_last, valid_put, valid_with_member, valid_dropped, valid_pushed, valid_popped}
 use Rattle.sj_base.proofs.laws.valid_edits.Goals as goal
 
 pub returns-clause-kept : goal.returns-clause-kept
@@ -6,6 +6,9 @@ returns-clause-kept c = valid_when_kept
 
 pub returns-clause-parts : goal.returns-clause-parts
 returns-clause-parts c = valid_part
+
+pub returns-clause-last : goal.returns-clause-last
+returns-clause-last c = valid_last
 
 pub returns-clause-put : goal.returns-clause-put
 returns-clause-put c = valid_put
