@@ -20,3 +20,10 @@ pub mod Prints
 pub mod LaidOut
 pub mod Towards
 mod Blocks
+pub mod Keys
+pub mod Keeping
+pub mod Kept
+pub mod Valid
+pub mod Depths
+pub mod KeyCounts
+pub mod Alike

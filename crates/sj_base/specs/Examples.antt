@@ -1,14 +1,16 @@
 -- Worked values of the definitions that compute. Those of the relations stand in proofs/Spelled.antt.
-use Rattle.std.specs.Prelude.{◌≡◌, refl, pos, negsuc, true, [], ◌∷◌, ◌++◌, codes, Some, None}
+use Rattle.std.specs.Prelude.{◌≡◌, refl, pos, negsuc, true, false, [], ◌∷◌, ◌++◌, codes, Some, None}
 use Rattle.std.specs.Fmt.{digits}
 use Rattle.std.specs.Str.Parse.{digits_value}
 use Rattle.sj_base.specs.declared.static_node.StaticNode.TheVariants.{I64, U64}
-use Rattle.sj_base.specs.Tree.{Tree, null, integer, decimal, string, list, object, no_items, item, no_members, member, depth}
+use Rattle.sj_base.specs.Tree.{Tree, null, integer, decimal, string, list, object, Items, no_items, item, Members, no_members, member, depth}
 use Rattle.sj_base.specs.Number.{signed}
 use Rattle.sj_base.specs.Characters.{short_character, hex_value, pair, form_character}
 use Rattle.sj_base.specs.Scalar.{static_tree}
 use Rattle.sj_base.specs.Keep.{keep}
 use Rattle.sj_base.specs.Path.{key, place, at, put}
+use Rattle.sj_base.specs.Alike.{alike}
+use Rattle.sj_base.specs.Edit.{put_member, drop_member, push_item, last_item, pop_item}
 use Rattle.sj_base.specs.Text.{text, pretty}
 
 -- {"a":1,"a":2}
@@ -145,3 +147,82 @@ put_at_first_of_two = refl
 
 same_scalar : static_tree (I64 (pos 5)) ≡ static_tree (U64 5)
 same_scalar = refl
+
+-- "a":1,"b":2 and "b":2,"a":1
+abbrev two_members : Members
+two_members = member (codes "a") (integer (pos 1)) (member (codes "b") (integer (pos 2)) no_members)
+
+abbrev other_order : Members
+other_order = member (codes "b") (integer (pos 2)) (member (codes "a") (integer (pos 1)) no_members)
+
+order_of_members : alike (list (item (object two_members) no_items)) (list (item (object other_order) no_items)) ≡ true
+order_of_members = refl
+
+order_of_items : alike (list (item null (item nested no_items))) (list (item nested (item null no_items))) ≡ false
+order_of_items = refl
+
+fewer_items : alike (list no_items) (list (item null no_items)) ≡ false
+fewer_items = refl
+
+-- {"a":1} has no "b".
+key_left_out : alike (object (drop_member two_members (codes "b"))) (object two_members) ≡ false
+key_left_out = refl
+
+key_added : alike (object two_members) (object (drop_member two_members (codes "b"))) ≡ false
+key_added = refl
+
+other_key : alike (object (member (codes "a") null no_members)) (object (member (codes "b") null no_members)) ≡ false
+other_key = refl
+
+other_value : alike (object two_members) (object (put_member two_members (codes "b") null)) ≡ false
+other_value = refl
+
+-- 1.50 and 1.5 are two literals.
+literals_by_text : alike (decimal (codes "1.50")) (decimal (codes "1.5")) ≡ false
+literals_by_text = refl
+
+sign_of_integer : alike (integer (pos 1)) (integer (negsuc 0)) ≡ false
+sign_of_integer = refl
+
+-- The second member of {"a":1,"a":2} finds the first. So a tree that isn't kept need not be alike to itself.
+repeated_key : alike repeats repeats ≡ false
+repeated_key = refl
+
+empty_containers : alike (list no_items) (object no_members) ≡ false
+empty_containers = refl
+
+put_in_place : text (object (put_member two_members (codes "a") null)) ≡ codes "{\"a\":null,\"b\":2}"
+unfolding digits
+put_in_place = refl
+
+put_at_the_end : text (object (put_member two_members (codes "c") null)) ≡ codes "{\"a\":1,\"b\":2,\"c\":null}"
+unfolding digits
+put_at_the_end = refl
+
+dropped : text (object (drop_member two_members (codes "a"))) ≡ codes "{\"b\":2}"
+unfolding digits
+dropped = refl
+
+nothing_dropped : drop_member two_members (codes "c") ≡ two_members
+nothing_dropped = refl
+
+-- [1,2]
+abbrev two_items : Items
+two_items = item (integer (pos 1)) (item (integer (pos 2)) no_items)
+
+pushed : text (list (push_item two_items null)) ≡ codes "[1,2,null]"
+unfolding digits
+pushed = refl
+
+last_of_two : last_item two_items ≡ Some (integer (pos 2))
+last_of_two = refl
+
+popped : text (list (pop_item two_items)) ≡ codes "[1]"
+unfolding digits
+popped = refl
+
+no_last : last_item no_items ≡ None
+no_last = refl
+
+nothing_popped : pop_item no_items ≡ no_items
+nothing_popped = refl

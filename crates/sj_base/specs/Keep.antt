@@ -1,6 +1,6 @@
 -- Trees without repeated keys: of several members with the same key only the first is kept (RFC 8259, section 4, leaves
 -- the meaning of repeated keys open).
-use Rattle.std.specs.Prelude.{ℕ, cond, List, bytes_eq}
+use Rattle.std.specs.Prelude.{◌≡◌, ℕ, cond, List, bytes_eq}
 use Rattle.sj_base.specs.Tree.{Tree, null, boolean, integer, decimal, string, list, object, Items, no_items, item, Members, no_members, member}
 
 -- the members with another key
@@ -26,3 +26,7 @@ abbrev mutual
   pub keep_members : Members → Members
   keep_members no_members = no_members
   keep_members (member k t ms) = member k (keep t) (without k (keep_members ms))
+
+-- No object of the tree repeats a key.
+abbrev pub IsKept : Tree → Type 0
+IsKept t = keep t ≡ t

@@ -6,6 +6,8 @@ pub mod Characters
 pub mod Spelling
 pub mod Keep
 pub mod Path
+pub mod Alike
+pub mod Edit
 pub mod Text
 pub mod Layout
 pub mod Laws

@@ -1,5 +1,9 @@
 //! Laws of the definitions that contracts cite. Each function does nothing, and its contract is the law.
 ghost use Rattle.sj_base.specs.Laws.{OneMeaning, PrintsBack, OneText, SpellsTrees, SpelledInUtf8, PrintsUtf8, OneLine, LaysOutLists, LaysOutObjects};
+ghost use Rattle.sj_base.specs.Laws.{KeepsOnce, KeepsParts, KeepsPut, HoldsOfParts, HoldsOfLast, StaysWhenPut, StaysWhenDropped, StaysWhenPushed, StaysWhenPopped, KeptWithMember, ValidWithMember, ValidWhenKept};
+ghost use Rattle.sj_base.specs.Laws.{DepthWhenKept, DepthOfParts, DepthWhenPut, DepthWithMember, DepthWhenDropped, DepthWhenPushed, DepthWhenPopped, AlikeToItself, AlikeBothWays, AlikeInTurn, AlikeByCount};
+ghost use Rattle.sj_base.specs.Keep.{IsKept};
+ghost use Rattle.sj_base.specs.Tree.{IsValidTree};
 ghost use Rattle.sj_base.specs.Text.{text, pretty};
 
 /// No bytes spell two trees.
@@ -35,4 +39,57 @@ pub fn printed_bytes()
 pub fn laid_out()
     ensures lists { LaysOutLists }
     ensures objects { LaysOutObjects }
+{}
+
+/// `keep` gives a kept tree, and commutes with paths: with the part that a path selects, if any, and with replacing it.
+pub fn keep_commutes()
+    ensures once { KeepsOnce }
+    ensures parts { KeepsParts }
+    ensures put { KeepsPut }
+{}
+
+/// The parts of a kept tree are kept, and so is a kept tree after each edit.
+pub fn kept_edits()
+    ensures parts { HoldsOfParts IsKept }
+    ensures last { HoldsOfLast IsKept }
+    ensures put { StaysWhenPut IsKept }
+    ensures put_member { KeptWithMember }
+    ensures dropped { StaysWhenDropped IsKept }
+    ensures pushed { StaysWhenPushed IsKept }
+    ensures popped { StaysWhenPopped IsKept }
+{}
+
+/// The parts of a valid tree are valid, and so is a valid tree after `keep` and after each edit.
+pub fn valid_edits()
+    ensures kept { ValidWhenKept }
+    ensures parts { HoldsOfParts IsValidTree }
+    ensures last { HoldsOfLast IsValidTree }
+    ensures put { StaysWhenPut IsValidTree }
+    ensures put_member { ValidWithMember }
+    ensures dropped { StaysWhenDropped IsValidTree }
+    ensures pushed { StaysWhenPushed IsValidTree }
+    ensures popped { StaysWhenPopped IsValidTree }
+{}
+
+/// Bounds on the depth of a part of a tree, and of a tree after `keep` and after each edit, in levels.
+pub fn depth_bounds()
+    ensures kept { DepthWhenKept }
+    ensures parts { DepthOfParts }
+    ensures put { DepthWhenPut }
+    ensures put_member { DepthWithMember }
+    ensures dropped { DepthWhenDropped }
+    ensures pushed { DepthWhenPushed }
+    ensures popped { DepthWhenPopped }
+{}
+
+/// `alike` is an equivalence on kept trees.
+pub fn alike_equivalence()
+    ensures reflexive { AlikeToItself }
+    ensures symmetric { AlikeBothWays }
+    ensures transitive { AlikeInTurn }
+{}
+
+/// The numbers of members and one pass over the members of the first tell whether two kept objects are alike.
+pub fn alike_objects()
+    ensures { AlikeByCount }
 {}
