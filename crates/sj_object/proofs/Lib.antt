@@ -1,2 +1,3 @@
+pub mod Comparisons
 pub mod Distinct
 pub mod Places

@@ -4,6 +4,7 @@
 //! Contracts see an object as the list of its pairs: an insertion is `put_key` on that list, a removal `drop_key`.
 #![tactic(auto)]
 
+mod compare;
 mod entry;
 mod hash;
 mod hashed;
