@@ -5,6 +5,7 @@
 #![tactic(auto)]
 
 mod compare;
+mod copy;
 mod entry;
 mod hash;
 mod hashed;
@@ -12,6 +13,7 @@ mod iter;
 mod key;
 mod object;
 
+pub use copy::CopyKey;
 pub use entry::{Entry, Refused};
 pub use hash::{NotSoRandomState, ObjectHasher, hash_key};
 pub use iter::{IntoIter, Iter, Keys, Values};
