@@ -1,2 +1,4 @@
+pub mod Comparisons
+pub mod Copying
 pub mod Distinct
 pub mod Places

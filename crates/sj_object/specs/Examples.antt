@@ -1,6 +1,8 @@
 -- Worked values. A key is its text, and a value is a number.
-use Rattle.std.specs.Prelude.{◌≡◌, refl, ℕ, List, [], ◌∷◌, Some, None, codes}
+use Rattle.std.specs.Prelude.{◌≡◌, refl, ℕ, List, [], ◌∷◌, Some, None, true, false, nat_eq, codes}
 use Rattle.sj_object.specs.declared.entry.Entry.{Entry}
+use Rattle.sj_object.specs.Compare.{same_pairs}
+use Rattle.sj_object.specs.Hash.{text_hash}
 use Rattle.sj_object.specs.Pairs.{value_at, set_value, put_key, drop_key}
 
 abbrev Pairs : Type 0
@@ -38,3 +40,21 @@ written = refl
 
 not_written : set_value text (a_to 3 ∷ b_to 2 ∷ []) (codes "c") 5 ≡ a_to 3 ∷ b_to 2 ∷ []
 not_written = refl
+
+equal_as_maps : same_pairs text nat_eq (a_to 1 ∷ b_to 2 ∷ []) (b_to 2 ∷ a_to 1 ∷ []) ≡ true
+equal_as_maps = refl
+
+unequal_values : same_pairs text nat_eq (a_to 1 ∷ b_to 2 ∷ []) (b_to 2 ∷ a_to 3 ∷ []) ≡ false
+unequal_values = refl
+
+unequal_keys : same_pairs text nat_eq (a_to 1 ∷ []) (a_to 1 ∷ b_to 2 ∷ []) ≡ false
+unequal_keys = refl
+
+hash_of_nothing : text_hash [] ≡ 0
+hash_of_nothing = refl
+
+hash_of_Aa : text_hash (codes "Aa") ≡ 2112
+hash_of_Aa = refl
+
+hash_of_BB : text_hash (codes "BB") ≡ 2112
+hash_of_BB = refl

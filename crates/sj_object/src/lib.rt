@@ -4,6 +4,8 @@
 //! Contracts see an object as the list of its pairs: an insertion is `put_key` on that list, a removal `drop_key`.
 #![tactic(auto)]
 
+mod compare;
+mod copy;
 mod entry;
 mod hash;
 mod hashed;
@@ -11,6 +13,7 @@ mod iter;
 mod key;
 mod object;
 
+pub use copy::CopyKey;
 pub use entry::{Entry, Refused};
 pub use hash::{NotSoRandomState, ObjectHasher, hash_key};
 pub use iter::{IntoIter, Iter, Keys, Values};

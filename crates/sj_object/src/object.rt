@@ -2,7 +2,7 @@
 ghost use Rattle.std.specs.Prelude.{◌≡◌, ◌<◌, ◌↔◌, [], length, map, slice_get, is_some, IsTrue, IsSome, IsOk, IfOk, IfErr, OnOk, OnErr};
 ghost use Rattle.std.specs.Borrow.{sem};
 ghost use Rattle.std.specs.Option.{option_copied, option_copied_mut};
-ghost use Rattle.sj_object.specs.Pairs.{value_at, put_key, drop_key};
+ghost use Rattle.sj_object.specs.Pairs.{keys_of, value_at, put_key, drop_key, AreDistinct};
 ghost use Rattle.sj_object.specs.inside.Places.{place_of};
 
 use crate::entry::{Entry, Refused};
@@ -59,7 +59,8 @@ impl<K: ObjectKey, V> Object<K, V> {
 
     /// Returns the number of pairs.
     pub fn len(&self) -> usize
-        ensures { result ≡ length self.now }
+        ensures len { result ≡ length self.now }
+        ensures distinct { AreDistinct (keys_of K.text self.now) }
     {
         self.entries.len()
     }

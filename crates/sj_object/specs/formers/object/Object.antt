@@ -1,6 +1,6 @@
 -- `Object` as a type that may hold the type that holds it, by its values.
-use Rattle.std.specs.Prelude.{ℕ, List, [], ◌∷◌, map}
-use mathlib.Core.Path.{◌≡◌, refl, sym, ap, subst}
+use Rattle.std.specs.Prelude.{ℕ, Bool, true, false, ◌&&◌, if◌then◌else◌, List, [], ◌∷◌, Option, Some, None, option_map, map, bytes_eq}
+use mathlib.Core.Path.{◌≡◌, refl, sym, ap, subst, ◌∙◌}
 use mathlib.Core.Former.{Former, this, const, pair, list, via, children}
 use base.Stored.{code_map, gcons}
 use denote.RattleType.{RattleType}
@@ -10,11 +10,15 @@ use denote.Hole.Carrier.{listed}
 use denote.Hole.Fix.{over}
 use denote.Param.Weighed.{Weighed, w_list, w_pair, w_const, w_via}
 use denote.Model.Placed.{view_places}
+use Rattle.std.specs.List.{list_all}
+use Rattle.std.specs.Option.{option_eq}
+use Rattle.std.specs.declared.cmp.PartialEq as eq
 use Rattle.std.specs.formers.vec.Vec as vec
 use Rattle.std.specs.declared.alloc.Global.{Global}
 use Rattle.std.specs.contracts.alloc.Global as heap
 use Rattle.std.specs.contracts.impls.GlobalAllocator.TheImpl.{ghosts}
-use Rattle.sj_object.specs.Pairs.{keys_of, AreDistinct, AreDistinct-prop}
+use Rattle.sj_object.specs.Compare.{agree_at, same_pairs}
+use Rattle.sj_object.specs.Pairs.{keys_of, value_at, AreDistinct, AreDistinct-prop}
 use Rattle.sj_object.specs.declared.entry.Entry.{Entry}
 use Rattle.sj_object.specs.declared.key.ObjectKey.{Ghosts}
 use Rattle.sj_object.specs.declared.object.Object.TheInside.{Inside}
@@ -65,3 +69,32 @@ module _ (K : RattleType) (G : Ghosts K.Denot) (R S : RattleType) (h : R.Denot �
 
   pub the_codes_placed : Recodes R S h → Recodes (C.the_row K R G) (C.the_row K S G) ((the_former this K.Denot).map R.Denot S.Denot h)
   the_codes_placed e d = sym (code_map (λ x. gcons (K.coded.code x.key) (R.coded.code x.value)) (λ x. gcons (K.coded.code x.key) (S.coded.code x.value)) (on_value h) (λ x. ap (gcons (K.coded.code x.key)) (sym (e x.value))) d)
+
+-- a look-up after `map h` is the look-up's value after h
+chosen : {X Y : Type 0} (h : X → Y) (b : Bool) (v : X) (r : Option X) → (if b then Some (h v) else option_map h r) ≡ option_map h (if b then Some v else r)
+chosen h true v r = refl
+chosen h false v r = refl
+
+value_at-map : {K X Y : Type 0} (text : K → List ℕ) (h : X → Y) (es : List (Entry K X)) (k : List ℕ) → value_at text (map (on_value h) es) k ≡ option_map h (value_at text es k)
+value_at-map text h [] k = refl
+value_at-map text h (e ∷ es) k =
+    (λ i. if bytes_eq (text e.key) k then Some (h e.value) else value_at-map text h es k i) ∙ chosen h (bytes_eq (text e.key) k) e.value (value_at text es k)
+
+agreed : {X Y : Type 0} (h : X → Y) (E : Y → Y → Bool) (p q : Option X) → option_eq E (option_map h p) (option_map h q) ≡ option_eq (λ a b. E (h a) (h b)) p q
+agreed h E None None = refl
+agreed h E None (Some y) = refl
+agreed h E (Some x) None = refl
+agreed h E (Some x) (Some y) = refl
+
+module _ (K X Y : Type 0) (h : X → Y) (G : Ghosts K) (V : eq.Ghosts Y) (es fs : List (Entry K X)) where
+  abbrev after : List ℕ → Bool
+  after = agree_at G.text V.eq (map (on_value h) es) (map (on_value h) fs)
+
+  each : (k : List ℕ) → after k ≡ agree_at G.text (λ x y. V.eq (h x) (h y)) es fs k
+  each k = (λ i. option_eq V.eq (value_at-map G.text h es k i) (value_at-map G.text h fs k i)) ∙ agreed h V.eq (value_at G.text es k) (value_at G.text fs k)
+
+  -- `==` after `map h` is `==` along h
+  pub the_eq_natural : same_pairs G.text V.eq ((the_former this K).map X Y h es) ((the_former this K).map X Y h fs) ≡ same_pairs G.text (λ x y. V.eq (h x) (h y)) es fs
+  the_eq_natural =
+      (λ i. list_all after (keys_kept G.text h es i) && list_all after (keys_kept G.text h fs i))
+      ∙ (λ i. list_all (λ k. each k i) (keys_of G.text es) && list_all (λ k. each k i) (keys_of G.text fs))
