@@ -2,3 +2,5 @@ pub mod Layers
 pub mod Pieces
 pub mod Kept
 pub mod Placed
+pub mod Stacks
+pub mod Members

@@ -1,11 +1,13 @@
 -- What the entries of a tree place on a stack: what is kept of the tree.
-use Rattle.std.proofs.Common.{◌≡◌, ℕ, List, [], ◌∷◌, ◌++◌, take, drop, length, map, refl, sym, ap, ap₂, ◌∙◌, append_assoc}
+use Rattle.std.proofs.Common.{◌≡◌, List, [], ◌∷◌, ◌++◌, take, drop, length, map, refl, sym, ap, ap₂, ◌∙◌, append_assoc, append-nil}
 use Rattle.sj_base.specs.Tree.{Tree, null, boolean, integer, decimal, string, list, object, Items, no_items, item, Members, no_members, member}
 use Rattle.sj_base.specs.Containers.{items_len, members_len}
 use Rattle.sj_base.specs.Keep.{keep, keep_items, keep_members}
-use Rattle.sj_tape.specs.Listing.{Entry, list_entry, object_entry, string_entry, listing, items_listing, members_listing}
+use Rattle.sj_tape.specs.Listing.{Entry, list_entry, object_entry, listing, items_listing, members_listing}
+use Rattle.sj_tape.specs.Listed.{IsTape, tree_of}
+use Rattle.sj_tape.proofs.Tapes.{tape_is_listing}
 use Rattle.sj_owned.specs.Trees.{items_of}
-use Rattle.sj_owned.specs.inside.Building.{Shown, text, built, shown_tree, members_from, drop_pairs, list_from, object_from, place, placed}
+use Rattle.sj_owned.specs.inside.Building.{Shown, text, built, shown_tree, members_from, drop_pairs, place, placed}
 use Rattle.sj_owned.specs.inside.Kept.{gathered}
 use Rattle.sj_owned.proofs.Kept.{kept_each, gathered_keeps}
 
@@ -87,3 +89,27 @@ mutual
 pub placed_last : (es : List Entry) (e : Entry) (ps : List Shown) → placed (es ++ e ∷ []) ps ≡ placed es (place e ps)
 placed_last [] e ps = refl
 placed_last (d ∷ es) e ps = ap (place d) (placed_last es e ps)
+
+abbrev first_part : List Shown → Shown
+first_part [] = built null
+first_part (p ∷ ps) = p
+
+listing_placed : (es : List Entry) (t : Tree) → es ≡ listing t → placed es [] ≡ whole t ∷ []
+listing_placed es t is = ap (λ l. placed l []) (is ∙ sym (append-nil (listing t))) ∙ placed_tree t [] []
+
+-- The first part of what a tape's entries place is what is kept of its tree.
+pub built_whole : (es : List Entry) (p : Shown) (ps : List Shown) → IsTape es → p ∷ ps ≡ placed es [] → shown_tree p ≡ keep (tree_of es)
+built_whole [] p ps tape same = cc
+built_whole (e ∷ es) p ps tape same =
+    let t = tree_of (e ∷ es) in
+    let listed : listing t ≡ e ∷ es = tape_is_listing (e ∷ es) tape (λ h. cc) in
+    ap (λ qs. shown_tree (first_part qs)) (same ∙ listing_placed (e ∷ es) t (sym listed)) ∙ shown_whole t
+
+-- Where nothing was placed, there is no entry.
+pub built_nothing : (es : List Entry) → IsTape es → [] ≡ placed es [] → es ≡ []
+built_nothing [] tape same = refl
+built_nothing (e ∷ es) tape same =
+    let t = tree_of (e ∷ es) in
+    let listed : listing t ≡ e ∷ es = tape_is_listing (e ∷ es) tape (λ h. cc) in
+    let none : [] ≡ whole t ∷ [] = same ∙ listing_placed (e ∷ es) t (sym listed) in
+    cc

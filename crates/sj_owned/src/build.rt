@@ -2,7 +2,7 @@
 //!
 //! A document is built from the last node of its tape to the first, so that a container finds its parts on a stack. Thus
 //! the depth of a text takes none of the machine's stack.
-ghost use Rattle.std.specs.Prelude.{◌≡◌, ◌∷◌, IfOk, OnOk, map, drop};
+ghost use Rattle.std.specs.Prelude.{◌≡◌, ◌∷◌, IfOk, OnOk, map, take, drop, ◌++◌};
 ghost use Rattle.sj_base.specs.Tree.{Tree, decimal, string, list, object};
 ghost use Rattle.sj_base.specs.Keep.{keep};
 ghost use Rattle.sj_base.specs.Scalar.{static_tree, decimal_text};
@@ -10,7 +10,7 @@ ghost use Rattle.sj_tape.specs.Nodes.{node_entry};
 ghost use Rattle.sj_tape.specs.Views.{value_tree as view_tree};
 ghost use Rattle.sj_owned.specs.Trees.{items_of, members_of, on_values};
 ghost use Rattle.sj_owned.specs.Views.{value_tree};
-ghost use Rattle.sj_owned.specs.inside.Building.{part_shown, shown_tree, stack, place, list_from, object_from, drop_pairs};
+ghost use Rattle.sj_owned.specs.inside.Building.{part_shown, shown_tree, stack, place, list_from, object_from, drop_pairs, add_pair};
 ghost use Rattle.sj_owned.specs.inside.Kept.{add_member};
 
 use crate::literal::{Literal, MakeLiteral};
@@ -88,7 +88,23 @@ fn into_value<'de, V: BuildValue<'de, K> + Drop, K: MakeKey<'de> + Drop>(
     }
 }
 
-// Takes as many items from the stack.
+// Moves the first part of the stack, if there is one, to the items.
+fn take_item<'de, V: BuildValue<'de, K> + Drop, K: MakeKey<'de> + Drop>(
+    alloc: Global,
+    parts: &mut Vec<Part<'de, V>>,
+    items: &mut Vec<V>,
+) -> Result<(), AllocError>
+    ensures items { OnOk result (map V.BuildContainer.tree items.new.items ≡ map V.BuildContainer.tree items.old.items
+        ++ map shown_tree (take 1 (stack V.BuildContainer.tree parts.old.items))) }
+    ensures rest { OnOk result (stack V.BuildContainer.tree parts.new.items ≡ drop 1 (stack V.BuildContainer.tree parts.old.items)) }
+{
+    if let Some(part) = parts.pop() {
+        items.push(into_value::<V, K>(alloc, part)?)?;
+    }
+    Ok(())
+}
+
+// Makes a list of the first parts of the stack.
 fn take_list<'de, V: BuildValue<'de, K> + Drop, K: MakeKey<'de> + Drop>(
     alloc: Global,
     len: usize,
@@ -100,36 +116,13 @@ fn take_list<'de, V: BuildValue<'de, K> + Drop, K: MakeKey<'de> + Drop>(
     let mut items = Vec::with_capacity(alloc, len)?;
     let mut left = len;
     while left > 0 {
+        take_item::<V, K>(alloc, parts, &mut items)?;
         left -= 1;
-        if let Some(part) = parts.pop() {
-            items.push(into_value::<V, K>(alloc, part)?)?;
-        }
     }
     V::from_array(alloc, items)
 }
 
-// Takes as many members from the stack, each a key and a value. The first one of each key is kept.
-fn take_object<'de, V: BuildValue<'de, K> + Drop, K: MakeKey<'de> + Drop>(
-    alloc: Global,
-    len: usize,
-    parts: &mut Vec<Part<'de, V>>,
-) -> Result<V, AllocError>
-    ensures value { IfOk result (λ v. V.BuildContainer.tree v ≡ object_from len (stack V.BuildContainer.tree parts.old.items)) }
-    ensures rest { OnOk result (stack V.BuildContainer.tree parts.new.items ≡ drop_pairs len (stack V.BuildContainer.tree parts.old.items)) }
-{
-    let mut members = Object::with_capacity(alloc, len)?;
-    let mut left = len;
-    while left > 0 {
-        left -= 1;
-        let key = parts.pop();
-        let value = parts.pop();
-        if let (Some(Part::Text(key)), Some(value)) = (key, value) {
-            add_member(alloc, key, value, &mut members)?;
-        }
-    }
-    V::from_object(alloc, members)
-}
-
+// Adds a member, unless there is one with its key.
 fn add_member<'de, V: BuildValue<'de, K> + Drop, K: MakeKey<'de> + Drop>(
     alloc: Global,
     key: &'de str,
@@ -148,6 +141,42 @@ fn add_member<'de, V: BuildValue<'de, K> + Drop, K: MakeKey<'de> + Drop>(
         Ok(_) => Ok(()),
         Err(_) => Err(AllocError),
     }
+}
+
+// Moves the first two parts of the stack, a key and a value, to the members, unless there is a member with that key.
+fn take_member<'de, V: BuildValue<'de, K> + Drop, K: MakeKey<'de> + Drop>(
+    alloc: Global,
+    parts: &mut Vec<Part<'de, V>>,
+    members: &mut Object<K, V>,
+) -> Result<(), AllocError>
+    ensures members { OnOk result (members_of K.text (on_values V.BuildContainer.tree members.new)
+        ≡ add_pair (members_of K.text (on_values V.BuildContainer.tree members.old)) (stack V.BuildContainer.tree parts.old.items)) }
+    ensures rest { OnOk result (stack V.BuildContainer.tree parts.new.items ≡ drop_pairs 1 (stack V.BuildContainer.tree parts.old.items)) }
+{
+    let key = parts.pop();
+    let value = parts.pop();
+    match (key, value) {
+        (Some(Part::Text(key)), Some(value)) => add_member(alloc, key, value, members),
+        _ => Ok(()),
+    }
+}
+
+// Makes an object of the first parts of the stack, a key and a value for each member.
+fn take_object<'de, V: BuildValue<'de, K> + Drop, K: MakeKey<'de> + Drop>(
+    alloc: Global,
+    len: usize,
+    parts: &mut Vec<Part<'de, V>>,
+) -> Result<V, AllocError>
+    ensures value { IfOk result (λ v. V.BuildContainer.tree v ≡ object_from len (stack V.BuildContainer.tree parts.old.items)) }
+    ensures rest { OnOk result (stack V.BuildContainer.tree parts.new.items ≡ drop_pairs len (stack V.BuildContainer.tree parts.old.items)) }
+{
+    let mut members = Object::with_capacity(alloc, len)?;
+    let mut left = len;
+    while left > 0 {
+        take_member(alloc, parts, &mut members)?;
+        left -= 1;
+    }
+    V::from_object(alloc, members)
 }
 
 // Makes what is built of a node and of the parts behind it.
@@ -199,12 +228,16 @@ impl<K: ObjectKey, D: Literal> BuildContainer<K> for Value<K, D> {
     ghost tree = { value_tree K.text D.literal };
 
     #[inline(always)]
-    fn from_array(_alloc: Global, items: Vec<Self>) -> Result<Self, AllocError> {
+    fn from_array(_alloc: Global, items: Vec<Self>) -> Result<Self, AllocError>
+        ensures { IfOk result (λ v. value_tree K.text D.literal v ≡ list (items_of (map (value_tree K.text D.literal) items.items))) }
+    {
         Ok(Value::Array(items))
     }
 
     #[inline(always)]
-    fn from_object(_alloc: Global, members: Object<K, Self>) -> Result<Self, AllocError> {
+    fn from_object(_alloc: Global, members: Object<K, Self>) -> Result<Self, AllocError>
+        ensures { IfOk result (λ v. value_tree K.text D.literal v ≡ object (members_of K.text (on_values (value_tree K.text D.literal) members))) }
+    {
         Ok(Value::Object(members))
     }
 }

@@ -1,10 +1,9 @@
 -- A document that is built from the last node of its tape to the first: a stack has what is built of the nodes behind.
 use Rattle.std.specs.Prelude.{ℕ, zero, suc, List, [], ◌∷◌, map, take, drop, reverse}
-use Rattle.std.specs.Borrow.{Bor}
 use Rattle.sj_base.specs.Tree.{Tree, null, boolean, integer, decimal, string, list, object, Members, no_members, member}
 use Rattle.sj_tape.specs.Listing.{Entry, null_entry, boolean_entry, integer_entry, decimal_entry, string_entry, list_entry, object_entry}
 use Rattle.sj_owned.specs.Trees.{items_of}
-use Rattle.sj_owned.specs.inside.Kept.{gathered}
+use Rattle.sj_owned.specs.inside.Kept.{add_member, gathered}
 use Rattle.sj_owned.specs.declared.build.Part.{Part}
 use Rattle.sj_owned.specs.declared.build.Part.TheVariants.{Text, Built}
 
@@ -32,6 +31,14 @@ drop_pairs zero ps = ps
 drop_pairs (suc n) [] = []
 drop_pairs (suc n) (p ∷ []) = []
 drop_pairs (suc n) (p ∷ q ∷ ps) = drop_pairs n ps
+
+-- the members with the first pair added, unless there is one with its key
+abbrev pub add_pair : Members → List Shown → Members
+add_pair ms [] = ms
+add_pair ms (text k ∷ []) = ms
+add_pair ms (built t ∷ []) = ms
+add_pair ms (text k ∷ p ∷ ps) = add_member ms k (shown_tree p)
+add_pair ms (built t ∷ p ∷ ps) = ms
 
 -- The first of each key is kept.
 abbrev pub object_from : ℕ → List Shown → Tree
