@@ -1,20 +1,22 @@
 -- The tree of a document, level by level.
-use Rattle.std.proofs.Common.{◌≡◌, ℕ, zero, suc, true, false, ◌<◌, ◌≤◌, length, get_or, List, [], ◌∷◌, ◌++◌, refl, ap, sym, ◌∙◌, rules, arith, Vec, Option, Some, None, option_map, if◌then◌else◌, Bool, bytes_eq}
+use Rattle.std.proofs.Common.{◌≡◌, ℕ, zero, suc, true, false, ◌<◌, ◌≤◌, length, get_or, List, [], ◌∷◌, refl, ap, ◌∙◌, rules, arith, Vec, Option, Some, None, option_map, if◌then◌else◌, Bool, bytes_eq}
 use Rattle.std.specs.Borrow.{Bor}
 use Rattle.std.specs.Slice.{IsGetResult}
 use Rattle.std.specs.Option.{option_copied}
 use Rattle.std.specs.declared.alloc.Global.{Global}
-use Rattle.sj_base.specs.Tree.{Tree, decimal, string, list, object, Items, no_items, item, Members, no_members, member}
-use Rattle.sj_base.specs.Containers.{items_in, members_in}
+use Rattle.sj_base.specs.Tree.{list, object}
 use Rattle.sj_base.specs.Scalar.{static_tree}
+use Rattle.sj_base.specs.declared.static_node.StaticNode.{StaticNode}
 use Rattle.sj_base.specs.Path.{item_at, member_at}
 use Rattle.sj_object.specs.Pairs.{value_at}
 use Rattle.sj_object.specs.declared.entry.Entry.{Entry}
-use Rattle.sj_owned.specs.Trees.{members_of, on_values}
 use Rattle.sj_owned.specs.Views.{value_tree, items_view, members_view}
-use Rattle.sj_owned.specs.declared.value.Value.{Value, Array, Object, the_lemmas}
+use Rattle.sj_owned.specs.declared.value.Value.{Value, Static, Array, Object, the_lemmas}
 
 module _ {K D : Type 0} (text : K → List ℕ) (literal : D → List ℕ) where
+  pub tree-Static : (n : StaticNode) → value_tree text literal (Static n) ≡ static_tree n
+  tree-Static n = search (rules, the_lemmas)
+
   pub tree-Array : (v : Vec (Value K D) Global) → value_tree text literal (Array v) ≡ list (items_view text literal v.items)
   tree-Array v = search (rules, the_lemmas)
 

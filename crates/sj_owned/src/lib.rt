@@ -12,7 +12,7 @@ mod literal;
 pub mod owned;
 mod value;
 
-pub use build::{BuildContainer, BuildValue, build_value};
+pub use build::build_value;
 pub use literal::{Literal, MakeLiteral};
 pub use owned::Value as OwnedValue;
 pub use value::Value;

@@ -1,6 +1,4 @@
 //! Documents that own their texts. Port of the module `simd_json::owned`.
-ghost use Rattle.std.specs.Prelude.{◌≡◌};
-
 use sj_base::DecimalBuf;
 
 /// A document that owns its texts. Port of `simd_json::OwnedValue`.
