@@ -1,2 +1,3 @@
 pub mod Building
+pub mod Refusals
 pub mod Kept

@@ -1,17 +1,26 @@
 //! Encoders: the JSON text of a document, appended to a vector.
-ghost use Rattle.std.specs.Prelude.{◌≡◌, ◌+◌, ◌++◌, ◌<◌, ◌^◌, OnOk, OnErr};
+ghost use Rattle.std.specs.Prelude.{◌≡◌, ℕ, List, ◌+◌, ◌++◌, ◌<◌, ◌^◌, OnOk, OnErr};
 ghost use Rattle.sj_base.specs.Text.{text, pretty};
 ghost use Rattle.sj_base.specs.Tree.{list, object};
 ghost use Rattle.sj_base.specs.Layout.{level_of, laid_out};
-ghost use Rattle.sj_base.specs.Buffer.{buffer_text};
 ghost use Rattle.sj_owned.specs.Views.{value_tree, items_view, members_view};
+ghost use Rattle.sj_owned.specs.inside.Refusals.{refuses_all};
 
 use crate::literal::Literal;
 use crate::value::Value;
-use sj_base::{Layout, Scalar, TextBuffer, print_text, whole_or_none};
+use sj_base::{Layout, Output, Scalar, TextBuffer, print_text, whole_or_none};
 use sj_object::{Object, ObjectKey};
 use std::alloc::AllocError;
 use std::mem;
+
+// An output that may refuse before anything is appended.
+trait Refuses: Output<Fault = AllocError> {
+    ghost refuses: { (old : Self) (bytes : List ℕ) → Self.begins old old bytes };
+}
+
+impl Refuses for TextBuffer {
+    ghost refuses = { refuses_all };
+}
 
 // Tests that the next level has a number. A text with more levels has more bytes than there can be.
 #[inline(always)]
@@ -25,13 +34,13 @@ fn test_level(layout: Layout) -> Result<(), AllocError>
 }
 
 #[cycle(print)]
-fn print_value<K: ObjectKey, D: Literal>(
+fn print_value<K: ObjectKey, D: Literal, O: Refuses>(
     value: &Value<K, D>,
     layout: Layout,
-    out: &mut TextBuffer,
+    out: &mut O,
 ) -> Result<(), AllocError>
-    ensures { OnOk result (buffer_text out.new
-        ≡ buffer_text out.old ++ laid_out layout (value_tree K.text D.literal value.now)) }
+    ensures ok { OnOk result (O.appends out.old out.new (laid_out layout (value_tree K.text D.literal value.now))) }
+    ensures err { OnErr result (O.begins out.old out.new (laid_out layout (value_tree K.text D.literal value.now))) }
 {
     match value {
         Value::Static(scalar) => print_text(out, &Scalar::Static(*scalar)),
@@ -43,13 +52,13 @@ fn print_value<K: ObjectKey, D: Literal>(
 }
 
 #[cycle(print)]
-fn print_items<K: ObjectKey, D: Literal>(
+fn print_items<K: ObjectKey, D: Literal, O: Refuses>(
     items: &[Value<K, D>],
     layout: Layout,
-    out: &mut TextBuffer,
+    out: &mut O,
 ) -> Result<(), AllocError>
-    ensures { OnOk result (buffer_text out.new
-        ≡ buffer_text out.old ++ laid_out layout (list (items_view K.text D.literal items.now))) }
+    ensures ok { OnOk result (O.appends out.old out.new (laid_out layout (list (items_view K.text D.literal items.now)))) }
+    ensures err { OnErr result (O.begins out.old out.new (laid_out layout (list (items_view K.text D.literal items.now)))) }
 {
     test_level(layout)?;
     let mut list = layout.open_list(out)?;
@@ -61,13 +70,13 @@ fn print_items<K: ObjectKey, D: Literal>(
 }
 
 #[cycle(print)]
-fn print_members<K: ObjectKey, D: Literal>(
+fn print_members<K: ObjectKey, D: Literal, O: Refuses>(
     members: &Object<K, Value<K, D>>,
     layout: Layout,
-    out: &mut TextBuffer,
+    out: &mut O,
 ) -> Result<(), AllocError>
-    ensures { OnOk result (buffer_text out.new
-        ≡ buffer_text out.old ++ laid_out layout (object (members_view K.text D.literal members.now))) }
+    ensures ok { OnOk result (O.appends out.old out.new (laid_out layout (object (members_view K.text D.literal members.now)))) }
+    ensures err { OnErr result (O.begins out.old out.new (laid_out layout (object (members_view K.text D.literal members.now)))) }
 {
     test_level(layout)?;
     let mut object = layout.open_object(out)?;

@@ -1,5 +1,5 @@
 use Rattle.std.proofs.Common.{◌≡◌, ◌++◌, ◌+◌, ◌*◌, ◌≤◌, drop, length}
-use Rattle.sj_base.specs.Buffer.{buffer_text}
+use Rattle.sj_base.proofs.Towards.{Toward}
 use Rattle.sj_base.specs.Tree.{list, object}
 use Rattle.sj_base.specs.Layout.{inside, laid_out, rest_text, item_texts, member_texts}
 use Rattle.sj_object.specs.Iterators.{entries_left}
@@ -22,8 +22,7 @@ invariant-print_items-loop-item g l =
     let view = items_view g.K.ObjectKey.text g.D.Literal.literal in
     (length (items_listing (view (drop l.item-index l.items))) ≤ length (items_listing (view l.items)))
     × (l.list.inside ≡ inside l.fn.layout)
-    × (buffer_text l.out ++ rest_text l.list (item_texts l.list.inside (view (drop l.item-index l.items)))
-        ≡ buffer_text l.fn.out ++ laid_out l.fn.layout (list (view l.items)))
+    × Toward g.O.Output.appends g.O.Output.begins l.fn.out l.out (rest_text l.list (item_texts l.list.inside (view (drop l.item-index l.items)))) (laid_out l.fn.layout (list (view l.items)))
 
 abbrev pub invariant-print_members-loop-key : goal.invariant-print_members-loop-key
 invariant-print_members-loop-key g l =
@@ -32,5 +31,4 @@ invariant-print_members-loop-key g l =
     × (goal.iterator-print_members-loop-key g).is_finite l.key-iterator
     × (length (members_listing (view (entries_left l.key-iterator))) ≤ length (members_listing (view l.fn.members)))
     × (l.object.inside ≡ inside l.fn.layout)
-    × (buffer_text l.out ++ rest_text l.object (member_texts l.object.inside (view (entries_left l.key-iterator)))
-        ≡ buffer_text l.fn.out ++ laid_out l.fn.layout (object (view l.fn.members)))
+    × Toward g.O.Output.appends g.O.Output.begins l.fn.out l.out (rest_text l.object (member_texts l.object.inside (view (entries_left l.key-iterator)))) (laid_out l.fn.layout (object (view l.fn.members)))
