@@ -64,6 +64,7 @@ fn words(rt: HostRuntime) -> Result<(), Fail> {
         ("plain", Ok(Kind::Plain)),
         ("scan", Ok(Kind::Scan)),
         ("print", Ok(Kind::Print)),
+        ("compare", Ok(Kind::Compare)),
         ("Tape", Err(UnknownKind)),
         ("", Err(UnknownKind)),
     ] {
@@ -126,6 +127,7 @@ fn runs(rt: HostRuntime) -> Result<(), Fail> {
         (Kind::Plain, 2),
         (Kind::Scan, 1),
         (Kind::Print, 2),
+        (Kind::Compare, 0),
     ] {
         let bytes = Vec::from_slice(alloc, b"{\"a\":[1,2.5]}\n[1,]\n\"b\\n\"\n\"c")?;
         let documents = split(alloc, bytes, "lines")?;

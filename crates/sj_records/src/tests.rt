@@ -1,10 +1,14 @@
-//! Worked lines and scripts, the display texts of errors, and readers and writers that fail.
+//! Worked lines and scripts, the display texts of errors, and readers and writers that fail. The tests of `sj_base`,
+//! `sj_scan`, `sj_reads` and `sj_parse` stand here too, since a crate with tests is proved once more with them.
 ghost use Rattle.std.specs.Prelude.{◌≡◌};
 
 mod documents;
 mod faults;
 mod lines;
 mod rows;
+mod scans;
+mod shared;
+mod tapes;
 
 use super::*;
 use sj_base::{Counted, Error, ErrorType};
