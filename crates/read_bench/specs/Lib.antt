@@ -1,3 +1,4 @@
+pub mod Cuts
 pub mod Kind
 pub mod Printed
 pub mod Refused

@@ -94,7 +94,9 @@ fn command<'a>(alloc: Global) -> Result<Command<'a>, AllocError> {
         .required(true)
         .action(ArgAction::Set)
         .value_parser(KINDS.as_slice())
-        .help("What a pass does with each document. For compare the third number is that of the cuts at which the two scans differ");
+        .help(
+            "What a pass does with each document. For compare the third number is that of the cuts at which the two scans differ",
+        );
     let file = Arg::new(alloc, "FILE")
         .required(true)
         .action(ArgAction::Set)

@@ -1,7 +1,9 @@
 //! The two scans beside each other, on the beginnings of documents.
 //!
 //! The contract of scans says that they answer alike. A run shows it of the program as it was built, on real files.
-ghost use Rattle.std.specs.Prelude.{◌≡◌, ◌≤◌, IfOk, length};
+ghost use Rattle.std.specs.Prelude.{◌≡◌, ℕ, List, false, IfOk};
+ghost use Rattle.sj_scan.specs.Scan.{Scans, scan_fault};
+ghost use Rattle.read_bench.specs.Cuts.{positions_left};
 
 use crate::passes::{Pass, Timed};
 use sj_scan::{BlockScan, PlainScan, ScanFault, Stage1};
@@ -16,7 +18,7 @@ const EACH: usize = 300;
 const CUTS: usize = 200;
 
 /// Cuts each document at each of its first 300 bytes and at about 200 further places, and compares the two scans of what
-/// stands before each cut. These places are an odd number of bytes apart, so that they stand anywhere in a block.
+/// stands before each cut.
 #[derive(Drop)]
 pub struct ComparePass {
     documents: Vec<Vec<u8>>,
@@ -59,7 +61,7 @@ fn count_differences(
     ensures { IfOk result (λ n. n ≡ 0) }
 {
     let len = document.len();
-    let step = (len / CUTS) | 1;
+    let step = len / CUTS + 1;
     let mut count = 0;
     let mut end = 0;
     while end <= len {
@@ -72,20 +74,24 @@ fn count_differences(
 }
 
 /// Returns `true` if the two scans of the text differ, in the fault or in the positions.
-fn differ(
-    text: &[u8],
-    plain: &mut Vec<u32>,
-    block: &mut Vec<u32>,
-) -> Result<bool, AllocError>
+fn differ(text: &[u8], plain: &mut Vec<u32>, block: &mut Vec<u32>) -> Result<bool, AllocError>
     ensures { IfOk result (λ d. d ≡ false) }
 {
     if text.len() > u32::MAX as usize {
         return Ok(false);
     }
-    let by_bytes = PlainScan.scan(text, plain);
-    let by_blocks = BlockScan.scan(text, block);
-    if by_bytes == Err(ScanFault::Memory) || by_blocks == Err(ScanFault::Memory) {
-        return Err(AllocError);
+    let by_bytes = found(PlainScan.scan(text, plain))?;
+    let by_blocks = found(BlockScan.scan(text, block))?;
+    Ok(by_bytes != by_blocks || plain.as_slice() != block.as_slice())
+}
+
+/// Returns the fault that a scan found, if any.
+fn found(answer: Result<(), ScanFault>) -> Result<Option<ScanFault>, AllocError>
+    ensures { IfOk result (λ fault. (text out : List ℕ) → Scans text answer out → (fault ≡ scan_fault text) × (out ≡ positions_left text)) }
+{
+    match answer {
+        Ok(()) => Ok(None),
+        Err(ScanFault::Memory) => Err(AllocError),
+        Err(fault) => Ok(Some(fault)),
     }
-    Ok(by_bytes != by_blocks || plain != block)
 }

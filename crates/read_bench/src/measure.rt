@@ -56,12 +56,7 @@ pub fn measure<R: Clock>(
             let mut pass = PrintPass::read(alloc, &mut documents)?;
             repeat(rt, alloc, &mut pass, duration)
         }
-        Kind::Compare => repeat(
-            rt,
-            alloc,
-            &mut ComparePass::new(alloc, documents),
-            duration,
-        ),
+        Kind::Compare => repeat(rt, alloc, &mut ComparePass::new(alloc, documents), duration),
     }
 }
 
