@@ -1,3 +1,3 @@
-mod Cuts
 mod Refusals
+mod Scans
 mod Texts

@@ -402,17 +402,3 @@ fn of_depth(rt: HostRuntime) -> Result<(), Fail> {
     }
     Ok(())
 }
-
-// One level more than the limit.
-#[test]
-fn of_depth_by_levels(rt: HostRuntime) -> Result<(), Fail> {
-    for index in [1, 2, 7, 1024] {
-        let limit = usize::from(index);
-        let mut line = Vec::new(rt.alloc());
-        line.resize(limit + 1, b'[')?;
-        line.resize(2 * limit + 2, b']')?;
-        let place = Some((index, "["));
-        compare_line(&rt, rt.alloc(), limit, &line, "Syntax", place)?;
-    }
-    Ok(())
-}

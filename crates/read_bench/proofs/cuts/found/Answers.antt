@@ -1,5 +1,5 @@
 use Rattle.std.proofs.Common.{rules}
-use Rattle.read_bench.proofs.Cuts.{left-scanned, left-fault}
+use Rattle.read_bench.proofs.Scans.{left-scanned, left-fault}
 use Rattle.read_bench.proofs.cuts.found.Goals as goal
 
 pub returns-in-Ok : goal.returns-in-Ok
