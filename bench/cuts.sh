@@ -10,7 +10,12 @@ set -eu
 
 top=$(cd "$(dirname "$0")/.." && pwd)
 folder=$(cd "${1:?the folder with the files}" && pwd)
-(cd "$top/crates/read_bench" && rt run -- --help > /dev/null)
+log=$(mktemp)
+trap 'rm -f "$log"' EXIT
+if ! (cd "$top/crates/read_bench" && rt run -- --help > "$log" 2>&1); then
+    echo "read_bench can't be made: $(tail -n 1 "$log")" >&2
+    exit 1
+fi
 differ=0
 for file in "$folder"/*.json "$folder"/*.jsonl; do
     if [ ! -e "$file" ]; then continue; fi

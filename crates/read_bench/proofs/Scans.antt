@@ -3,7 +3,7 @@ use Rattle.std.proofs.Common.{◌≡◌, ◌≢◌, ℕ, List, None, Some, Ok, E
 use Rattle.sj_scan.specs.Scan.{Scans, scan_fault}
 use Rattle.sj_scan.specs.declared.stage1.ScanFault.{ScanFault}
 use Rattle.sj_scan.specs.declared.stage1.ScanFault.TheVariants.{Utf8, Unclosed, Control, NoToken, Memory}
-use Rattle.read_bench.specs.Cuts.{positions_left}
+use Rattle.read_bench.specs.inside.Cuts.{positions_left}
 
 pub left-scanned : (text out : List ℕ) (done : Unit) → Scans text (Ok done) out → (None ≡ scan_fault text) × (out ≡ positions_left text)
 unfolding positions_left

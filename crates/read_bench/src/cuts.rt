@@ -3,7 +3,7 @@
 //! The contract of scans says that they answer alike. A run shows it of the program as it was built, on real files.
 ghost use Rattle.std.specs.Prelude.{◌≡◌, ℕ, List, false, IfOk};
 ghost use Rattle.sj_scan.specs.Scan.{Scans, scan_fault};
-ghost use Rattle.read_bench.specs.Cuts.{positions_left};
+ghost use Rattle.read_bench.specs.inside.Cuts.{positions_left};
 
 use crate::passes::{Pass, Timed};
 use sj_scan::{BlockScan, PlainScan, ScanFault, Stage1};
