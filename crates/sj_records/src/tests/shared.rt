@@ -1,9 +1,9 @@
 //! Of `sj_base` and `sj_reads`: printed texts, the display texts of errors, worked rows, and that there is memory for what
 //! is asked.
 use sj_base::{
-    AccessError, Counted, Decimal, DecimalBuf, DecimalCow, Error, ErrorType, Scalar, StaticNode,
-    TextBuffer, TryCopy, TryTypeError, ValueType, WriteFault, print_text, put_break, put_int,
-    put_string, put_text,
+    AccessError, Counted, Decimal, DecimalBuf, DecimalCow, Error, ErrorType, Layout, Scalar,
+    StaticNode, TextBuffer, TryCopy, TryTypeError, ValueType, WriteFault, print_text, put_break,
+    put_int, put_string, put_text,
 };
 use sj_reads::ValueAsScalar;
 use std::alloc::AllocError;
@@ -61,6 +61,20 @@ fn line_breaks(rt: HostRuntime) -> Result<(), Fail> {
     Ok(())
 }
 
+// The pieces alone: no value stands behind the key, and no item in the list.
+#[test]
+fn layouts(rt: HostRuntime) -> Result<(), Fail> {
+    let mut out = Vec::new(rt.alloc());
+    let mut object = Layout::Indented(0).open_object(&mut out)?;
+    object.key("a", &mut out)?;
+    object.close(&mut out)?;
+    let mut list = Layout::Compact.open_list(&mut out)?;
+    list.next(&mut out)?;
+    list.close(&mut out)?;
+    assert_eq!(rt; out.as_slice(), b"{\n  \"a\": \n}[]".as_slice());
+    Ok(())
+}
+
 #[test]
 fn error_texts(rt: HostRuntime) -> Result<(), Fail> {
     let error = Error::at(ErrorType::ExpectedTrue, 5, b't');
@@ -107,7 +121,9 @@ fn integers_and_types(rt: HostRuntime) -> Result<(), Fail> {
 fn decimals(rt: HostRuntime) -> Result<(), Fail> {
     for text in ["1.50", "-0e0", "1E+5"] {
         let literal = Decimal::new(text).ok_or("refused")?;
-        let cow = DecimalCow::Owned(DecimalBuf::new(rt.alloc(), literal)?);
+        let owned = DecimalBuf::new(rt.alloc(), literal)?;
+        assert_eq!(rt; copy_of(&owned)?.as_decimal().as_str(), text);
+        let cow = DecimalCow::Owned(owned);
         assert_eq!(rt; copy_of(&cow)?.as_decimal().as_str(), text);
     }
     for text in ["1", "01.5", "1.", ".5", "1e", "+1.5", ""] {
