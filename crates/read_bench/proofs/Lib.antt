@@ -1,2 +1,3 @@
 mod Refusals
+mod Scans
 mod Texts

@@ -10,7 +10,7 @@ const ABOUT: &str =
     "Times the reading or the printing of JSON, and prints the median and the least time of a pass in nanoseconds, and the number of documents refused";
 
 /// The words of the kinds.
-const KINDS: [&str; 4] = ["tape", "plain", "scan", "print"];
+const KINDS: [&str; 5] = ["tape", "plain", "scan", "print", "compare"];
 
 /// What a pass does with each document.
 #[derive(Clone, Copy, Debug, PartialEq, Eq)]
@@ -23,6 +23,8 @@ pub enum Kind {
     Scan,
     /// Prints its tape, which was read before.
     Print,
+    /// Cuts it at many places, and compares the two scans of what stands before each cut.
+    Compare,
 }
 
 /// A word that names no kind.
@@ -42,6 +44,7 @@ impl FromStr for Kind {
             "plain" => Ok(Kind::Plain),
             "scan" => Ok(Kind::Scan),
             "print" => Ok(Kind::Print),
+            "compare" => Ok(Kind::Compare),
             _ => Err(UnknownKind),
         }
     }
@@ -91,7 +94,9 @@ fn command<'a>(alloc: Global) -> Result<Command<'a>, AllocError> {
         .required(true)
         .action(ArgAction::Set)
         .value_parser(KINDS.as_slice())
-        .help("What a pass does with each document");
+        .help(
+            "What a pass does with each document. For compare the third number is that of the cuts at which the two scans differ",
+        );
     let file = Arg::new(alloc, "FILE")
         .required(true)
         .action(ArgAction::Set)

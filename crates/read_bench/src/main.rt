@@ -5,6 +5,7 @@
 #![tactic(auto)]
 
 mod arguments;
+mod cuts;
 mod documents;
 mod measure;
 mod passes;
@@ -34,7 +35,7 @@ fn main(rt: HostRuntime) -> Result<ExitCode> {
 }
 
 /// Times what the arguments ask for, and prints the median and the least time of a pass, in nanoseconds, and the number
-/// of documents that are refused.
+/// of documents that are refused, or of cuts at which the two scans differ.
 fn bench(rt: &HostRuntime, arguments: &Arguments<'_>) -> Result<()> {
     let alloc = rt.alloc();
     let bytes = fs::read(rt, arguments.file).context(format_args!("reading {}", arguments.file))?;

@@ -3,6 +3,7 @@ ghost use Rattle.std.specs.Prelude.{◌≡◌, IfOk};
 ghost use Rattle.read_bench.specs.Refused.{refused_by};
 
 use crate::arguments::Kind;
+use crate::cuts::ComparePass;
 use crate::passes::{Pass, PrintPass, ScanPass, TapePass};
 use crate::stats::Stats;
 use sj_scan::{BlockScan, PlainScan};
@@ -18,7 +19,7 @@ const MAX_PASSES: u64 = 1 << 32;
 pub struct Measured {
     /// The figures of the passes, in nanoseconds.
     pub figures: Stats,
-    /// The number of documents refused.
+    /// The number of documents refused, or of cuts at which the two scans differ.
     pub refused: usize,
 }
 
@@ -55,6 +56,7 @@ pub fn measure<R: Clock>(
             let mut pass = PrintPass::read(alloc, &mut documents)?;
             repeat(rt, alloc, &mut pass, duration)
         }
+        Kind::Compare => repeat(rt, alloc, &mut ComparePass::new(alloc, documents), duration),
     }
 }
 

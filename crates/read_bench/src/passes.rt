@@ -13,7 +13,7 @@ use std::alloc::{AllocError, Global};
 use std::io;
 use std::time::{Clock, Duration, Instant};
 
-/// The time of a pass, and the number of documents that it refused.
+/// The time of a pass, and the number of documents that it refused, or of cuts at which the two scans differ.
 #[derive(Clone, Copy, Debug, PartialEq, Eq)]
 pub struct Timed {
     pub duration: Duration,

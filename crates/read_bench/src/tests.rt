@@ -1,6 +1,6 @@
 //! What no clause says: the texts of `clap`, which words are refused, how a file is cut into documents, and that a run of
 //! each kind ends well.
-use crate::arguments::{Kind, UnknownKind, parse_arguments};
+use crate::arguments::{Kind, parse_arguments};
 use crate::documents::split;
 use crate::measure::{Measured, measure};
 use crate::stats::Stats;
@@ -29,46 +29,8 @@ impl Clock for Steps {
 }
 
 #[test]
-fn figures(rt: HostRuntime) {
-    let of_one = Stats::of(&mut [7]);
-    assert_eq!(rt;
-        of_one,
-        Stats {
-            median: 7,
-            least: 7
-        }
-    );
-    let of_three = Stats::of(&mut [9, 2, 4]);
-    assert_eq!(rt;
-        of_three,
-        Stats {
-            median: 4,
-            least: 2
-        }
-    );
-    let of_four = Stats::of(&mut [5, 1, 1, 3]);
-    assert_eq!(rt;
-        of_four,
-        Stats {
-            median: 3,
-            least: 1
-        }
-    );
-}
-
-#[test]
 fn words(rt: HostRuntime) -> Result<(), Fail> {
     let alloc = rt.alloc();
-    for (word, kind) in [
-        ("tape", Ok(Kind::Tape)),
-        ("plain", Ok(Kind::Plain)),
-        ("scan", Ok(Kind::Scan)),
-        ("print", Ok(Kind::Print)),
-        ("Tape", Err(UnknownKind)),
-        ("", Err(UnknownKind)),
-    ] {
-        assert_eq!(rt; word.parse::<Kind>(), kind);
-    }
     let words = ["read_bench", "scan", "tweets.jsonl", "1500"];
     let arguments = parse_arguments(alloc, &words)?;
     assert_eq!(rt; arguments.kind, Kind::Scan);
@@ -126,6 +88,7 @@ fn runs(rt: HostRuntime) -> Result<(), Fail> {
         (Kind::Plain, 2),
         (Kind::Scan, 1),
         (Kind::Print, 2),
+        (Kind::Compare, 0),
     ] {
         let bytes = Vec::from_slice(alloc, b"{\"a\":[1,2.5]}\n[1,]\n\"b\\n\"\n\"c")?;
         let documents = split(alloc, bytes, "lines")?;

@@ -17,8 +17,6 @@ mod put;
 mod scalar;
 mod static_node;
 mod stream;
-#[cfg(test)]
-mod tests;
 mod try_copy;
 
 pub use buffer::TextBuffer;

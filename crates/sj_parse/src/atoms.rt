@@ -51,25 +51,3 @@ fn ends_word(bytes: &[u8]) -> bool
         None => true,
     }
 }
-
-#[cfg(test)]
-mod tests {
-    use super::*;
-
-    #[test]
-    fn atoms(rt: HostRuntime) {
-        for (text, is_true, is_false, is_null) in [
-            ("true", true, false, false),
-            ("true,false", true, false, false),
-            ("false]", false, true, false),
-            ("null\n", false, false, true),
-            ("true\"a\"", false, false, false),
-            ("falsy", false, false, false),
-            ("nul", false, false, false),
-        ] {
-            assert_eq!(rt; is_valid_true_atom(text.as_bytes()), is_true, "{text}");
-            assert_eq!(rt; is_valid_false_atom(text.as_bytes()), is_false, "{text}");
-            assert_eq!(rt; is_valid_null_atom(text.as_bytes()), is_null, "{text}");
-        }
-    }
-}

@@ -20,14 +20,3 @@ pub(crate) fn is_separator(byte: u8) -> bool
         b' ' | b'\t' | b'\n' | b'\r' | b'{' | b'}' | b'[' | b']' | b':' | b','
     )
 }
-
-#[cfg(test)]
-mod tests {
-    use super::*;
-
-    #[test]
-    fn digits(rt: HostRuntime) {
-        assert!(rt; is_integer(b'7'));
-        assert!(rt; !is_integer(b'-'));
-    }
-}

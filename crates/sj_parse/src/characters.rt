@@ -44,33 +44,3 @@ pub(crate) fn write_character(character: char, out: &mut [u8]) -> usize
     out[..text.len()].copy_from_slice(text.as_bytes());
     text.len()
 }
-
-#[cfg(test)]
-mod tests {
-    use super::*;
-
-    #[test]
-    fn codepoints(rt: HostRuntime) {
-        for (cp, len, bytes) in [
-            (0x41, 1, [0x41, 0, 0, 0]),
-            (0xe9, 2, [0xc3, 0xa9, 0, 0]),
-            (0x20ac, 3, [0xe2, 0x82, 0xac, 0]),
-            (0x1f600, 4, [0xf0, 0x9f, 0x98, 0x80]),
-            (0xd800, 0, [0; 4]),
-            (0xdfff, 0, [0; 4]),
-            (0x110000, 0, [0; 4]),
-        ] {
-            let mut out = [0; 4];
-            assert_eq!(rt; codepoint_to_utf8(cp, &mut out), len);
-            assert_eq!(rt; out, bytes);
-        }
-    }
-
-    #[test]
-    fn hexadecimal_digits(rt: HostRuntime) {
-        assert_eq!(rt; hex_to_u32(b"20aC"), Some(0x20ac));
-        assert_eq!(rt; hex_to_u32(b"FFff,"), Some(0xffff));
-        assert_eq!(rt; hex_to_u32(b"20a"), None);
-        assert_eq!(rt; hex_to_u32(b"12G4"), None);
-    }
-}

@@ -20,8 +20,6 @@ mod search;
 mod stage_two;
 mod stop;
 mod strings;
-#[cfg(test)]
-mod tests;
 
 pub use atoms::{is_valid_false_atom, is_valid_null_atom, is_valid_true_atom};
 pub use buffers::Buffers;

@@ -64,37 +64,3 @@ fn decode_from(first: usize, place: usize, body: &mut [u8]) -> Result<usize, Sto
     }
     Ok(written)
 }
-
-#[cfg(test)]
-mod tests {
-    use super::*;
-    use sj_base::ErrorType;
-    use std::test::Fail;
-
-    #[test]
-    fn bodies(rt: HostRuntime) -> Result<(), Fail> {
-        for (body, expected) in [
-            (r#"plain é"#, Ok("plain é")),
-            (
-                r#"\"\\\/\b\f\n\r\t\u001F."#,
-                Ok("\"\\/\u{8}\u{c}\n\r\t\u{1f}."),
-            ),
-            (r#"é\ud83d\ude00\u0041\u20AC"#, Ok("é😀A€")),
-            (r#"a\qb"#, Err((ErrorType::InvalidEscape, 101))),
-            (r#"\u12G4"#, Err((ErrorType::InvalidUnicodeEscape, 100))),
-            (
-                r#"é\ud83d\u0041"#,
-                Err((ErrorType::InvalidUnicodeCodepoint, 102)),
-            ),
-            (
-                r#"\n\ude00"#,
-                Err((ErrorType::InvalidUnicodeCodepoint, 102)),
-            ),
-        ] {
-            let mut bytes = body.as_bytes().to_vec(rt.alloc())?;
-            let text = decode(100, 0, bytes.as_mut_slice()).map_err(|stop| (stop.kind, stop.place));
-            assert!(rt; text == expected, "{body}");
-        }
-        Ok(())
-    }
-}

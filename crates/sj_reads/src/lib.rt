@@ -7,8 +7,6 @@ mod found;
 mod member;
 mod read;
 mod scalar;
-#[cfg(test)]
-mod tests;
 
 pub use found::Member;
 pub use member::ValueGetScalar;

@@ -1,10 +1,13 @@
-//! Worked lines and scripts, the display texts of errors, and readers and writers that fail.
+//! Worked lines and scripts, the display texts of errors, and readers and writers that fail. The tests of `sj_base`,
+//! `sj_scan`, `sj_reads` and `sj_parse` stand here too, since a crate with tests is proved once more with them.
 ghost use Rattle.std.specs.Prelude.{◌≡◌};
 
 mod documents;
 mod faults;
-mod lines;
 mod rows;
+mod scans;
+mod shared;
+mod tapes;
 
 use super::*;
 use sj_base::{Counted, Error, ErrorType};
@@ -368,24 +371,6 @@ fn refused_scripts(rt: HostRuntime) -> Result<(), Fail> {
     Ok(())
 }
 
-// A script nests at most 1024 levels.
-#[test]
-fn levels_of_scripts(rt: HostRuntime) -> Result<(), Fail> {
-    let alloc = rt.alloc();
-    let too_deep = ScriptFault::Json(Error::at(ErrorType::Syntax, 1024, b'['));
-    for (levels, fault) in [
-        (1024, command_fault(CommandFault::NoName)),
-        (1025, too_deep),
-    ] {
-        let mut script = Vec::new(alloc);
-        script.resize(levels, b'[')?;
-        script.resize(2 * levels, b']')?;
-        let found = Script::read(alloc, &mut script).err();
-        assert_eq!(rt; found, Some(fault), "of {levels} levels");
-    }
-    Ok(())
-}
-
 #[test]
 fn display_texts(rt: HostRuntime) -> Result<(), Fail> {
     let alloc = rt.alloc();
@@ -415,18 +400,6 @@ fn display_texts(rt: HostRuntime) -> Result<(), Fail> {
         assert_eq!(rt; format!(in alloc; "{fault}")?.as_str(), text);
     }
     Ok(())
-}
-
-#[test]
-fn accepted_script(rt: HostRuntime) {
-    let script = script_of(rt.alloc(), r#"[["get",["a",-0]],["get",[]]]"#);
-    let script = script.expect(&rt, "a script");
-    assert_eq!(rt; (script.len(), script.is_empty()), (2, false));
-    assert!(rt; script.len() > 0);
-    let Command::Get(path) = script.command(0);
-    assert_eq!(rt; path.len(), 2);
-    assert!(rt; matches!(&path[0], PathPart::Key(key) if key.as_str() == "a"));
-    assert!(rt; matches!(&path[1], PathPart::Item(0)));
 }
 
 const BOTH: &str = r#"{"replies":[],"document":1}

@@ -14,8 +14,6 @@ mod masks;
 mod plain;
 mod push;
 mod stage1;
-#[cfg(test)]
-mod tests;
 
 pub use block_scan::BlockScan;
 pub use plain::PlainScan;

@@ -3,9 +3,6 @@ ghost use Rattle.std.specs.Prelude.{◌≡◌, ◌↔◌, IsTrue};
 ghost use Rattle.sj_base.specs.Tree.{null, boolean, integer, string};
 ghost use Rattle.sj_tape.specs.Nodes.{node_entry, entries};
 
-#[cfg(test)]
-mod tests;
-
 use crate::node::Node;
 use crate::value::Value;
 use sj_reads::ValueAsScalar;

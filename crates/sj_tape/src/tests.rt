@@ -1,78 +1,97 @@
-//! Whole calls on tapes and views. `tape` is for the tests of the other modules too.
+//! What no clause says of tapes and views: which worked lists of nodes are a document, worked reads, that there is memory
+//! for what is asked, and that a tape keeps its vector. `tape` is for the tests of printing too.
 ghost use Rattle.std.specs.Prelude.{◌≢◌, [], IfOk};
 ghost use Rattle.sj_tape.specs.Views.{tape_nodes};
 
 use super::*;
 use sj_base::{StaticNode, TryTypeError, ValueType};
-use sj_reads::{ValueAsScalar, ValueGetScalar};
+use sj_reads::ValueAsScalar;
 use std::alloc::Global;
 use std::test::Fail;
 
+// The nodes that the words stand for: `[len,count` an array, `{len,count` an object, `null` and numbers themselves, and
+// other words strings. A number with a minus is an `I64`.
+fn nodes_of<'i>(alloc: Global, words: &'i str) -> Result<Vec<Node<'i>>, Fail> {
+    let mut nodes = Vec::new(alloc);
+    for word in words.split_whitespace() {
+        nodes.push(node_of(word)?)?;
+    }
+    Ok(nodes)
+}
+
+fn node_of(word: &str) -> Result<Node<'_>, Fail> {
+    if let Some(sizes) = word.strip_prefix('[') {
+        let (len, count) = sizes_of(sizes)?;
+        return Ok(Node::Array { len, count });
+    }
+    if let Some(sizes) = word.strip_prefix('{') {
+        let (len, count) = sizes_of(sizes)?;
+        return Ok(Node::Object { len, count });
+    }
+    Ok(scalar_of(word))
+}
+
+fn sizes_of(sizes: &str) -> Result<(usize, usize), Fail> {
+    let (len, count) = sizes.split_once(',').ok_or("no count")?;
+    Ok((len.parse()?, count.parse()?))
+}
+
+fn scalar_of(word: &str) -> Node<'_> {
+    if word == "null" {
+        return Node::Static(StaticNode::Null);
+    }
+    if let Ok(number) = word.parse() {
+        return Node::Static(StaticNode::U64(number));
+    }
+    match word.parse() {
+        Ok(number) => Node::Static(StaticNode::I64(number)),
+        Err(_) => Node::String(word),
+    }
+}
+
 // Creates a tape that must be accepted.
-pub(crate) fn tape<'i>(alloc: Global, nodes: &[Node<'i>]) -> Result<Tape<'i>, Fail>
+pub(crate) fn tape<'i>(alloc: Global, words: &'i str) -> Result<Tape<'i>, Fail>
     ensures { IfOk result (λ tape. tape_nodes tape ≢ []) }
 {
-    Ok(Tape::new(nodes.to_vec(alloc)?).ok_or("no tape")?)
+    Ok(Tape::new(nodes_of(alloc, words)?).ok_or("no tape")?)
 }
 
-// The nodes of `[1,[2,3],4]` if the outer count is 5.
-fn nested(count: usize) -> [Node<'static>; 6] {
-    [
-        Node::Array { len: 3, count },
-        Node::Static(StaticNode::U64(1)),
-        Node::Array { len: 2, count: 2 },
-        Node::Static(StaticNode::I64(2)),
-        Node::Static(StaticNode::U64(3)),
-        Node::Static(StaticNode::U64(4)),
-    ]
+// The compact text of a value.
+fn text_of(alloc: Global, value: Value<'_, '_>) -> Result<Vec<u8>, Fail> {
+    let mut out = Vec::new(alloc);
+    value.encode(&mut out)?;
+    Ok(out)
 }
 
-// The nodes of an object with one member.
-fn pair<'i>(key: Node<'i>, value: Node<'i>) -> [Node<'i>; 3] {
-    [Node::Object { len: 1, count: 2 }, key, value]
-}
-
-// The nodes of `{"a":[1],"b":{"c":"d"},"b":2,"s":3,"u":4}`, with both carriers.
-fn members() -> [Node<'static>; 14] {
-    [
-        Node::Object { len: 5, count: 13 },
-        Node::String("a"),
-        Node::Array { len: 1, count: 1 },
-        Node::Static(StaticNode::U64(1)),
-        Node::String("b"),
-        Node::Object { len: 1, count: 2 },
-        Node::String("c"),
-        Node::String("d"),
-        Node::String("b"),
-        Node::Static(StaticNode::U64(2)),
-        Node::String("s"),
-        Node::Static(StaticNode::I64(3)),
-        Node::String("u"),
-        Node::Static(StaticNode::U64(4)),
-    ]
-}
-
-// The error of a read that met another type.
-fn mismatch(expected: ValueType, got: ValueType) -> Option<TryTypeError> {
-    Some(TryTypeError { expected, got })
+// The compact text of the document, or nothing if the nodes are none.
+fn document_of(alloc: Global, words: &str) -> Result<Vec<u8>, Fail> {
+    match Tape::new(nodes_of(alloc, words)?) {
+        Some(tape) => text_of(alloc, tape.as_value()),
+        None => Ok(Vec::new(alloc)),
+    }
 }
 
 #[test]
 fn preorders_of_one_document(rt: HostRuntime) -> Result<(), Fail> {
-    let null = Node::Static(StaticNode::Null);
-    let one = Node::Static(StaticNode::U64(1));
-    let rows: [(&[Node<'_>], bool); 6] = [
-        (&nested(5), true),
-        (&nested(4), false),
-        (&pair(Node::String("a"), null), true),
-        (&pair(one, null), false),
-        (&[null, null], false),
-        (&[], false),
-    ];
-    for (nodes, is_accepted) in rows {
-        let made = Tape::new(nodes.to_vec(rt.alloc())?);
-        assert_eq!(rt; made.is_some(), is_accepted);
+    for (words, text) in [
+        ("[3,5 1 [2,2 2 3 4", "[1,[2,3],4]"),
+        ("[3,4 1 [2,2 2 3 4", ""),
+        ("{1,2 a null", r#"{"a":null}"#),
+        ("{1,2 1 null", ""),
+        ("null null", ""),
+        ("-7", "-7"),
+        ("", ""),
+    ] {
+        let found = document_of(rt.alloc(), words)?;
+        assert_eq!(rt; found.as_slice(), text.as_bytes(), "{words}");
     }
+    Ok(())
+}
+
+#[test]
+fn document_null(rt: HostRuntime) -> Result<(), Fail> {
+    let tape = Tape::null(rt.alloc())?;
+    assert!(rt; tape.as_value().is_null());
     Ok(())
 }
 
@@ -89,127 +108,28 @@ fn nodes_keep_their_vector(rt: HostRuntime) -> Result<(), Fail> {
 
 #[test]
 fn items_by_index(rt: HostRuntime) -> Result<(), Fail> {
-    let tape = tape(rt.alloc(), &nested(5))?;
+    let tape = tape(rt.alloc(), "[3,5 1 [2,2 2 3 4")?;
     let array = tape.as_value().as_array().ok_or("no array")?;
-    let inner = array.get(1).ok_or("no item")?;
-    let rows = [
-        (array.get(0), Some(1)),
-        (inner.get_idx(0), Some(2)),
-        (inner.get_idx(1), Some(3)),
-        (array.get(2), Some(4)),
-    ];
-    for (item, number) in rows {
-        assert_eq!(rt; item.ok_or("no item")?.as_i64(), number);
+    for (index, text) in ["1", "[2,3]", "4"].iter().enumerate() {
+        let item = array.get(index).ok_or("no item")?;
+        assert_eq!(rt; text_of(rt.alloc(), item)?.as_slice(), text.as_bytes());
     }
-    assert!(rt; inner.get_idx(2).is_none());
     assert!(rt; array.get(3).is_none());
     Ok(())
 }
 
 #[test]
 fn try_get_on_tape(rt: HostRuntime) -> Result<(), Fail> {
-    let answer = Node::Static(StaticNode::U64(42));
-    let tape = tape(rt.alloc(), &pair(Node::String("the_answer"), answer))?;
+    let tape = tape(rt.alloc(), "{1,2 the_answer 42")?;
     let value = tape.as_value();
     let found = value.try_get("the_answer").ok().ok_or("no object")?;
     assert_eq!(rt; found.ok_or("no member")?.as_i64(), Some(42));
     let absent = value.try_get("does_not_exist").ok().ok_or("no object")?;
     assert!(rt; absent.is_none());
-    let no_array = mismatch(ValueType::Array, ValueType::Object);
-    assert_eq!(rt; value.try_get_idx(0).err(), no_array);
-    Ok(())
-}
-
-#[test]
-fn reads_by_key(rt: HostRuntime) -> Result<(), Fail> {
-    let tape = tape(rt.alloc(), &members())?;
-    let value = tape.as_value();
-    assert_eq!(rt; value.get_array("a").ok_or("no array")?.len(), 1);
-    let object = value.get_object("b").ok_or("no object")?;
-    let text = object.get("c").ok_or("no member")?;
-    assert_eq!(rt; text.into_string(), Some("d"));
-    assert_eq!(rt; value.get_u8("s"), Some(3));
-    assert_eq!(rt; value.try_get_i64("u"), Ok(Some(4)));
-    assert_eq!(rt; value.try_get_i64("x"), Ok(None));
-    let rows = [
-        (
-            value.try_get_array("s").err(),
-            ValueType::Array,
-            ValueType::I64,
-        ),
-        (
-            value.try_get_object("u").err(),
-            ValueType::Object,
-            ValueType::U64,
-        ),
-        (
-            value.try_get_bool("s").err(),
-            ValueType::Bool,
-            ValueType::I64,
-        ),
-        (
-            value.try_get_str("u").err(),
-            ValueType::String,
-            ValueType::U64,
-        ),
-        (
-            value.try_get_i64("b").err(),
-            ValueType::I64,
-            ValueType::Object,
-        ),
-    ];
-    for (error, expected, got) in rows {
-        assert_eq!(rt; error, mismatch(expected, got));
-    }
-    Ok(())
-}
-
-#[test]
-fn loops_over_items(rt: HostRuntime) -> Result<(), Fail> {
-    let tape = tape(rt.alloc(), &nested(5))?;
-    let outer = tape.as_value().as_array().ok_or("no array")?;
-    let mut seen = Vec::new(rt.alloc());
-    for item in &outer {
-        match item.as_array() {
-            None => seen.push(item.as_i64())?,
-            Some(inner) => {
-                for inner_item in inner.iter() {
-                    seen.push(inner_item.as_i64())?;
-                }
-            }
-        }
-    }
-    let expected = [Some(1), Some(2), Some(3), Some(4)];
-    assert_eq!(rt; seen.as_slice(), expected.as_slice());
-    Ok(())
-}
-
-#[test]
-fn loops_over_members(rt: HostRuntime) -> Result<(), Fail> {
-    let tape = tape(rt.alloc(), &members())?;
-    let object = tape.as_value().as_object().ok_or("no object")?;
-    let mut seen = Vec::new(rt.alloc());
-    for (key, value) in &object {
-        seen.push((key, value.value_type()))?;
-    }
-    let expected = [
-        ("a", ValueType::Array),
-        ("b", ValueType::Object),
-        ("b", ValueType::U64),
-        ("s", ValueType::I64),
-        ("u", ValueType::U64),
-    ];
-    assert_eq!(rt; seen.as_slice(), expected.as_slice());
-    let mut keys = Vec::new(rt.alloc());
-    for key in object.keys() {
-        keys.push(key)?;
-    }
-    assert_eq!(rt; keys.as_slice(), ["a", "b", "b", "s", "u"].as_slice());
-    let mut numbers = Vec::new(rt.alloc());
-    for value in object.values() {
-        numbers.push(value.as_i64())?;
-    }
-    let expected = [None, None, Some(2), Some(3), Some(4)];
-    assert_eq!(rt; numbers.as_slice(), expected.as_slice());
+    let no_array = TryTypeError {
+        expected: ValueType::Array,
+        got: ValueType::Object,
+    };
+    assert_eq!(rt; value.try_get_idx(0).err(), Some(no_array));
     Ok(())
 }

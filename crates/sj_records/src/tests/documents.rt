@@ -1,5 +1,5 @@
-//! Documents of lines: numbers and texts as they are kept and printed, and members that are found by their texts.
-use super::{LIMIT, Stream, expect, split_row};
+//! Documents of lines: numbers and texts as they are kept and printed.
+use super::{LIMIT, Stream, split_row};
 use std::alloc::Global;
 use std::process::Abort;
 use std::test::Fail;
@@ -63,59 +63,6 @@ fn in_compact_form(rt: HostRuntime) -> Result<(), Fail> {
     }
     for (line, text) in UNSEEN_DOCUMENTS {
         check_document(&rt, rt.alloc(), line, text)?;
-    }
-    Ok(())
-}
-
-// Members are found by their decoded keys, in lines and in scripts. Of repeated keys the first is kept.
-#[test]
-fn by_path(rt: HostRuntime) -> Result<(), Fail> {
-    for (script, line, record) in [
-        (
-            r#"[["get",["a"]],["\u0067et",["\u0061"]]]"#,
-            r#"{"\u0061":1.50}"#,
-            r#"{"replies":[[1.50],[1.50]],"document":{"a":1.50}}"#,
-        ),
-        (
-            r#"[["get",["a"]]]"#,
-            r#"{"a":1,"\u0061":2}"#,
-            r#"{"replies":[[1]],"document":{"a":1}}"#,
-        ),
-        (
-            r#"[["get",["a"]]]"#,
-            r#"{"\u0061":1,"a":2,"b":3}"#,
-            r#"{"replies":[[1]],"document":{"a":1,"b":3}}"#,
-        ),
-        (
-            r#"[["get",["\"\\\/\n"]],["get",["\"\\/n"]]]"#,
-            r#"{"\u0022\u005C\u002f\u000a":"\u000a"}"#,
-            r#"{"replies":[["\n"],[]],"document":{"\"\\/\n":"\n"}}"#,
-        ),
-        (
-            r#"[["get",["😀",0]],["get",["\ud83d\ude00",1]],["get",[0,"😀"]]]"#,
-            r#"{"\uD83D\uDE00":[-0e0,1E+5]}"#,
-            r#"{"replies":[[-0e0],[1E+5],[]],"document":{"😀":[-0e0,1E+5]}}"#,
-        ),
-        (
-            r#"[["get",[""]],["get",["\u0000"]],["get",[]]]"#,
-            r#"{"\u0000":0,"":1}"#,
-            r#"{"replies":[[1],[0],[{"\u0000":0,"":1}]],"document":{"\u0000":0,"":1}}"#,
-        ),
-        (
-            r#"[["get",["a","a"]],["get",["a"]]]"#,
-            r#"{"a":{"\u0061":1,"a":2},"\u0061":{"a":3}}"#,
-            r#"{"replies":[[1],[{"a":1}]],"document":{"a":{"a":1}}}"#,
-        ),
-        (
-            r#"[["get",[1,2]],["get",[1,3]]]"#,
-            r#"[0,[0.5,"\t",1.5e2]]"#,
-            r#"{"replies":[[1.5e2],[]],"document":[0,[0.5,"\t",1.5e2]]}"#,
-        ),
-    ] {
-        let record = format!(in rt.alloc(); "{record}\n")?;
-        for step in [1, 65536] {
-            expect(&rt, rt.alloc(), script, line, LIMIT, step, &record);
-        }
     }
     Ok(())
 }

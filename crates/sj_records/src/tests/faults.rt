@@ -63,9 +63,7 @@ fn compare(rt: &impl Abort, alloc: Global, depth: usize, table: &str) -> Result<
 }
 
 // Tests on all bytes of a line, in the order UTF-8, closed strings, control characters in them, a token at all.
-#[test]
-fn of_whole_lines(rt: HostRuntime) -> Result<(), Fail> {
-    let table = r#"
+const OF_WHOLE_LINES: &str = r#"
 "a => Syntax
 " => Syntax
 [1] "a => Syntax
@@ -77,7 +75,244 @@ fn of_whole_lines(rt: HostRuntime) -> Result<(), Fail> {
 time "a => Syntax
  => Eof
   => Eof"#;
-    compare(&rt, rt.alloc(), LIMIT, table)
+
+// A byte that begins no value, as the root, behind a colon and behind a comma in an array.
+const WHERE_NO_VALUE_BEGINS: &str = r#"
+: => InternalError 0 :
+] => InternalError 0 ]
+}, => InternalError 0 }
+\" => InternalError 0 \\
+True => InternalError 0 T
++1 => InternalError 0 +
+.5 => InternalError 0 .
+/ => InternalError 0 /
+é => InternalError 0 Ã
+😀 => InternalError 0 ð
+{"a":] => InternalError 5 ]
+{"a":} => InternalError 5 }
+{"a":,"b":1} => InternalError 5 ,
+{"a": :1} => InternalError 6 :
+{"a":x} => InternalError 5 x
+{"\u0061":'a'} => InternalError 10 '
+[1,] => InternalError 3 ]
+[1,,2] => InternalError 3 ,
+[1,} => InternalError 3 }
+[1,: => InternalError 3 :
+[1, ÿ] => InternalError 4 Ã"#;
+
+// Behind the bracket that begins an array, and behind an item.
+const IN_ARRAYS: &str = r#"
+[,1] => ExpectedArrayContent 1 ,
+[} => ExpectedArrayContent 1 }
+[:] => ExpectedArrayContent 1 :
+[True] => ExpectedArrayContent 1 T
+[\] => ExpectedArrayContent 1 \\
+[[1],[ é]] => ExpectedArrayContent 7 Ã
+["a"b] => ExpectedArrayComma 4 b
+["a""b"] => ExpectedArrayComma 4 \"
+["\u0061":1] => ExpectedArrayComma 9 :
+[1 "\q"] => ExpectedArrayComma 3 \"
+[1 2] => ExpectedArrayComma 3 2
+[1} => ExpectedArrayComma 2 }
+[true false] => ExpectedArrayComma 6 f
+[[]1] => ExpectedArrayComma 3 1
+[{}{}] => ExpectedArrayComma 3 {
+[[1]x => ExpectedArrayComma 4 x
+[1.5 \] => ExpectedArrayComma 5 \\"#;
+
+// Behind the brace that begins an object, a comma in an object, a key and a member.
+const IN_OBJECTS: &str = r#"
+{1:2} => ExpectedObjectContent 1 1
+{] => ExpectedObjectContent 1 ]
+{, => ExpectedObjectContent 1 ,
+{ {}:1} => ExpectedObjectContent 2 {
+{\"a"b":1} => ExpectedObjectContent 1 \\
+{"a":1,} => ExpectedObjectKey 7 }
+{"a":1,,} => ExpectedObjectKey 7 ,
+{"a":1,2:3} => ExpectedObjectKey 7 2
+{"a":1,["b"]} => ExpectedObjectKey 7 [
+{"a":[{"b":"\n",null:1}]} => ExpectedObjectKey 16 n
+{"a" 1} => ExpectedObjectColon 5 1
+{"a"} => ExpectedObjectColon 4 }
+{"a","b"} => ExpectedObjectColon 4 ,
+{"a""b"} => ExpectedObjectColon 4 \"
+{"a"[1]} => ExpectedObjectColon 4 [
+{"a":1,"\u0062"=2} => ExpectedObjectColon 15 =
+{"a":1 2} => ExpectedMapComma 7 2
+{"a":1] => ExpectedMapComma 6 ]
+{"a":1:2} => ExpectedMapComma 6 :
+{"a":{}{}} => ExpectedMapComma 7 {
+{"a":[]"b":1} => ExpectedMapComma 7 \"
+{"a":"\"" "b"} => ExpectedMapComma 10 \""#;
+
+// The fault stands at the last token.
+const OF_LINES_CUT_SHORT: &str = r#"
+[ => Syntax 0 [
+{ => Syntax 0 {
+[1 => Syntax 1 1
+[-1.5e3 => Syntax 1 -
+[1, => Syntax 2 ,
+[true => Syntax 1 t
+[[] => Syntax 2 ]
+[{} => Syntax 2 }
+[[[ => Syntax 2 [
+["a" => Syntax 1 \"
+["\ud83d\ude00" => Syntax 1 \"
+["\u0041", => Syntax 9 ,
+{"a" => Syntax 1 \"
+{"a": => Syntax 4 :
+{"a":1 => Syntax 5 1
+{"a":1, => Syntax 6 ,
+{"a":[1 => Syntax 6 1
+{"a":[1] => Syntax 7 ]
+{"a":{"b":1} => Syntax 11 }"#;
+
+// The fault stands at the backslash of the first wrong escape.
+const OF_ESCAPES: &str = r#"
+"\q" => InvalidEscape 1 \\
+["a\qb"] => InvalidEscape 3 \\
+{"\q":1} => InvalidEscape 2 \\
+["\U0041"] => InvalidEscape 2 \\
+["\'"] => InvalidEscape 2 \\
+["\0"] => InvalidEscape 2 \\
+["\ "] => InvalidEscape 2 \\
+["\é"] => InvalidEscape 2 \\
+["\u0041\n\q" 1 => InvalidEscape 10 \\
+["\n\q\u12"] => InvalidEscape 4 \\
+["😀\q"] => InvalidEscape 6 \\
+["\u"] => InvalidUnicodeEscape 2 \\
+["\u12"] => InvalidUnicodeEscape 2 \\
+["\u123"] => InvalidUnicodeEscape 2 \\
+["\u12G4"] => InvalidUnicodeEscape 2 \\
+["\u+123"] => InvalidUnicodeEscape 2 \\
+["\u 123"] => InvalidUnicodeEscape 2 \\
+["\u12é"] => InvalidUnicodeEscape 2 \\
+["\u12\q"] => InvalidUnicodeEscape 2 \\
+{"a":"\u0041\u004"} => InvalidUnicodeEscape 12 \\
+["\ud83"] => InvalidUnicodeEscape 2 \\
+["\ud83g\ude00"] => InvalidUnicodeEscape 2 \\"#;
+
+// Halves of surrogate pairs. The fault stands at the high one's backslash, where there is one.
+const OF_SURROGATES: &str = r#"
+["\ud800"] => InvalidUnicodeCodepoint 2 \\
+["\uDBFF"] => InvalidUnicodeCodepoint 2 \\
+["\udc00"] => InvalidUnicodeCodepoint 2 \\
+["\uDFFF"] => InvalidUnicodeCodepoint 2 \\
+{"\ude00":1} => InvalidUnicodeCodepoint 2 \\
+["\ud83d\u0041"] => InvalidUnicodeCodepoint 2 \\
+["\ud83d\ue000"] => InvalidUnicodeCodepoint 2 \\
+["\ud83d\uzzzz"] => InvalidUnicodeCodepoint 2 \\
+["\ud83d\ude0"] => InvalidUnicodeCodepoint 2 \\
+["\ud83d\n"] => InvalidUnicodeCodepoint 2 \\
+["\ud83d\\ude00"] => InvalidUnicodeCodepoint 2 \\
+["\ud83dx\ude00"] => InvalidUnicodeCodepoint 2 \\
+["\ude00\ud83d"] => InvalidUnicodeCodepoint 2 \\
+["\ud83d\ud83d\ude00"] => InvalidUnicodeCodepoint 2 \\
+["\ud83d\ude00\ude00"] => InvalidUnicodeCodepoint 14 \\
+["A\u0041\ud83d"] => InvalidUnicodeCodepoint 9 \\"#;
+
+// A token is left behind the root: the fault stands at a scalar, or at a container's closing bracket.
+const BEHIND_THE_ROOT: &str = r#"
+1 2 => TrailingData 0 1
+-1.5] => TrailingData 0 -
+true, => TrailingData 0 t
+null null => TrailingData 0 n
+false:x => TrailingData 0 f
+"a"b => TrailingData 0 \"
+"a""b" => TrailingData 0 \"
+ "\n" 1 => TrailingData 1 \"
+"\u0041" "\q" => TrailingData 0 \"
+[] 1 => InternalError 1 ]
+[], => InternalError 1 ]
+{}{} => InternalError 1 }
+[1]] => InternalError 2 ]
+[[]] x => InternalError 3 ]
+{"a":1}} => InternalError 6 }
+[]"a" => InternalError 1 ]
+["\u0041"] 1 => InternalError 9 ]
+[]é => InternalError 1 ]"#;
+
+// A line with two faults. The one of the earlier token is the answer, and a scalar, a string or a key is judged when its
+// token is read.
+const OF_TWO_THE_FIRST: &str = r#"
+[01 02] => InvalidNumber 1 0
+1x 2 => InvalidNumber 0 1
+"\q" 1 => InvalidEscape 1 \\
+{"\q" 1} => InvalidEscape 2 \\
+{"a":"\ud83d" => InvalidUnicodeCodepoint 6 \\
+[tru => ExpectedTrue 1 t
+[1,2 3, => ExpectedArrayComma 5 3
+{"a":[nul} => ExpectedNull 6 n
+[] [ => InternalError 1 ]"#;
+
+const OF_LITERALS: &str = r#"
+t => ExpectedTrue 0 t
+tru => ExpectedTrue 0 t
+time => ExpectedTrue 0 t
+tRUE => ExpectedTrue 0 t
+true1 => ExpectedTrue 0 t
+trueé => ExpectedTrue 0 t
+[true\] => ExpectedTrue 1 t
+[true"a"] => ExpectedTrue 1 t
+{"1":time} => ExpectedTrue 5 t
+[true, falsy] => ExpectedFalse 7 f
+f => ExpectedFalse 0 f
+[false,fals] => ExpectedFalse 7 f
+{"\n":falsee} => ExpectedFalse 6 f
+[false"a"] => ExpectedFalse 1 f
+n => ExpectedNull 0 n
+nul => ExpectedNull 0 n
+[null, new] => ExpectedNull 7 n
+[nullnull] => ExpectedNull 1 n
+{"a":null"b":1} => ExpectedNull 5 n"#;
+
+const OF_NUMBERS: &str = r#"
+- => InvalidNumber 0 -
+[-] => InvalidNumber 1 -
+--1 => InvalidNumber 0 -
+-a => InvalidNumber 0 -
+-"1" => InvalidNumber 0 -
+01 => InvalidNumber 0 0
+[01] => InvalidNumber 1 0
+[-00] => InvalidNumber 1 -
+[01.5] => InvalidNumber 1 0
+[1.] => InvalidNumber 1 1
+[1.e5] => InvalidNumber 1 1
+[1.5.2] => InvalidNumber 1 1
+[2e] => InvalidNumber 1 2
+[2e+] => InvalidNumber 1 2
+[2E-,1] => InvalidNumber 1 2
+[2e5.0] => InvalidNumber 1 2
+0x10 => InvalidNumber 0 0
+1_000 => InvalidNumber 0 1
+[1"a"] => InvalidNumber 1 1
+[1"]"] => InvalidNumber 1 1
+[1\"] => InvalidNumber 1 1
+{"a":[0,1x]} => InvalidNumber 8 1
+18446744073709551616 => InvalidNumber 0 1
+[18446744073709551616x] => InvalidNumber 1 1
+[-9223372036854775809] => InvalidNumber 1 -
+-18446744073709551615 => InvalidNumber 0 -
+1000000000000000000000000000000 => InvalidNumber 0 1"#;
+
+#[test]
+fn of_each_kind(rt: HostRuntime) -> Result<(), Fail> {
+    for table in [
+        OF_WHOLE_LINES,
+        WHERE_NO_VALUE_BEGINS,
+        IN_ARRAYS,
+        IN_OBJECTS,
+        OF_LINES_CUT_SHORT,
+        OF_LITERALS,
+        OF_NUMBERS,
+        OF_ESCAPES,
+        OF_SURROGATES,
+        BEHIND_THE_ROOT,
+        OF_TWO_THE_FIRST,
+    ] {
+        compare(&rt, rt.alloc(), LIMIT, table)?;
+    }
+    Ok(())
 }
 
 // The same tests, on bytes that can't be seen in a table.
@@ -134,274 +369,14 @@ fn of_unseen_characters(rt: HostRuntime) -> Result<(), Fail> {
     Ok(())
 }
 
-// A byte that begins no value, as the root, behind a colon and behind a comma in an array.
-#[test]
-fn where_no_value_begins(rt: HostRuntime) -> Result<(), Fail> {
-    let table = r#"
-: => InternalError 0 :
-] => InternalError 0 ]
-}, => InternalError 0 }
-\" => InternalError 0 \\
-True => InternalError 0 T
-+1 => InternalError 0 +
-.5 => InternalError 0 .
-/ => InternalError 0 /
-é => InternalError 0 Ã
-😀 => InternalError 0 ð
-{"a":] => InternalError 5 ]
-{"a":} => InternalError 5 }
-{"a":,"b":1} => InternalError 5 ,
-{"a": :1} => InternalError 6 :
-{"a":x} => InternalError 5 x
-{"\u0061":'a'} => InternalError 10 '
-[1,] => InternalError 3 ]
-[1,,2] => InternalError 3 ,
-[1,} => InternalError 3 }
-[1,: => InternalError 3 :
-[1, ÿ] => InternalError 4 Ã"#;
-    compare(&rt, rt.alloc(), LIMIT, table)
-}
-
-// Behind the bracket that begins an array, and behind an item.
-#[test]
-fn in_arrays(rt: HostRuntime) -> Result<(), Fail> {
-    let table = r#"
-[,1] => ExpectedArrayContent 1 ,
-[} => ExpectedArrayContent 1 }
-[:] => ExpectedArrayContent 1 :
-[True] => ExpectedArrayContent 1 T
-[\] => ExpectedArrayContent 1 \\
-[[1],[ é]] => ExpectedArrayContent 7 Ã
-["a"b] => ExpectedArrayComma 4 b
-["a""b"] => ExpectedArrayComma 4 \"
-["\u0061":1] => ExpectedArrayComma 9 :
-[1 "\q"] => ExpectedArrayComma 3 \"
-[1 2] => ExpectedArrayComma 3 2
-[1} => ExpectedArrayComma 2 }
-[true false] => ExpectedArrayComma 6 f
-[[]1] => ExpectedArrayComma 3 1
-[{}{}] => ExpectedArrayComma 3 {
-[[1]x => ExpectedArrayComma 4 x
-[1.5 \] => ExpectedArrayComma 5 \\"#;
-    compare(&rt, rt.alloc(), LIMIT, table)
-}
-
-// Behind the brace that begins an object, a comma in an object, a key and a member.
-#[test]
-fn in_objects(rt: HostRuntime) -> Result<(), Fail> {
-    let table = r#"
-{1:2} => ExpectedObjectContent 1 1
-{] => ExpectedObjectContent 1 ]
-{, => ExpectedObjectContent 1 ,
-{ {}:1} => ExpectedObjectContent 2 {
-{\"a"b":1} => ExpectedObjectContent 1 \\
-{"a":1,} => ExpectedObjectKey 7 }
-{"a":1,,} => ExpectedObjectKey 7 ,
-{"a":1,2:3} => ExpectedObjectKey 7 2
-{"a":1,["b"]} => ExpectedObjectKey 7 [
-{"a":[{"b":"\n",null:1}]} => ExpectedObjectKey 16 n
-{"a" 1} => ExpectedObjectColon 5 1
-{"a"} => ExpectedObjectColon 4 }
-{"a","b"} => ExpectedObjectColon 4 ,
-{"a""b"} => ExpectedObjectColon 4 \"
-{"a"[1]} => ExpectedObjectColon 4 [
-{"a":1,"\u0062"=2} => ExpectedObjectColon 15 =
-{"a":1 2} => ExpectedMapComma 7 2
-{"a":1] => ExpectedMapComma 6 ]
-{"a":1:2} => ExpectedMapComma 6 :
-{"a":{}{}} => ExpectedMapComma 7 {
-{"a":[]"b":1} => ExpectedMapComma 7 \"
-{"a":"\"" "b"} => ExpectedMapComma 10 \""#;
-    compare(&rt, rt.alloc(), LIMIT, table)
-}
-
-// The fault stands at the last token.
-#[test]
-fn of_lines_cut_short(rt: HostRuntime) -> Result<(), Fail> {
-    let table = r#"
-[ => Syntax 0 [
-{ => Syntax 0 {
-[1 => Syntax 1 1
-[-1.5e3 => Syntax 1 -
-[1, => Syntax 2 ,
-[true => Syntax 1 t
-[[] => Syntax 2 ]
-[{} => Syntax 2 }
-[[[ => Syntax 2 [
-["a" => Syntax 1 \"
-["\ud83d\ude00" => Syntax 1 \"
-["\u0041", => Syntax 9 ,
-{"a" => Syntax 1 \"
-{"a": => Syntax 4 :
-{"a":1 => Syntax 5 1
-{"a":1, => Syntax 6 ,
-{"a":[1 => Syntax 6 1
-{"a":[1] => Syntax 7 ]
-{"a":{"b":1} => Syntax 11 }"#;
-    compare(&rt, rt.alloc(), LIMIT, table)
-}
-
-#[test]
-fn of_literals(rt: HostRuntime) -> Result<(), Fail> {
-    let table = r#"
-t => ExpectedTrue 0 t
-tru => ExpectedTrue 0 t
-time => ExpectedTrue 0 t
-tRUE => ExpectedTrue 0 t
-true1 => ExpectedTrue 0 t
-trueé => ExpectedTrue 0 t
-[true\] => ExpectedTrue 1 t
-[true"a"] => ExpectedTrue 1 t
-{"1":time} => ExpectedTrue 5 t
-[true, falsy] => ExpectedFalse 7 f
-f => ExpectedFalse 0 f
-[false,fals] => ExpectedFalse 7 f
-{"\n":falsee} => ExpectedFalse 6 f
-[false"a"] => ExpectedFalse 1 f
-n => ExpectedNull 0 n
-nul => ExpectedNull 0 n
-[null, new] => ExpectedNull 7 n
-[nullnull] => ExpectedNull 1 n
-{"a":null"b":1} => ExpectedNull 5 n"#;
-    compare(&rt, rt.alloc(), LIMIT, table)
-}
-
-#[test]
-fn of_numbers(rt: HostRuntime) -> Result<(), Fail> {
-    let table = r#"
-- => InvalidNumber 0 -
-[-] => InvalidNumber 1 -
---1 => InvalidNumber 0 -
--a => InvalidNumber 0 -
--"1" => InvalidNumber 0 -
-01 => InvalidNumber 0 0
-[01] => InvalidNumber 1 0
-[-00] => InvalidNumber 1 -
-[01.5] => InvalidNumber 1 0
-[1.] => InvalidNumber 1 1
-[1.e5] => InvalidNumber 1 1
-[1.5.2] => InvalidNumber 1 1
-[2e] => InvalidNumber 1 2
-[2e+] => InvalidNumber 1 2
-[2E-,1] => InvalidNumber 1 2
-[2e5.0] => InvalidNumber 1 2
-0x10 => InvalidNumber 0 0
-1_000 => InvalidNumber 0 1
-[1"a"] => InvalidNumber 1 1
-[1"]"] => InvalidNumber 1 1
-[1\"] => InvalidNumber 1 1
-{"a":[0,1x]} => InvalidNumber 8 1
-18446744073709551616 => InvalidNumber 0 1
-[18446744073709551616x] => InvalidNumber 1 1
-[-9223372036854775809] => InvalidNumber 1 -
--18446744073709551615 => InvalidNumber 0 -
-1000000000000000000000000000000 => InvalidNumber 0 1"#;
-    compare(&rt, rt.alloc(), LIMIT, table)
-}
-
-// The fault stands at the backslash of the first wrong escape.
-#[test]
-fn of_escapes(rt: HostRuntime) -> Result<(), Fail> {
-    let table = r#"
-"\q" => InvalidEscape 1 \\
-["a\qb"] => InvalidEscape 3 \\
-{"\q":1} => InvalidEscape 2 \\
-["\U0041"] => InvalidEscape 2 \\
-["\'"] => InvalidEscape 2 \\
-["\0"] => InvalidEscape 2 \\
-["\ "] => InvalidEscape 2 \\
-["\é"] => InvalidEscape 2 \\
-["\u0041\n\q" 1 => InvalidEscape 10 \\
-["\n\q\u12"] => InvalidEscape 4 \\
-["😀\q"] => InvalidEscape 6 \\
-["\u"] => InvalidUnicodeEscape 2 \\
-["\u12"] => InvalidUnicodeEscape 2 \\
-["\u123"] => InvalidUnicodeEscape 2 \\
-["\u12G4"] => InvalidUnicodeEscape 2 \\
-["\u+123"] => InvalidUnicodeEscape 2 \\
-["\u 123"] => InvalidUnicodeEscape 2 \\
-["\u12é"] => InvalidUnicodeEscape 2 \\
-["\u12\q"] => InvalidUnicodeEscape 2 \\
-{"a":"\u0041\u004"} => InvalidUnicodeEscape 12 \\
-["\ud83"] => InvalidUnicodeEscape 2 \\
-["\ud83g\ude00"] => InvalidUnicodeEscape 2 \\"#;
-    compare(&rt, rt.alloc(), LIMIT, table)
-}
-
-// Halves of surrogate pairs. The fault stands at the high one's backslash, where there is one.
-#[test]
-fn of_surrogates(rt: HostRuntime) -> Result<(), Fail> {
-    let table = r#"
-["\ud800"] => InvalidUnicodeCodepoint 2 \\
-["\uDBFF"] => InvalidUnicodeCodepoint 2 \\
-["\udc00"] => InvalidUnicodeCodepoint 2 \\
-["\uDFFF"] => InvalidUnicodeCodepoint 2 \\
-{"\ude00":1} => InvalidUnicodeCodepoint 2 \\
-["\ud83d\u0041"] => InvalidUnicodeCodepoint 2 \\
-["\ud83d\ue000"] => InvalidUnicodeCodepoint 2 \\
-["\ud83d\uzzzz"] => InvalidUnicodeCodepoint 2 \\
-["\ud83d\ude0"] => InvalidUnicodeCodepoint 2 \\
-["\ud83d\n"] => InvalidUnicodeCodepoint 2 \\
-["\ud83d\\ude00"] => InvalidUnicodeCodepoint 2 \\
-["\ud83dx\ude00"] => InvalidUnicodeCodepoint 2 \\
-["\ude00\ud83d"] => InvalidUnicodeCodepoint 2 \\
-["\ud83d\ud83d\ude00"] => InvalidUnicodeCodepoint 2 \\
-["\ud83d\ude00\ude00"] => InvalidUnicodeCodepoint 14 \\
-["A\u0041\ud83d"] => InvalidUnicodeCodepoint 9 \\"#;
-    compare(&rt, rt.alloc(), LIMIT, table)
-}
-
-// A token is left behind the root: the fault stands at a scalar, or at a container's closing bracket.
-#[test]
-fn behind_the_root(rt: HostRuntime) -> Result<(), Fail> {
-    let table = r#"
-1 2 => TrailingData 0 1
--1.5] => TrailingData 0 -
-true, => TrailingData 0 t
-null null => TrailingData 0 n
-false:x => TrailingData 0 f
-"a"b => TrailingData 0 \"
-"a""b" => TrailingData 0 \"
- "\n" 1 => TrailingData 1 \"
-"\u0041" "\q" => TrailingData 0 \"
-[] 1 => InternalError 1 ]
-[], => InternalError 1 ]
-{}{} => InternalError 1 }
-[1]] => InternalError 2 ]
-[[]] x => InternalError 3 ]
-{"a":1}} => InternalError 6 }
-[]"a" => InternalError 1 ]
-["\u0041"] 1 => InternalError 9 ]
-[]é => InternalError 1 ]"#;
-    compare(&rt, rt.alloc(), LIMIT, table)
-}
-
-// A line with two faults. The one of the earlier token is the answer, and a scalar, a string or a key is judged when its
-// token is read.
-#[test]
-fn of_two_the_first(rt: HostRuntime) -> Result<(), Fail> {
-    let table = r#"
-[01 02] => InvalidNumber 1 0
-1x 2 => InvalidNumber 0 1
-"\q" 1 => InvalidEscape 1 \\
-{"\q" 1} => InvalidEscape 2 \\
-{"a":"\ud83d" => InvalidUnicodeCodepoint 6 \\
-[tru => ExpectedTrue 1 t
-[1,2 3, => ExpectedArrayComma 5 3
-{"a":[nul} => ExpectedNull 6 n
-[] [ => InternalError 1 ]"#;
-    compare(&rt, rt.alloc(), LIMIT, table)
-}
-
 // The fault stands at the bracket that would nest too deep. A bracket that begins no value has another fault.
-#[test]
-fn of_depth(rt: HostRuntime) -> Result<(), Fail> {
-    let no_levels = r#"
+const NO_LEVELS: &str = r#"
 [] => Syntax 0 [
 {} => Syntax 0 {
 [x => Syntax 0 [
 1[ => TrailingData 0 1"#;
-    let one_level = r#"
+
+const ONE_LEVEL: &str = r#"
 [[]] => Syntax 1 [
 [[ => Syntax 1 [
 [0, {}] => Syntax 4 {
@@ -414,25 +389,16 @@ fn of_depth(rt: HostRuntime) -> Result<(), Fail> {
 {"a":1,{ => ExpectedObjectKey 7 {
 {"a":1[ => ExpectedMapComma 6 [
 [][ => InternalError 1 ]"#;
-    let two_levels = r#"
+
+const TWO_LEVELS: &str = r#"
 [[],[[]]] => Syntax 5 [
 [0,{"a":[]}] => Syntax 8 [
 {"a":[1],"\u0062":[2,{}]} => Syntax 21 {"#;
-    compare(&rt, rt.alloc(), 0, no_levels)?;
-    compare(&rt, rt.alloc(), 1, one_level)?;
-    compare(&rt, rt.alloc(), 2, two_levels)
-}
 
-// One level more than the limit.
 #[test]
-fn of_depth_by_levels(rt: HostRuntime) -> Result<(), Fail> {
-    for index in [1, 2, 7, 1024] {
-        let limit = usize::from(index);
-        let mut line = Vec::new(rt.alloc());
-        line.resize(limit + 1, b'[')?;
-        line.resize(2 * limit + 2, b']')?;
-        let place = Some((index, "["));
-        compare_line(&rt, rt.alloc(), limit, &line, "Syntax", place)?;
+fn of_depth(rt: HostRuntime) -> Result<(), Fail> {
+    for (depth, table) in [(0, NO_LEVELS), (1, ONE_LEVEL), (2, TWO_LEVELS)] {
+        compare(&rt, rt.alloc(), depth, table)?;
     }
     Ok(())
 }

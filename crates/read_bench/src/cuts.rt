@@ -1,0 +1,97 @@
+//! The two scans beside each other, on the beginnings of documents.
+//!
+//! The contract of scans says that they answer alike. A run shows it of the program as it was built, on real files.
+ghost use Rattle.std.specs.Prelude.{◌≡◌, ℕ, List, false, IfOk};
+ghost use Rattle.sj_scan.specs.Scan.{Scans, scan_fault};
+ghost use Rattle.read_bench.specs.inside.Cuts.{positions_left};
+
+use crate::passes::{Pass, Timed};
+use sj_scan::{BlockScan, PlainScan, ScanFault, Stage1};
+use std::alloc::{AllocError, Global};
+use std::io;
+use std::time::{Clock, Instant};
+
+/// Up to here a document is cut at each byte.
+const EACH: usize = 300;
+
+/// About how many cuts there are behind these.
+const CUTS: usize = 200;
+
+/// Cuts each document at each of its first 300 bytes and at about 200 further places, and compares the two scans of what
+/// stands before each cut.
+#[derive(Drop)]
+pub struct ComparePass {
+    documents: Vec<Vec<u8>>,
+    plain: Vec<u32>,
+    block: Vec<u32>,
+}
+
+impl ComparePass {
+    pub fn new(alloc: Global, documents: Vec<Vec<u8>>) -> ComparePass
+        ensures { result.documents ≡ documents }
+    {
+        ComparePass {
+            documents,
+            plain: Vec::new(alloc),
+            block: Vec::new(alloc),
+        }
+    }
+}
+
+impl Pass for ComparePass {
+    ghost refusals = { λ _. 0 };
+
+    fn time<R: Clock>(&mut self, rt: &R) -> io::Result<Timed> {
+        let start = Instant::now(rt)?;
+        let mut refused = 0;
+        for document in &self.documents {
+            refused += count_differences(document, &mut self.plain, &mut self.block)?;
+        }
+        let duration = start.elapsed(rt)?;
+        Ok(Timed { duration, refused })
+    }
+}
+
+/// Returns at how many cuts of the document the two scans differ. It takes the vectors for their positions.
+fn count_differences(
+    document: &[u8],
+    plain: &mut Vec<u32>,
+    block: &mut Vec<u32>,
+) -> Result<usize, AllocError>
+    ensures { IfOk result (λ n. n ≡ 0) }
+{
+    let len = document.len();
+    let step = len / CUTS + 1;
+    let mut count = 0;
+    let mut end = 0;
+    while end <= len {
+        if differ(&document[..end], plain, block)? {
+            count += 1;
+        }
+        end += if end < EACH { 1 } else { step };
+    }
+    Ok(count)
+}
+
+/// Returns `true` if the two scans of the text differ, in the fault or in the positions.
+fn differ(text: &[u8], plain: &mut Vec<u32>, block: &mut Vec<u32>) -> Result<bool, AllocError>
+    ensures { IfOk result (λ d. d ≡ false) }
+{
+    if text.len() > u32::MAX as usize {
+        return Ok(false);
+    }
+    let by_bytes = found(PlainScan.scan(text, plain))?;
+    let by_blocks = found(BlockScan.scan(text, block))?;
+    Ok(by_bytes != by_blocks || plain.as_slice() != block.as_slice())
+}
+
+/// Returns the fault that a scan found, if any.
+fn found(answer: Result<(), ScanFault>) -> Result<Option<ScanFault>, AllocError>
+    ensures { IfOk result (λ fault. (text out : List ℕ) → Scans text answer out → (fault ≡ scan_fault text) × (out ≡ positions_left text)) }
+{
+    match answer {
+        Ok(()) => Ok(None),
+        Err(ScanFault::Memory) => Err(AllocError),
+        Err(fault) => Ok(Some(fault)),
+    }
+}

@@ -1,0 +1,103 @@
+//! Of `sj_scan`: worked positions, the two scans beside each other, and the display texts of faults.
+use sj_scan::{BlockScan, PlainScan, ScanFault, Stage1};
+use std::alloc::Global;
+use std::process::Abort;
+use std::test::Fail;
+
+// Scans into a vector with old contents.
+fn scanned_by<S: Stage1 + Drop>(
+    alloc: Global,
+    mut scan: S,
+    bytes: &[u8],
+) -> Result<Result<Vec<u32>, ScanFault>, Fail> {
+    let mut out = Vec::from_slice(alloc, &[7, 5])?;
+    let _len = u32::try_from(bytes.len())?;
+    let answer = scan.scan(bytes, &mut out);
+    Ok(answer.and(Ok(out)))
+}
+
+// The answer of both scans, which is to be the same.
+fn scanned(
+    rt: &impl Abort,
+    alloc: Global,
+    bytes: &[u8],
+) -> Result<Result<Vec<u32>, ScanFault>, Fail> {
+    let plain = scanned_by(alloc, PlainScan, bytes)?;
+    let block = scanned_by(alloc, BlockScan, bytes)?;
+    match (&plain, &block) {
+        (Ok(plain), Ok(block)) => assert_eq!(rt; plain.as_slice(), block.as_slice()),
+        (plain, block) => assert_eq!(rt; plain.as_ref().err(), block.as_ref().err()),
+    }
+    Ok(block)
+}
+
+#[test]
+fn positions(rt: HostRuntime) -> Result<(), Fail> {
+    let rows: [(&str, &[u32]); 2] = [
+        (r#"["a\"b", tru]"#, &[0, 1, 7, 9, 12]),
+        (r#""a"b"#, &[0, 3]),
+    ];
+    for (text, positions) in rows {
+        let found = scanned(&rt, rt.alloc(), text.as_bytes())??;
+        assert_eq!(rt; found.as_slice(), positions, "{text}");
+    }
+    Ok(())
+}
+
+// Texts with something to find near the end of a block, once they stand behind spaces.
+const TEXTS: &str = r#"1
+""
+ "\\\"" 
+\\"a"b
+a\"b c
+[tru e]nul
+["a\"b", tru]
+\
+"\\\\","\\\""
+\\\\\"\\"
+a"b"c"
+[true"a"]
+["]"]"{,:}
+{"key": "value", "snot": 42}
+[["get",["key"]],["insert",[],"new",42],["get",["new"]]]
+[true, falsy]
+{"a":1,"a":2}
+[-0, 1.50]
+["\ud83d\ude00","\u0041"]
+[1,]
+{"a":1,}
+1 2
+[] 1
+[18446744073709551615,-9223372036854775808]
+{"x":{"a":1},"é":"€","😀":[[],{}]}
+{:}[,]{:}[,]{:}[,]{:}[,]{:}[,]{:}[,]{:}[,]{:}[,]{:}[,]{:}[,]{:}[,]{:}[,]{:}[,]"#;
+
+// Each text up to each of its bytes, behind each number of spaces up to two blocks.
+#[test]
+fn scans_agree(rt: HostRuntime) -> Result<(), Fail> {
+    for line in TEXTS.lines() {
+        let mut text = Vec::new(rt.alloc());
+        text.resize(130, b' ')?;
+        text.extend_from_slice(line.as_bytes())?;
+        for end in 130..=text.len() {
+            for start in 0..=130 {
+                let _found = scanned(&rt, rt.alloc(), &text[start..end])?;
+            }
+        }
+    }
+    Ok(())
+}
+
+#[test]
+fn displayed_faults(rt: HostRuntime) -> Result<(), Fail> {
+    for (fault, text) in [
+        (ScanFault::Utf8, "Utf8"),
+        (ScanFault::Unclosed, "Unclosed"),
+        (ScanFault::Control, "Control"),
+        (ScanFault::NoToken, "NoToken"),
+        (ScanFault::Memory, "Memory"),
+    ] {
+        assert_eq!(rt; fault.to_string(rt.alloc())?.as_str(), text);
+    }
+    Ok(())
+}
