@@ -1,5 +1,7 @@
 //! Pairs of a key and a value.
 
+use thiserror::Error;
+
 /// A pair of a key and a value, as an object stores it.
 #[derive(Debug, Drop)]
 pub struct Entry<K, V> {
@@ -8,7 +10,8 @@ pub struct Entry<K, V> {
 }
 
 /// A pair that an object had no memory for. It is handed back.
-#[derive(Debug, Drop)]
+#[derive(Debug, Drop, Error)]
+#[error("Refused")]
 pub struct Refused<K, V> {
     pub key: K,
     pub value: V,

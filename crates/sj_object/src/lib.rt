@@ -12,6 +12,8 @@ mod hashed;
 mod iter;
 mod key;
 mod object;
+#[cfg(test)]
+mod tests;
 
 pub use copy::CopyKey;
 pub use entry::{Entry, Refused};
