@@ -1,3 +1,4 @@
 pub mod Trees
 pub mod Views
+pub mod Parts
 pub mod inside
