@@ -1,16 +1,18 @@
 -- The tree of a document, level by level.
-use Rattle.std.proofs.Common.{◌≡◌, ℕ, zero, suc, true, false, ◌<◌, ◌≤◌, length, get_or, List, [], ◌∷◌, refl, ap, ◌∙◌, rules, arith, Vec, Option, Some, None, option_map, if◌then◌else◌, Bool, bytes_eq}
+use Rattle.std.proofs.Common.{◌≡◌, ℕ, zero, suc, true, false, ◌<◌, ◌≤◌, length, get_or, slice_get, List, [], ◌∷◌, ◌++◌, refl, ap, sym, ◌∙◌, rules, arith, Vec, Option, Some, None, option_map, if◌then◌else◌, Bool, bytes_eq}
 use Rattle.std.specs.Borrow.{Bor}
 use Rattle.std.specs.Slice.{IsGetResult}
 use Rattle.std.specs.Option.{option_copied}
 use Rattle.std.specs.declared.alloc.Global.{Global}
-use Rattle.sj_base.specs.Tree.{list, object}
+use Rattle.sj_base.specs.Tree.{Tree, decimal, string, list, object, Items, no_items, item, Members, no_members, member}
+use Rattle.sj_base.specs.Containers.{items_in, members_in}
 use Rattle.sj_base.specs.Scalar.{static_tree}
 use Rattle.sj_base.specs.declared.static_node.StaticNode.{StaticNode}
 use Rattle.sj_base.specs.Path.{item_at, member_at}
 use Rattle.sj_object.specs.Pairs.{value_at}
 use Rattle.sj_object.specs.declared.entry.Entry.{Entry}
-use Rattle.sj_owned.specs.Views.{value_tree, items_view, members_view}
+use Rattle.sj_owned.specs.Trees.{members_of, on_values}
+use Rattle.sj_owned.specs.Views.{value_tree, items_view, members_view, items_inside}
 use Rattle.sj_owned.specs.declared.value.Value.{Value, Static, Array, Object, the_lemmas}
 
 module _ {K D : Type 0} (text : K → List ℕ) (literal : D → List ℕ) where
@@ -22,6 +24,9 @@ module _ {K D : Type 0} (text : K → List ℕ) (literal : D → List ℕ) where
 
   pub tree-Object : (es : List (Entry K (Value K D))) → value_tree text literal (Object es) ≡ object (members_view text literal es)
   tree-Object es = search (rules, the_lemmas)
+
+  pub items_inside-Array : (v : Vec (Value K D) Global) → items_inside (Array v) ≡ Some v.items
+  items_inside-Array v = search (rules, the_lemmas)
 
   item_within : (vs : List (Value K D)) (i : ℕ) (v : Value K D) → i < length vs → Some (value_tree text literal (get_or vs i v)) ≡ item_at (items_view text literal vs) i
   item_within [] i v within = absurd (omega arith)
@@ -37,6 +42,21 @@ module _ {K D : Type 0} (text : K → List ℕ) (literal : D → List ℕ) where
   pub item_found : (vs : List (Value K D)) (i : ℕ) (r : Option (Bor (Value K D))) → IsGetResult vs i i r → option_map (λ (v : Bor (Value K D)). value_tree text literal v.now) r ≡ item_at (items_view text literal vs) i
   item_found vs i None h = item_past vs i h.3
   item_found vs i (Some x) h = ap (λ v. Some (value_tree text literal v)) h.1 ∙ item_within vs i x.now h.3.0
+
+  slice_within : (vs : List (Value K D)) (i : ℕ) (v : Value K D) → i < length vs → Some (get_or vs i v) ≡ slice_get vs i
+  slice_within [] i v within = absurd (omega arith)
+  slice_within (u ∷ vs) zero v within = refl
+  slice_within (u ∷ vs) (suc i) v within = slice_within vs i v (omega arith)
+
+  slice_past : (vs : List (Value K D)) (i : ℕ) → length vs ≤ i → None ≡ slice_get vs i
+  slice_past [] i past = refl
+  slice_past (u ∷ vs) zero past = absurd (omega arith)
+  slice_past (u ∷ vs) (suc i) past = slice_past vs i (omega arith)
+
+  -- which value `get` finds at an index
+  pub value_found : (vs : List (Value K D)) (i : ℕ) (r : Option (Bor (Value K D))) → IsGetResult vs i i r → option_copied r ≡ slice_get vs i
+  value_found vs i None h = slice_past vs i h.3
+  value_found vs i (Some x) h = ap Some h.1 ∙ slice_within vs i x.now h.3.0
 
   found_first : (b : Bool) (v : Value K D) (o : Option (Value K D)) → option_map (value_tree text literal) (if b then Some v else o) ≡ (if b then Some (value_tree text literal v) else option_map (value_tree text literal) o)
   found_first true v o = refl

@@ -1,4 +1,5 @@
 pub mod Layers
+pub mod Edits
 pub mod Pieces
 pub mod Kept
 pub mod Placed

@@ -1,3 +1,5 @@
 pub mod Trees
 pub mod Views
+pub mod Parts
+pub mod Edits
 pub mod inside

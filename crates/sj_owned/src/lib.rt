@@ -7,6 +7,7 @@
 
 mod access;
 mod build;
+mod edit;
 mod encode;
 mod literal;
 pub mod owned;

@@ -4,10 +4,10 @@ use Rattle.sj_owned.specs.Views.{value_tree}
 use Rattle.sj_owned.proofs.Layers.{tree-Object, member_found}
 use Rattle.sj_owned.proofs.value.Value.get.Goals as goal
 
-pub returns-in-Object : goal.returns-in-Object
-returns-in-Object g c =
+pub returns-in-Object-clause-tree : goal.returns-in-Object-clause-tree
+returns-in-Object-clause-tree g c =
     let text = g.K.ObjectKey.text in
     let literal = g.D.Literal.literal in
     let k = c.args.name.now in
     let whole = ap (value_tree text literal) c.in-Object.is ∙ tree-Object text literal c.in-Object.members in
-    record { tree = member_found text literal c.in-Object.members k c.get.result c.get.ensures ∙ sym (ap (λ t. child t (key k)) whole) }
+    member_found text literal c.in-Object.members k c.get.result c.get.ensures ∙ sym (ap (λ t. child t (key k)) whole)

@@ -1,0 +1,111 @@
+//! Edits of a document.
+ghost use Rattle.std.specs.Prelude.{◌≡◌, [], ◌∷◌, ◌++◌, Some, IsSome, IsNone, IsOk, is_ok, if◌then◌else◌, IfOk, IfErr, OnOk, OnErr, option_map, ok_or};
+ghost use Rattle.sj_object.specs.Pairs.{value_at, put_key, drop_key};
+
+use crate::literal::Literal;
+use crate::value::Value;
+use sj_base::AccessError;
+use sj_object::{Object, ObjectKey};
+
+impl<K: ObjectKey, D: Literal> Value<K, D> {
+    ghost use Rattle.sj_owned.specs.Views.{value_tree, items_inside, members_inside};
+    ghost use Rattle.sj_owned.specs.Parts.{member_of};
+    ghost use Rattle.sj_owned.specs.Edits.{with_member, without_member, with_item, without_last, refusal, last_of, before_last};
+
+    /// Puts the value in the place of the value of this key, which is returned. A new key goes last
+    /// (`value_trait::MutableObject::insert`).
+    ///
+    /// # Errors
+    ///
+    /// `NotAnObject` if the value isn't an object, and then `Memory` if there is no memory for a new member. The document
+    /// is unchanged, and the key and the value are dropped.
+    pub fn insert(&mut self, key: K, value: Value<K, D>) -> Result<Option<Value<K, D>>, AccessError>
+    where
+        K: Drop,
+        D: Drop,
+        ensures members { OnOk result (members_inside self.new
+            ≡ option_map (λ es. put_key K.text es key value) (members_inside self.old)) }
+        ensures tree { OnOk result (Some (value_tree K.text D.literal self.new)
+            ≡ with_member (value_tree K.text D.literal self.old) (K.text key) (value_tree K.text D.literal value)) }
+        ensures replaced { IfOk result (λ old. old ≡ member_of K.text self.old (K.text key)) }
+        ensures succeeds { IsSome (member_of K.text self.old (K.text key)) → IsOk result }
+        ensures err { IfErr result (λ e. e ≡ refusal AccessError.NotAnObject (members_inside self.old)) }
+        ensures unchanged { OnErr result (self.new ≡ self.old) }
+    {
+        match self {
+            Value::Object(members) => match members.insert(key, value) {
+                Ok(old) => Ok(old),
+                Err(_) => Err(AccessError::Memory),
+            },
+            _ => Err(AccessError::NotAnObject),
+        }
+    }
+
+    /// Removes the member of this key and returns its value. The members after it close up
+    /// (`value_trait::MutableObject::remove`).
+    ///
+    /// # Errors
+    ///
+    /// `NotAnObject` if the value isn't an object. The document is unchanged.
+    pub fn remove(&mut self, key: &str) -> Result<Option<Value<K, D>>, AccessError>
+    where
+        K: Drop,
+        ensures value { result
+            ≡ ok_or (option_map (λ es. value_at K.text es key.now) (members_inside self.old)) AccessError.NotAnObject }
+        ensures members { OnOk result (members_inside self.new
+            ≡ option_map (λ es. drop_key K.text es key.now) (members_inside self.old)) }
+        ensures tree { OnOk result (Some (value_tree K.text D.literal self.new)
+            ≡ without_member (value_tree K.text D.literal self.old) key.now) }
+        ensures unchanged { OnErr result (self.new ≡ self.old) }
+    {
+        match self {
+            Value::Object(members) => Ok(members.remove(key)),
+            _ => Err(AccessError::NotAnObject),
+        }
+    }
+
+    /// Appends the value as the last item (`value_trait::MutableArray::push`).
+    ///
+    /// # Errors
+    ///
+    /// `NotAnArray` if the value isn't an array, and then `Memory` if there is no memory for one more item. The document is
+    /// unchanged, and the value is dropped.
+    pub fn push(&mut self, value: Value<K, D>) -> Result<(), AccessError>
+    where
+        K: Drop,
+        D: Drop,
+        ensures items { items_inside self.new
+            ≡ option_map (λ vs. if is_ok result then vs ++ value ∷ [] else vs) (items_inside self.old) }
+        ensures tree { OnOk result (Some (value_tree K.text D.literal self.new)
+            ≡ with_item (value_tree K.text D.literal self.old) (value_tree K.text D.literal value)) }
+        ensures err { IfErr result (λ e. e ≡ refusal AccessError.NotAnArray (items_inside self.old)) }
+        ensures unchanged { OnErr result (value_tree K.text D.literal self.new ≡ value_tree K.text D.literal self.old) }
+        ensures other { IsNone (items_inside self.old) → self.new ≡ self.old }
+    {
+        match self {
+            Value::Array(items) => match items.push(value) {
+                Ok(()) => Ok(()),
+                Err(_) => Err(AccessError::Memory),
+            },
+            _ => Err(AccessError::NotAnArray),
+        }
+    }
+
+    /// Removes the last item and returns it, or `None` if there is none (`value_trait::MutableArray::pop`).
+    ///
+    /// # Errors
+    ///
+    /// `NotAnArray` if the value isn't an array. The document is unchanged.
+    pub fn pop(&mut self) -> Result<Option<Value<K, D>>, AccessError>
+        ensures value { result ≡ ok_or (option_map last_of (items_inside self.old)) AccessError.NotAnArray }
+        ensures items { OnOk result (items_inside self.new ≡ option_map before_last (items_inside self.old)) }
+        ensures tree { OnOk result (Some (value_tree K.text D.literal self.new)
+            ≡ without_last (value_tree K.text D.literal self.old)) }
+        ensures unchanged { OnErr result (self.new ≡ self.old) }
+    {
+        match self {
+            Value::Array(items) => Ok(items.pop()),
+            _ => Err(AccessError::NotAnArray),
+        }
+    }
+}
