@@ -1,10 +1,10 @@
 -- Edits of a document are edits of its tree.
-use Rattle.std.proofs.Common.{◌≡◌, ◌-◌, ℕ, zero, suc, true, false, List, [], ◌∷◌, ◌++◌, length, take, refl, ap, sym, ◌∙◌, Vec, Option, Some, None, option_map, if◌then◌else◌, Bool, bytes_eq}
+use Rattle.std.proofs.Common.{◌≡◌, ℕ, true, false, List, [], ◌∷◌, ◌++◌, refl, ap, sym, ◌∙◌, Vec, Some, option_map, if◌then◌else◌, Bool, bytes_eq}
 use native.Mathlib.Numerals.{unary_clauses}
 use Rattle.std.specs.declared.alloc.Global.{Global}
 use Rattle.sj_base.specs.Containers.{items_in, members_in}
 use Rattle.sj_base.specs.Edit.{put_member, drop_member, push_item, pop_item}
-use Rattle.sj_base.specs.Tree.{Tree, list, object, Items, no_items, item, Members, no_members, member}
+use Rattle.sj_base.specs.Tree.{list, object, item, Members, member}
 use Rattle.sj_object.specs.Pairs.{put_key, drop_key}
 use Rattle.sj_object.specs.declared.entry.Entry.{Entry}
 use Rattle.sj_owned.specs.Edits.{with_member, without_member, with_item, without_last, before_last}

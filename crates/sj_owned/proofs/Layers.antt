@@ -1,17 +1,15 @@
 -- The tree of a document, level by level.
-use Rattle.std.proofs.Common.{◌≡◌, ℕ, zero, suc, true, false, ◌<◌, ◌≤◌, length, get_or, slice_get, List, [], ◌∷◌, ◌++◌, refl, ap, sym, ◌∙◌, rules, arith, Vec, Option, Some, None, option_map, if◌then◌else◌, Bool, bytes_eq}
+use Rattle.std.proofs.Common.{◌≡◌, ℕ, zero, suc, true, false, ◌<◌, ◌≤◌, length, get_or, slice_get, List, [], ◌∷◌, refl, ap, ◌∙◌, rules, arith, Vec, Option, Some, None, option_map, if◌then◌else◌, Bool, bytes_eq}
 use Rattle.std.specs.Borrow.{Bor}
 use Rattle.std.specs.Slice.{IsGetResult}
 use Rattle.std.specs.Option.{option_copied}
 use Rattle.std.specs.declared.alloc.Global.{Global}
-use Rattle.sj_base.specs.Tree.{Tree, decimal, string, list, object, Items, no_items, item, Members, no_members, member}
-use Rattle.sj_base.specs.Containers.{items_in, members_in}
+use Rattle.sj_base.specs.Tree.{list, object}
 use Rattle.sj_base.specs.Scalar.{static_tree}
 use Rattle.sj_base.specs.declared.static_node.StaticNode.{StaticNode}
 use Rattle.sj_base.specs.Path.{item_at, member_at}
 use Rattle.sj_object.specs.Pairs.{value_at}
 use Rattle.sj_object.specs.declared.entry.Entry.{Entry}
-use Rattle.sj_owned.specs.Trees.{members_of, on_values}
 use Rattle.sj_owned.specs.Views.{value_tree, items_view, members_view, items_inside}
 use Rattle.sj_owned.specs.declared.value.Value.{Value, Static, Array, Object, the_lemmas}
 

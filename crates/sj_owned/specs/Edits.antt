@@ -1,5 +1,5 @@
 -- Documents and trees after an edit of one part.
-use Rattle.std.specs.Prelude.{◌-◌, ℕ, List, [], ◌∷◌, ◌++◌, Option, Some, None, option_map, slice_get, slice_set, take, length}
+use Rattle.std.specs.Prelude.{◌-◌, ℕ, List, Option, Some, None, option_map, slice_get, take, length}
 use Rattle.sj_base.specs.Containers.{items_in, members_in}
 use Rattle.sj_base.specs.Edit.{put_member, drop_member, push_item, pop_item}
 use Rattle.sj_base.specs.Tree.{Tree, list, object}

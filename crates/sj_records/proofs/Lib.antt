@@ -1,5 +1,3 @@
-pub mod DocumentTrees
-pub mod Kept
 pub mod Built
 pub mod Printed
 pub mod Cut

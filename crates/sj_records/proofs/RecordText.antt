@@ -5,7 +5,7 @@ use Rattle.sj_base.specs.Tree.{Tree, list, Items}
 use Rattle.sj_base.specs.Text.{text}
 use Rattle.sj_base.specs.Keep.{keep}
 use Rattle.sj_records.specs.declared.form.Form.{Form}
-use Rattle.sj_records.specs.declared.form.Form.TheVariants.{Owned}
+use Rattle.sj_records.specs.declared.form.Form.TheVariants.{Owned, Borrowed}
 use Rattle.sj_records.specs.declared.task.Task.{Task}
 use Rattle.sj_records.specs.Command.{Step, get}
 use Rattle.sj_records.specs.Step.{Job, State, start, begun, replies, after}
@@ -21,9 +21,10 @@ after-reads : (job : Job) (s : State) (cs : List Step) → after job s cs ≡ s
 after-reads job s [] = refl
 after-reads job s (get path ∷ cs) = after-reads job s cs
 
--- the owned form is kept
+-- both forms are kept
 start-kept : (t : Tree) (form : Form) → start t form ≡ keep t
 start-kept t Owned = refl
+start-kept t Borrowed = refl
 
 -- what a task makes of a kept document
 pub outcome-kept : (task : Task) (t u : Tree) → u ≡ keep t → text (record_of (replies_to task u) u) ≡ text (outcome (task_job task) t)

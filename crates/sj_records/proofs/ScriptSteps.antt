@@ -9,10 +9,9 @@ use Rattle.sj_base.specs.Path.{Part}
 use Rattle.sj_records.specs.declared.script.CommandFault.{CommandFault}
 use Rattle.sj_records.specs.declared.read_error.ReadError.{ReadError}
 use Rattle.sj_records.specs.declared.read_error.ReadError.TheVariants as errors
-use Rattle.sj_records.specs.declared.document.Document.{Document}
 use Rattle.sj_records.specs.Command.{Step, Refusal, command, ◌>>=◌, part_of, parts_of, path_of, get_of, named, command_of, commands_from, commands_of}
 use Rattle.sj_records.specs.inside.ReadErrors.{IsFaultOf}
-use Rattle.sj_records.specs.inside.Documents.{document_tree, items_view}
+use Rattle.sj_records.specs.inside.Documents.{Document, document_tree, items_view}
 
 -- what is read behind a front
 abbrev pub read_after : {A F : Type 0} → List A → Result (List A) F → Result (List A) F

@@ -4,7 +4,7 @@ use Rattle.sj_base.specs.Tree.{Tree, list, Items, no_items, item, depth}
 use Rattle.sj_base.specs.Keep.{keep}
 use Rattle.sj_base.specs.Path.{Part, at}
 use Rattle.sj_records.specs.declared.form.Form.{Form}
-use Rattle.sj_records.specs.declared.form.Form.TheVariants.{Owned}
+use Rattle.sj_records.specs.declared.form.Form.TheVariants.{Owned, Borrowed}
 use Rattle.sj_records.specs.Command.{Step, get}
 
 -- What is done to each line of a stream.
@@ -21,6 +21,7 @@ pub record State : Type 0 where
 -- the tree with which a form begins
 abbrev pub start : Tree → Form → Tree
 start t Owned = keep t
+start t Borrowed = keep t
 
 -- the state before the first command
 abbrev pub begun : Job → Tree → State

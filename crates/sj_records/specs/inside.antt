@@ -1,5 +1,4 @@
 -- What only the clauses of private functions cite.
-pub mod Kept
 pub mod ReadErrors
 pub mod Documents
 pub mod Progress

@@ -6,19 +6,19 @@ ghost use Rattle.sj_records.specs.inside.Documents.{document_tree, items_view};
 ghost use Rattle.sj_records.specs.Script.{part_view, path_view, command_view, commands_view};
 ghost use Rattle.sj_records.specs.inside.ReadErrors.{GivesCommand, GivesScript};
 
-use crate::document::Document;
 use crate::path::PathPart;
 use crate::read_error::ReadError;
 use crate::script::{Command, CommandFault, ScriptFault};
 use sj_base::StaticNode;
+use sj_owned::OwnedValue;
 use std::alloc::Global;
 
-fn read_part(document: &Document) -> Result<PathPart, ReadError<CommandFault>>
+fn read_part(document: &OwnedValue) -> Result<PathPart, ReadError<CommandFault>>
     ensures { GivesCommand part_view result (part_of (document_tree document.now)) }
 {
     match document {
-        Document::String(key) => Ok(PathPart::Key(key.clone()?)),
-        Document::Static(scalar) => read_index(*scalar),
+        OwnedValue::String(key) => Ok(PathPart::Key(key.clone()?)),
+        OwnedValue::Static(scalar) => read_index(*scalar),
         _ => Err(ReadError::Refused(CommandFault::BadPath)),
     }
 }
@@ -33,18 +33,18 @@ fn read_index(scalar: StaticNode) -> Result<PathPart, ReadError<CommandFault>>
     }
 }
 
-fn read_path(alloc: Global, document: &Document) -> Result<Vec<PathPart>, ReadError<CommandFault>>
+fn read_path(alloc: Global, document: &OwnedValue) -> Result<Vec<PathPart>, ReadError<CommandFault>>
     ensures { GivesCommand (λ path. path_view path.items) result (path_of (document_tree document.now)) }
 {
     match document {
-        Document::Array(items) => read_path_parts(alloc, items),
+        OwnedValue::Array(items) => read_path_parts(alloc, items),
         _ => Err(ReadError::Refused(CommandFault::BadPath)),
     }
 }
 
 fn read_path_parts(
     alloc: Global,
-    items: &[Document],
+    items: &[OwnedValue],
 ) -> Result<Vec<PathPart>, ReadError<CommandFault>>
     ensures { GivesCommand (λ path. path_view path.items) result (parts_of (items_view items.now)) }
 {
@@ -55,21 +55,21 @@ fn read_path_parts(
     Ok(path)
 }
 
-fn read_command(alloc: Global, document: &Document) -> Result<Command, ReadError<CommandFault>>
+fn read_command(alloc: Global, document: &OwnedValue) -> Result<Command, ReadError<CommandFault>>
     ensures { GivesCommand command_view result (command_of (document_tree document.now)) }
 {
     match document {
-        Document::Array(items) => read_command_items(alloc, items),
+        OwnedValue::Array(items) => read_command_items(alloc, items),
         _ => Err(ReadError::Refused(CommandFault::NotAnArray)),
     }
 }
 
 /// Reads a command from its items, the name and then the arguments.
-fn read_command_items(alloc: Global, items: &[Document]) -> Result<Command, ReadError<CommandFault>>
+fn read_command_items(alloc: Global, items: &[OwnedValue]) -> Result<Command, ReadError<CommandFault>>
     ensures { GivesCommand command_view result (command_of (list (items_view items.now))) }
 {
     match items {
-        [Document::String(name), arguments @ ..] => read_named_command(alloc, name, arguments),
+        [OwnedValue::String(name), arguments @ ..] => read_named_command(alloc, name, arguments),
         _ => Err(ReadError::Refused(CommandFault::NoName)),
     }
 }
@@ -77,7 +77,7 @@ fn read_command_items(alloc: Global, items: &[Document]) -> Result<Command, Read
 fn read_named_command(
     alloc: Global,
     name: &str,
-    arguments: &[Document],
+    arguments: &[OwnedValue],
 ) -> Result<Command, ReadError<CommandFault>>
     ensures { GivesCommand command_view result (named name.now (items_view arguments.now)) }
 {
@@ -91,17 +91,17 @@ fn read_named_command(
 }
 
 /// Reads the commands of a script.
-pub(crate) fn read_commands(alloc: Global, document: &Document) -> Result<Vec<Command>, ScriptFault>
+pub(crate) fn read_commands(alloc: Global, document: &OwnedValue) -> Result<Vec<Command>, ScriptFault>
     ensures { GivesScript (λ commands. commands_view commands.items) result
         (commands_of (document_tree document.now)) }
 {
     match document {
-        Document::Array(items) => read_command_list(alloc, items),
+        OwnedValue::Array(items) => read_command_list(alloc, items),
         _ => Err(ScriptFault::NotAnArray),
     }
 }
 
-fn read_command_list(alloc: Global, items: &[Document]) -> Result<Vec<Command>, ScriptFault>
+fn read_command_list(alloc: Global, items: &[OwnedValue]) -> Result<Vec<Command>, ScriptFault>
     ensures { GivesScript (λ commands. commands_view commands.items) result
         (commands_from 0 (items_view items.now)) }
 {

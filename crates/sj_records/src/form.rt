@@ -5,4 +5,6 @@
 pub enum Form {
     /// A document that owns its texts. Of members with equal keys only the first is kept.
     Owned,
+    /// A document that borrows its texts from the line. Of members with equal keys only the first is kept.
+    Borrowed,
 }

@@ -6,9 +6,9 @@ ghost use Rattle.sj_records.specs.inside.Progress.{AppendsOrGrows};
 ghost use Rattle.sj_records.specs.inside.ReadErrors.{IsScriptFault};
 
 use crate::commands::read_commands;
-use crate::document::Document;
 use crate::path::PathPart;
 use sj_base::{Error, ErrorType, put_int};
+use sj_owned::build_value;
 use sj_parse::to_tape;
 use std::alloc::{AllocError, AllocFailed, Global};
 
@@ -155,7 +155,7 @@ impl Script {
         ensures refused { IfErr result (λ fault. IsRefusedAs fault bytes.entry.now) }
     {
         let tape = to_tape(alloc, bytes)?;
-        let document = Document::build(alloc, tape.as_value())?;
+        let document = build_value(alloc, tape.as_value())?;
         let commands = read_commands(alloc, &document)?;
         Ok(Script { commands })
     }

@@ -5,17 +5,20 @@ ghost use Rattle.sj_base.specs.Text.{text};
 ghost use Rattle.sj_parse.specs.Answers.{buffer_limit};
 ghost use Rattle.sj_parse.specs.Fault.{fault};
 ghost use Rattle.sj_records.specs.Record.{IsRecord, fault_record, record_of, character_of};
-ghost use Rattle.sj_records.specs.inside.Documents.{document_tree};
+ghost use Rattle.sj_owned.specs.Views.{value_tree};
 ghost use Rattle.sj_records.specs.inside.ReadErrors.{IsKept, IfRefused};
 ghost use Rattle.sj_records.specs.inside.Progress.{task_job, replies_to, scratch_limit};
 
-use crate::document::{Document, put_comma, put_reply};
+use crate::document::{find, put_comma, put_reply};
 use crate::form::Form;
 use crate::read_error::ReadError;
 use crate::script::{Command, Script};
-use sj_base::{Error, put_int, put_string};
+use sj_base::{DecimalBuf, DecimalCow, Error, put_int, put_string};
+use sj_object::{MakeKey, ObjectKey};
+use sj_owned::{Literal, MakeLiteral, Value, build_value};
 use sj_parse::{Buffers, to_tape_with_buffers};
 use std::alloc::{AllocError, Global};
+use std::borrow::CowStr;
 
 /// What is done to each line.
 #[derive(Clone, Copy)]
@@ -79,7 +82,26 @@ fn put_record(
         × IsRecord (task_job task.entry) line.old bytes) }
     ensures limit { buffer_limit buffers.new ≡ buffer_limit buffers.old }
 {
-    match read_document(alloc, buffers, line) {
+    match task.form {
+        Form::Owned => put_record_of::<String, DecimalBuf>(alloc, buffers, out, line, task),
+        Form::Borrowed => put_record_of::<CowStr<'_>, DecimalCow<'_>>(alloc, buffers, out, line, task),
+    }
+}
+
+/// Appends the record of a line by a document with these types of texts.
+fn put_record_of<'de, K: MakeKey<'de> + Drop, D: MakeLiteral<'de> + Drop>(
+    alloc: Global,
+    buffers: &mut Buffers,
+    out: &mut Vec<u8>,
+    line: &'de mut [u8],
+    task: Task<'_>,
+) -> Result<(), AllocError>
+    requires { buffer_limit buffers.old ≡ task.depth }
+    ensures holds { OnOk result ((bytes : List ℕ) × (out.new.items ≡ out.old.items ++ bytes)
+        × IsRecord (task_job task.entry) line.entry.now bytes) }
+    ensures limit { buffer_limit buffers.new ≡ buffer_limit buffers.old }
+{
+    match read_document::<K, D>(alloc, buffers, line) {
         Ok(document) => put_outcome(&document, task, out),
         Err(ReadError::Refused(fault)) => put_fault_record(fault, out),
         Err(ReadError::Memory) => Err(AllocError),
@@ -100,42 +122,50 @@ fn release(alloc: Global, buffers: &mut Buffers) -> Result<(), AllocError>
 }
 
 /// Reads the document of a line under the limit of the buffers. The line is rewritten.
-fn read_document(
+fn read_document<'de, K: MakeKey<'de> + Drop, D: MakeLiteral<'de> + Drop>(
     alloc: Global,
     buffers: &mut Buffers,
-    line: &mut [u8],
-) -> Result<Document, ReadError<Error>>
-    ensures found { IfOk result (λ d. IsKept line.old (buffer_limit buffers.old) (document_tree d)) }
-    ensures refused { IfErr result (λ e. IfRefused e (λ why. fault line.old (buffer_limit buffers.old) ≡ Some why)) }
+    line: &'de mut [u8],
+) -> Result<Value<K, D>, ReadError<Error>>
+    ensures found { IfOk result (λ d. IsKept line.entry.now (buffer_limit buffers.old) (value_tree K.text D.literal d)) }
+    ensures refused { IfErr result (λ e. IfRefused e (λ why. fault line.entry.now (buffer_limit buffers.old) ≡ Some why)) }
     ensures limit { buffer_limit buffers.new ≡ buffer_limit buffers.old }
 {
     let tape = to_tape_with_buffers(alloc, line, buffers)?;
     release(alloc, buffers)?;
-    Ok(Document::build(alloc, tape.as_value())?)
+    Ok(build_value(alloc, tape.as_value())?)
 }
 
 /// Appends the record of a document: the replies to the script's commands, and then the document.
-fn put_outcome(document: &Document, task: Task<'_>, out: &mut Vec<u8>) -> Result<(), AllocError>
+fn put_outcome<K: ObjectKey, D: Literal>(
+    document: &Value<K, D>,
+    task: Task<'_>,
+    out: &mut Vec<u8>,
+) -> Result<(), AllocError>
     ensures { OnOk result (out.new.items ≡ out.old.items
-        ++ text (record_of (replies_to task.entry (document_tree document.now)) (document_tree document.now))) }
+        ++ text (record_of (replies_to task.entry (value_tree K.text D.literal document.now)) (value_tree K.text D.literal document.now))) }
 {
     out.extend_from_slice(b"{\"replies\":")?;
     put_replies(document, task, out)?;
     out.extend_from_slice(b",\"document\":")?;
-    document.put(out)?;
+    document.encode(out)?;
     out.push(b'}')?;
     Ok(())
 }
 
-fn put_replies(document: &Document, task: Task<'_>, out: &mut Vec<u8>) -> Result<(), AllocError>
+fn put_replies<K: ObjectKey, D: Literal>(
+    document: &Value<K, D>,
+    task: Task<'_>,
+    out: &mut Vec<u8>,
+) -> Result<(), AllocError>
     ensures { OnOk result (out.new.items ≡ out.old.items
-        ++ text (list (replies_to task.entry (document_tree document.now)))) }
+        ++ text (list (replies_to task.entry (value_tree K.text D.literal document.now)))) }
 {
     out.push(b'[')?;
     for (place, command) in task.script.commands().iter().enumerate() {
         put_comma(place, out)?;
         match command {
-            Command::Get(path) => put_reply(document.get(path), out)?,
+            Command::Get(path) => put_reply(find(document, path), out)?,
         }
     }
     out.push(b']')?;

@@ -1,4 +1,4 @@
-use Rattle.std.proofs.Common.{◌≡◌, ◌++◌, ◌+◌, ◌*◌, ◌≤◌, drop, length}
+use Rattle.std.proofs.Common.{◌≡◌, ◌+◌, ◌*◌, ◌≤◌, drop, length}
 use Rattle.sj_base.proofs.Towards.{Toward}
 use Rattle.sj_base.specs.Tree.{list, object}
 use Rattle.sj_base.specs.Layout.{inside, laid_out, rest_text, item_texts, member_texts}
