@@ -4,6 +4,7 @@ ghost use Rattle.sj_base.specs.Layout.{level_of};
 
 use super::*;
 use std::alloc::AllocError;
+use std::borrow::CowStr;
 use std::io;
 use std::io::{ErrorKind, Read};
 use std::marker::Brand;
@@ -228,6 +229,17 @@ fn decimals(rt: HostRuntime) -> Result<(), Fail> {
     ] {
         assert!(rt; Decimal::new(text).is_none(), "at {text}");
     }
+    Ok(())
+}
+
+#[test]
+fn texts(rt: HostRuntime) -> Result<(), Fail> {
+    let text = String::from_str(rt.alloc(), "text")?;
+    assert_eq!(rt; copy_of(&text)?.as_str(), "text");
+    assert_eq!(rt; copy_of(&CowStr::Owned(text))?.as_str(), "text");
+    let CowStr::Borrowed("text") = copy_of(&CowStr::Borrowed("text"))? else {
+        return Err(Fail::new("another copy"));
+    };
     Ok(())
 }
 
