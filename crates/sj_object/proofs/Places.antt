@@ -71,11 +71,6 @@ module _ {K V : Type 0} (text : K → List ℕ) (k : List ℕ) where
   pub value_at_no_place : (es : List (Entry K V)) → place_of text es k ≡ None → value_at text es k ≡ None
   value_at_no_place = at_no_place (λ es. value_at text es k ≡ None) refl (λ e es f p. rw f p)
 
-  pub set_value_place : (d : Entry K V) (v : V) (es : List (Entry K V)) (i : ℕ) → place_of text es k ≡ Some i
-      → set_value text es k v ≡ set es i (record { key = (get_or es i d).key; value = v })
-  set_value_place d v = at_place (λ es i. set_value text es k v ≡ set es i (record { key = (get_or es i d).key; value = v }))
-      (λ e es t. rw t) (λ e es i f p. rw f (ap (λ l. e ∷ l) p))
-
   pub drop_key_place : (es : List (Entry K V)) (i : ℕ) → place_of text es k ≡ Some i → drop_key text es k ≡ take i es ++ drop (suc i) es
   drop_key_place = at_place (λ es i. drop_key text es k ≡ take i es ++ drop (suc i) es) (λ e es t. rw t) (λ e es i f p. rw f (ap (λ l. e ∷ l) p))
 

@@ -12,8 +12,7 @@ pub fn hash_key(key: &str) -> u64
     })
 }
 
-/// The hasher of every object, with one fixed hash. Port of `simd_json::value::owned::ObjectHasher`'s
-/// `NotSoRandomState`.
+/// The hasher of every object, with one fixed hash. Port of `simd_json::known_key::NotSoRandomState`.
 #[derive(Clone, Copy, Debug, Default)]
 pub struct NotSoRandomState;
 
@@ -26,5 +25,5 @@ impl NotSoRandomState {
     }
 }
 
-/// The hasher of objects. Port of `simd_json::ObjectHasher`.
+/// The hasher of objects. Port of `simd_json::value::ObjectHasher`.
 pub type ObjectHasher = NotSoRandomState;

@@ -1,6 +1,7 @@
 //! Calls by key with the key's hash at hand.
 //!
-//! They answer as the calls without a hash, and compare texts as those do. A caller that keeps hashes states them here.
+//! They answer as the calls without a hash, and compare texts as those do. That the hash is the key's is a condition of
+//! each call; [`hash_key`](crate::hash_key) gives it.
 ghost use Rattle.std.specs.Prelude.{◌≡◌, None, IsSome, IsOk, IfOk, IfErr, OnOk, OnErr, MatchOption};
 ghost use Rattle.std.specs.Borrow.{sem};
 ghost use Rattle.std.specs.Option.{ForNone, option_copied, option_copied_mut};

@@ -188,8 +188,8 @@ impl<K: Drop, V: Drop> Iterator for IntoIter<K, V> {
         ensures upper { IfSome result.1 (UpTo (item_count owned_left self.now)) }
         ensures exact { result ≡ (length (owned_left self.now), Some (length (owned_left self.now))) }
     {
-        let len = self.len();
-        (len, Some(len))
+        let left = self.len();
+        (left, Some(left))
     }
 }
 

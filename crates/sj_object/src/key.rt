@@ -1,5 +1,5 @@
 //! Types of keys.
-ghost use Rattle.std.specs.Prelude.{◌≡◌, ℕ, List, IfOk, string_bytes};
+ghost use Rattle.std.specs.Prelude.{◌≡◌, ℕ, List, IfOk, IsOk, string_bytes};
 ghost use Rattle.std.specs.Cow.{cow_str_bytes};
 
 use std::alloc::{AllocError, Global};
@@ -27,7 +27,7 @@ impl ObjectKey for CowStr<'_> {
     ghost text = { cow_str_bytes };
 
     fn as_text(&self) -> &str {
-        self.as_str()
+        self.as_ref()
     }
 }
 
@@ -49,9 +49,12 @@ impl<'de> MakeKey<'de> for String {
     }
 }
 
-/// The key borrows the text.
+/// The key borrows the text, and needs no memory.
 impl<'de> MakeKey<'de> for CowStr<'de> {
-    fn from_text(_alloc: Global, text: &'de str) -> Result<CowStr<'de>, AllocError> {
+    fn from_text(_alloc: Global, text: &'de str) -> Result<CowStr<'de>, AllocError>
+        ensures text { IfOk result (λ key. cow_str_bytes key ≡ text.now) }
+        ensures succeeds { IsOk result }
+    {
         Ok(CowStr::Borrowed(text))
     }
 }

@@ -12,8 +12,9 @@ use std::alloc::{AllocError, Global};
 use std::marker::Model;
 use std::mem;
 
-/// Pairs of a key and a value in insertion order, with no key twice. Port of `simd_json::value::owned::Object`.
+/// Pairs of a key and a value in insertion order, with no key twice.
 ///
+/// It stands in the place of the hash map of which `simd_json::owned::Object` and `simd_json::borrowed::Object` are made.
 /// A key is found by comparing texts from the first pair on.
 #[derive(Debug, Drop)]
 pub struct Object<K: ObjectKey, V> {

@@ -1,4 +1,6 @@
-use crate::{CopyKey, MakeKey, NotSoRandomState, Object, ObjectHasher, ObjectKey, hash_key};
+use crate::{
+    CopyKey, MakeKey, NotSoRandomState, Object, ObjectHasher, ObjectKey, Refused, hash_key,
+};
 use sj_base::{StaticNode, TryCopy};
 use std::alloc::{AllocError, Global};
 use std::borrow::CowStr;
@@ -69,6 +71,13 @@ fn pairs_in_order(rt: HostRuntime) -> Result<(), Fail> {
         write!(shown, "{key}{value} ")?;
     }
     assert_eq!(rt; shown.as_str(), "b2 a5 b2 a5 b a 2 5 b2 a5 ");
+    Ok(())
+}
+
+#[test]
+fn refused(rt: HostRuntime) -> Result<(), Fail> {
+    let pair = Refused { key: "a", value: 1 };
+    assert_eq!(rt; pair.to_string(rt.alloc())?.as_str(), "Refused");
     Ok(())
 }
 

@@ -6,6 +6,7 @@ use sj_base::{
     put_int, put_string, put_text,
 };
 use sj_reads::ValueAsScalar;
+use std::borrow::CowStr;
 use std::alloc::AllocError;
 use std::marker::Brand;
 use std::mem::size_of;
@@ -129,6 +130,17 @@ fn decimals(rt: HostRuntime) -> Result<(), Fail> {
     for text in ["1", "01.5", "1.", ".5", "1e", "+1.5", ""] {
         assert!(rt; Decimal::new(text).is_none(), "at {text}");
     }
+    Ok(())
+}
+
+#[test]
+fn copies_of_texts(rt: HostRuntime) -> Result<(), Fail> {
+    let text = String::from_str(rt.alloc(), "text")?;
+    assert_eq!(rt; copy_of(&text)?.as_str(), "text");
+    assert_eq!(rt; copy_of(&CowStr::Owned(text))?.as_str(), "text");
+    let CowStr::Borrowed("text") = copy_of(&CowStr::Borrowed("text"))? else {
+        return Err(Fail::new("another copy"));
+    };
     Ok(())
 }
 
