@@ -199,7 +199,7 @@ impl<K: ObjectKey, D: Literal> Value<K, D> {
         ensures { option_map (λ v. v.items) result ≡ items_inside self }
     {
         match self {
-            Value::Array(items) => Some(items),
+            Value::Array(list) => Some(list),
             _ => None,
         }
     }
@@ -212,7 +212,7 @@ impl<K: ObjectKey, D: Literal> Value<K, D> {
         ensures { result ≡ members_inside self }
     {
         match self {
-            Value::Object(members) => Some(members),
+            Value::Object(object) => Some(object),
             _ => None,
         }
     }
