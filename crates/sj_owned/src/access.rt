@@ -1,4 +1,4 @@
-//! Reads of the parts of a document.
+//! Reads of the parts of a document, in the names of the traits of `value_trait`.
 ghost use Rattle.std.specs.Prelude.{◌≡◌, is_some, IfSome, option_map, option_and_then, option_copied, ok_or};
 ghost use Rattle.sj_base.specs.Containers.{scalar_in};
 ghost use Rattle.sj_base.specs.Path.{key, place, child};
@@ -38,7 +38,7 @@ impl<K: ObjectKey, D: Literal> Value<K, D> {
         }
     }
 
-    /// Returns the items (`value_trait::ValueAsArray::try_as_array`).
+    /// Returns the items.
     ///
     /// # Errors
     ///
@@ -53,7 +53,7 @@ impl<K: ObjectKey, D: Literal> Value<K, D> {
         }
     }
 
-    /// Returns the members (`value_trait::ValueAsObject::try_as_object`).
+    /// Returns the members.
     ///
     /// # Errors
     ///
@@ -68,8 +68,7 @@ impl<K: ObjectKey, D: Literal> Value<K, D> {
         }
     }
 
-    /// Returns the value of the member with this key, or `None` if there is none or the value isn't an object
-    /// (`value_trait::ValueObjectAccess::get`).
+    /// Returns the value of the member with this key, or `None` if there is none or the value isn't an object.
     pub fn get(&self, name: &str) -> Option<&Value<K, D>>
         ensures value { option_copied result ≡ member_of K.text self.now name.now }
         ensures tree { option_map (λ v. value_tree K.text D.literal v.now) result
@@ -81,16 +80,14 @@ impl<K: ObjectKey, D: Literal> Value<K, D> {
         }
     }
 
-    /// Returns `true` if the value is an object with a member of this key
-    /// (`value_trait::ValueObjectAccess::contains_key`).
+    /// Returns `true` if the value is an object with a member of this key.
     pub fn contains_key(&self, name: &str) -> bool
         ensures { result ≡ is_some (child (value_tree K.text D.literal self.now) (key name.now)) }
     {
         self.get(name).is_some()
     }
 
-    /// Returns the item at this index, or `None` if there is none or the value isn't an array
-    /// (`value_trait::ValueArrayAccess::get_idx`).
+    /// Returns the item at this index, or `None` if there is none or the value isn't an array.
     pub fn get_idx(&self, index: usize) -> Option<&Value<K, D>>
         ensures value { option_copied result ≡ item_of self.now index }
         ensures tree { option_map (λ v. value_tree K.text D.literal v.now) result
@@ -102,8 +99,7 @@ impl<K: ObjectKey, D: Literal> Value<K, D> {
         }
     }
 
-    /// Returns the items of the array in the member with this key, or `None` if there is none or it isn't an array
-    /// (`value_trait::ValueObjectAccessAsArray::get_array`).
+    /// Returns the items of the array in the member with this key, or `None` if there is none or it isn't an array.
     pub fn get_array(&self, name: &str) -> Option<&Vec<Value<K, D>>>
         ensures { option_map (λ v. v.now.items) result
             ≡ option_and_then items_inside (member_of K.text self.now name.now) }
@@ -111,8 +107,7 @@ impl<K: ObjectKey, D: Literal> Value<K, D> {
         self.get(name)?.as_array()
     }
 
-    /// Returns the members of the object in the member with this key, or `None` if there is none or it isn't an object
-    /// (`value_trait::ValueObjectAccessAsObject::get_object`).
+    /// Returns the members of the object in the member with this key, or `None` if there is none or it isn't an object.
     pub fn get_object(&self, name: &str) -> Option<&Object<K, Value<K, D>>>
         ensures { option_map (λ o. o.now) result
             ≡ option_and_then members_inside (member_of K.text self.now name.now) }
@@ -120,8 +115,7 @@ impl<K: ObjectKey, D: Literal> Value<K, D> {
         self.get(name)?.as_object()
     }
 
-    /// Returns the value of the member with this key, or `None` if there is none
-    /// (`value_trait::ValueObjectAccess::try_get`).
+    /// Returns the value of the member with this key, or `None` if there is none.
     ///
     /// # Errors
     ///
@@ -135,7 +129,7 @@ impl<K: ObjectKey, D: Literal> Value<K, D> {
         }
     }
 
-    /// Returns the item at this index, or `None` if there is none (`value_trait::ValueArrayAccess::try_get_idx`).
+    /// Returns the item at this index, or `None` if there is none.
     ///
     /// # Errors
     ///
@@ -149,8 +143,7 @@ impl<K: ObjectKey, D: Literal> Value<K, D> {
         }
     }
 
-    /// Returns the items of the array in the member with this key, or `None` if there is none
-    /// (`value_trait::ValueObjectAccessTryAsArray::try_get_array`).
+    /// Returns the items of the array in the member with this key, or `None` if there is none.
     ///
     /// # Errors
     ///
@@ -166,8 +159,7 @@ impl<K: ObjectKey, D: Literal> Value<K, D> {
         }
     }
 
-    /// Returns the members of the object in the member with this key, or `None` if there is none
-    /// (`value_trait::ValueObjectAccessTryAsObject::try_get_object`).
+    /// Returns the members of the object in the member with this key, or `None` if there is none.
     ///
     /// # Errors
     ///
@@ -207,7 +199,7 @@ impl<K: ObjectKey, D: Literal> Value<K, D> {
         ensures { option_map (λ v. v.items) result ≡ items_inside self }
     {
         match self {
-            Value::Array(items) => Some(items),
+            Value::Array(list) => Some(list),
             _ => None,
         }
     }
@@ -220,7 +212,7 @@ impl<K: ObjectKey, D: Literal> Value<K, D> {
         ensures { result ≡ members_inside self }
     {
         match self {
-            Value::Object(members) => Some(members),
+            Value::Object(object) => Some(object),
             _ => None,
         }
     }

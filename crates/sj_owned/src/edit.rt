@@ -1,4 +1,4 @@
-//! Edits of a document.
+//! Edits of a document, in the names of the traits of `value_trait`.
 ghost use Rattle.std.specs.Prelude.{◌≡◌, [], ◌∷◌, ◌++◌, Some, IsSome, IsNone, IsOk, is_ok, if◌then◌else◌, IfOk, IfErr, OnOk, OnErr, option_map, ok_or};
 ghost use Rattle.sj_object.specs.Pairs.{value_at, put_key, drop_key};
 
@@ -12,8 +12,7 @@ impl<K: ObjectKey, D: Literal> Value<K, D> {
     ghost use Rattle.sj_owned.specs.Parts.{member_of};
     ghost use Rattle.sj_owned.specs.Edits.{with_member, without_member, with_item, without_last, refusal, last_of, before_last};
 
-    /// Puts the value in the place of the value of this key, which is returned. A new key goes last
-    /// (`value_trait::MutableObject::insert`).
+    /// Puts the value in the place of the value of this key, which is returned. A new key goes last.
     ///
     /// # Errors
     ///
@@ -41,8 +40,7 @@ impl<K: ObjectKey, D: Literal> Value<K, D> {
         }
     }
 
-    /// Removes the member of this key and returns its value. The members after it close up
-    /// (`value_trait::MutableObject::remove`).
+    /// Removes the member of this key and returns its value. The members after it close up.
     ///
     /// # Errors
     ///
@@ -64,7 +62,7 @@ impl<K: ObjectKey, D: Literal> Value<K, D> {
         }
     }
 
-    /// Appends the value as the last item (`value_trait::MutableArray::push`).
+    /// Appends the value as the last item.
     ///
     /// # Errors
     ///
@@ -91,7 +89,7 @@ impl<K: ObjectKey, D: Literal> Value<K, D> {
         }
     }
 
-    /// Removes the last item and returns it, or `None` if there is none (`value_trait::MutableArray::pop`).
+    /// Removes the last item and returns it, or `None` if there is none.
     ///
     /// # Errors
     ///

@@ -9,6 +9,8 @@ mod access;
 mod build;
 mod edit;
 mod encode;
+mod index;
+mod lend;
 mod literal;
 pub mod owned;
 mod value;

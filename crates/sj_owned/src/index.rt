@@ -1,0 +1,73 @@
+//! Parts of a document by `[]`, and the document that is made without arguments.
+ghost use Rattle.std.specs.Prelude.{◌≡◌, Some, IsSome};
+
+use crate::literal::Literal;
+use crate::value::Value;
+use sj_object::ObjectKey;
+use std::ops::{Index, IndexMut};
+
+/// The member with this key has to be there. [`Value::get`] tests that.
+impl<K: ObjectKey, D: Literal> Index<&str> for Value<K, D> {
+    type Output = Value<K, D>;
+
+    ghost use Rattle.sj_owned.specs.Parts.{member_of};
+
+    ghost can_index = { λ v name. IsSome (member_of K.text v name.now) };
+
+    ghost index_gives = { λ v name found. member_of K.text v name.now ≡ Some found };
+
+    fn index(&self, name: &str) -> &Value<K, D> {
+        self.get(name).unwrap()
+    }
+}
+
+/// The member with this key has to be there. [`Value::get`] tests that.
+impl<K: ObjectKey, D: Literal> IndexMut<&str> for Value<K, D> {
+    ghost use Rattle.sj_owned.specs.Parts.{member_of};
+
+    fn index_mut(&mut self, name: &str) -> &mut Value<K, D>
+        requires { IsSome (member_of K.text self.old name.now) }
+        ensures { member_of K.text self.old name.now ≡ Some result.now }
+    {
+        self.get_mut(name).unwrap()
+    }
+}
+
+/// The item at this index has to be there. [`Value::get_idx`] tests that.
+impl<K: ObjectKey, D: Literal> Index<usize> for Value<K, D> {
+    type Output = Value<K, D>;
+
+    ghost use Rattle.sj_owned.specs.Parts.{item_of};
+
+    ghost can_index = { λ v index. IsSome (item_of v index) };
+
+    ghost index_gives = { λ v index found. item_of v index ≡ Some found };
+
+    fn index(&self, index: usize) -> &Value<K, D> {
+        self.get_idx(index).unwrap()
+    }
+}
+
+/// The item at this index has to be there. [`Value::get_idx`] tests that.
+impl<K: ObjectKey, D: Literal> IndexMut<usize> for Value<K, D> {
+    ghost use Rattle.sj_owned.specs.Parts.{item_of};
+
+    fn index_mut(&mut self, index: usize) -> &mut Value<K, D>
+        requires { IsSome (item_of self.old index) }
+        ensures { item_of self.old index ≡ Some result.now }
+    {
+        self.get_idx_mut(index).unwrap()
+    }
+}
+
+/// The default is a null.
+impl<K: ObjectKey, D: Literal> Default for Value<K, D> {
+    ghost use Rattle.sj_base.specs.declared.static_node.StaticNode.TheVariants.{Null};
+    ghost use Rattle.sj_owned.specs.declared.value.Value.{Static};
+
+    ghost is_default = { λ v. v ≡ Static Null };
+
+    fn default() -> Value<K, D> {
+        Value::null()
+    }
+}
