@@ -106,6 +106,7 @@ fn counted_run<I: Read + Drop, O: Write + Drop, L: Ledger, M: Ledger>(
     output: &mut O,
     script: &Script,
     depth: usize,
+    form: Form,
     reads: Blank,
     writes: Blank,
 ) -> Result<(), RunError>
@@ -114,7 +115,7 @@ fn counted_run<I: Read + Drop, O: Write + Drop, L: Ledger, M: Ledger>(
 {
     let mut source = Counted::<I, L>::new(input, reads);
     let mut sink = Counted::<&mut O, M>::new(output, writes);
-    let result = run(alloc, &mut source, &mut sink, script, depth, Form::Owned);
+    let result = run(alloc, &mut source, &mut sink, script, depth, form);
     let _ = source.into_inner();
     let _ = sink.into_inner();
     result
@@ -126,6 +127,7 @@ fn run_on<I: Read + Drop, O: Write + Drop>(
     output: &mut O,
     script: &Script,
     depth: usize,
+    form: Form,
 ) -> Result<(), RunError> {
     counted_run::<I, O, Brand, Brand>(
         alloc,
@@ -133,6 +135,7 @@ fn run_on<I: Read + Drop, O: Write + Drop>(
         output,
         script,
         depth,
+        form,
         Blank::new(4),
         Blank::new(4),
     )
@@ -143,7 +146,9 @@ fn script_of(alloc: Global, text: &str) -> Result<Script, ScriptFault> {
     Script::read(alloc, &mut bytes)
 }
 
-// Looks for what a script writes for a stream that comes in pieces of `step` bytes.
+const FORMS: [Form; 2] = [Form::Owned, Form::Borrowed];
+
+// Looks for what a script writes, in each form, for a stream that comes in pieces of `step` bytes.
 fn expect(
     rt: &impl Abort,
     alloc: Global,
@@ -154,11 +159,13 @@ fn expect(
     records: &str,
 ) {
     let script = script_of(alloc, script).expect(rt, "a script");
-    let mut output = Vec::new(alloc);
-    let input = Pieces::new(stream.as_bytes(), step);
-    let result = run_on(alloc, input, &mut output, &script, depth);
-    assert_eq!(rt; result, Ok(()));
-    assert_eq!(rt; output.as_slice(), records.as_bytes(), "{stream} by {step}");
+    for form in FORMS {
+        let mut output = Vec::new(alloc);
+        let input = Pieces::new(stream.as_bytes(), step);
+        let result = run_on(alloc, input, &mut output, &script, depth, form);
+        assert_eq!(rt; result, Ok(()));
+        assert_eq!(rt; output.as_slice(), records.as_bytes(), "{stream} by {step} in {form:?}");
+    }
 }
 
 // The two parts of a row of a table: a line, and what is wanted for it.
@@ -195,12 +202,14 @@ impl Stream {
     // Looks for the records under the empty script, where the lines come in pieces of `step` bytes.
     fn check(&self, rt: &impl Abort, alloc: Global, depth: usize, step: usize) {
         let script = script_of(alloc, "[]").expect(rt, "a script");
-        let mut output = Vec::new(alloc);
-        let input = Pieces::new(&self.bytes, step);
-        let result = run_on(alloc, input, &mut output, &script, depth);
-        assert_eq!(rt; result, Ok(()));
-        let written = std::str::from_utf8(&output);
-        assert_eq!(rt; written, Ok(self.records.as_str()), "by {step}");
+        for form in FORMS {
+            let mut output = Vec::new(alloc);
+            let input = Pieces::new(&self.bytes, step);
+            let result = run_on(alloc, input, &mut output, &script, depth, form);
+            assert_eq!(rt; result, Ok(()));
+            let written = std::str::from_utf8(&output);
+            assert_eq!(rt; written, Ok(self.records.as_str()), "by {step} in {form:?}");
+        }
     }
 }
 
@@ -413,7 +422,7 @@ fn failing_reader(rt: HostRuntime) {
         let mut input = Pieces::new(b"1\n2\n3", step);
         input.failure = Some(ErrorKind::Other);
         let mut output = Vec::new(rt.alloc());
-        let result = run_on(rt.alloc(), input, &mut output, &script, LIMIT);
+        let result = run_on(rt.alloc(), input, &mut output, &script, LIMIT, Form::Owned);
         assert_eq!(rt; result, Err(RunError::Read));
         assert_eq!(rt; output.as_slice(), BOTH.as_bytes());
     }
@@ -425,7 +434,7 @@ fn interrupted_reader(rt: HostRuntime) {
     let mut input = Pieces::new(b"1\n2", 1);
     input.is_cut = true;
     let mut output = Vec::new(rt.alloc());
-    let result = run_on(rt.alloc(), input, &mut output, &script, LIMIT);
+    let result = run_on(rt.alloc(), input, &mut output, &script, LIMIT, Form::Owned);
     assert_eq!(rt; result, Ok(()));
     assert_eq!(rt; output.as_slice(), BOTH.as_bytes());
 }
@@ -442,7 +451,7 @@ fn narrow_writer(rt: HostRuntime) {
                 refusal,
             };
             let input: &[u8] = b"1\r\n2";
-            let result = run_on(rt.alloc(), input, &mut output, &script, LIMIT);
+            let result = run_on(rt.alloc(), input, &mut output, &script, LIMIT, Form::Owned);
             let is_whole = room == BOTH.len();
             assert_eq!(rt; result.is_ok(), is_whole, "{refusal:?} at {room}");
             assert!(rt; is_whole || result == Err(RunError::Write));
