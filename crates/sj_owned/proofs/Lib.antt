@@ -1,5 +1,6 @@
 pub mod Layers
 pub mod Edits
+pub mod Writes
 pub mod Pieces
 pub mod Kept
 pub mod Placed

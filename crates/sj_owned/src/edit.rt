@@ -14,6 +14,8 @@ impl<K: ObjectKey, D: Literal> Value<K, D> {
 
     /// Puts the value in the place of the value of this key, which is returned. A new key goes last.
     ///
+    /// Replacing a value needs no memory.
+    ///
     /// # Errors
     ///
     /// `NotAnObject` if the value isn't an object, and then `Memory` if there is no memory for a new member. The document

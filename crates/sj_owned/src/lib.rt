@@ -13,6 +13,8 @@ mod index;
 mod lend;
 mod literal;
 pub mod owned;
+#[cfg(test)]
+mod tests;
 mod value;
 
 pub use build::build_value;
