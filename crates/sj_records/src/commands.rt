@@ -65,7 +65,10 @@ fn read_command(alloc: Global, document: &OwnedValue) -> Result<Command, ReadErr
 }
 
 /// Reads a command from its items, the name and then the arguments.
-fn read_command_items(alloc: Global, items: &[OwnedValue]) -> Result<Command, ReadError<CommandFault>>
+fn read_command_items(
+    alloc: Global,
+    items: &[OwnedValue],
+) -> Result<Command, ReadError<CommandFault>>
     ensures { GivesCommand command_view result (command_of (list (items_view items.now))) }
 {
     match items {
@@ -91,7 +94,10 @@ fn read_named_command(
 }
 
 /// Reads the commands of a script.
-pub(crate) fn read_commands(alloc: Global, document: &OwnedValue) -> Result<Vec<Command>, ScriptFault>
+pub(crate) fn read_commands(
+    alloc: Global,
+    document: &OwnedValue,
+) -> Result<Vec<Command>, ScriptFault>
     ensures { GivesScript (λ commands. commands_view commands.items) result
         (commands_of (document_tree document.now)) }
 {

@@ -84,7 +84,9 @@ fn put_record(
 {
     match task.form {
         Form::Owned => put_record_of::<String, DecimalBuf>(alloc, buffers, out, line, task),
-        Form::Borrowed => put_record_of::<CowStr<'_>, DecimalCow<'_>>(alloc, buffers, out, line, task),
+        Form::Borrowed => put_record_of::<CowStr<'_>, DecimalCow<'_>>(
+            alloc, buffers, out, line, task,
+        ),
     }
 }
 

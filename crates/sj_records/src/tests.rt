@@ -164,7 +164,11 @@ fn expect(
         let input = Pieces::new(stream.as_bytes(), step);
         let result = run_on(alloc, input, &mut output, &script, depth, form);
         assert_eq!(rt; result, Ok(()));
-        assert_eq!(rt; output.as_slice(), records.as_bytes(), "{stream} by {step} in {form:?}");
+        assert_eq!(rt;
+            output.as_slice(),
+            records.as_bytes(),
+            "{stream} by {step} in {form:?}"
+        );
     }
 }
 

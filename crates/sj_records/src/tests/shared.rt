@@ -6,8 +6,8 @@ use sj_base::{
     put_int, put_string, put_text,
 };
 use sj_reads::ValueAsScalar;
-use std::borrow::CowStr;
 use std::alloc::AllocError;
+use std::borrow::CowStr;
 use std::marker::Brand;
 use std::mem::size_of;
 use std::test::Fail;
