@@ -11,13 +11,13 @@ pub fn one_meaning()
     ensures { OneMeaning }
 {}
 
-/// The compact text and the indented text of a tree spell that tree.
+/// The compact text and the indented text of a valid tree spell that tree.
 pub fn printing_reads_back()
     ensures compact { PrintsBack text }
     ensures indented { PrintsBack pretty }
 {}
 
-/// Two trees have the same compact text exactly if they are equal, members in the same order.
+/// Two valid trees have the same compact text exactly if they are equal, members in the same order.
 pub fn one_text()
     ensures { OneText }
 {}
@@ -28,7 +28,7 @@ pub fn spelled()
     ensures utf8 { SpelledInUtf8 }
 {}
 
-/// Both texts of a tree are UTF-8, and the compact text has no byte below 0x20: it is one line.
+/// Both texts of a valid tree are UTF-8, and the compact text has no byte below 0x20: it is one line.
 pub fn printed_bytes()
     ensures compact { PrintsUtf8 text }
     ensures indented { PrintsUtf8 pretty }
@@ -48,7 +48,7 @@ pub fn keep_commutes()
     ensures put { KeepsPut }
 {}
 
-/// The parts of a kept tree are kept, and so is a kept tree after each edit.
+/// The parts of a kept tree are kept. A kept tree stays kept after an edit, if what is put in is kept.
 pub fn kept_edits()
     ensures parts { HoldsOfParts IsKept }
     ensures last { HoldsOfLast IsKept }
@@ -59,7 +59,8 @@ pub fn kept_edits()
     ensures popped { StaysWhenPopped IsKept }
 {}
 
-/// The parts of a valid tree are valid, and so is a valid tree after `keep` and after each edit.
+/// The parts of a valid tree are valid, and so is `keep` of it. A valid tree stays valid after an edit, if what is put in is
+/// valid and a new key is UTF-8.
 pub fn valid_edits()
     ensures kept { ValidWhenKept }
     ensures parts { HoldsOfParts IsValidTree }

@@ -12,7 +12,7 @@ pub fn hash_key(key: &str) -> u64
     })
 }
 
-/// The hasher of every object, with one fixed hash. Port of `simd_json::known_key::NotSoRandomState`.
+/// The fixed hash of keys. Port of `simd_json::known_key::NotSoRandomState`.
 #[derive(Clone, Copy, Debug, Default)]
 pub struct NotSoRandomState;
 

@@ -14,7 +14,7 @@ use std::mem;
 
 /// Pairs of a key and a value in insertion order, with no key twice.
 ///
-/// It stands in the place of the hash map of which `simd_json::owned::Object` and `simd_json::borrowed::Object` are made.
+/// It takes the place of the hash map in `simd_json::owned::Object` and `simd_json::borrowed::Object`.
 /// A key is found by comparing texts from the first pair on.
 #[derive(Debug, Drop)]
 pub struct Object<K: ObjectKey, V> {
@@ -82,7 +82,7 @@ impl<K: ObjectKey, V> Object<K, V> {
             .position(|entry| entry.key.as_text() == key)
     }
 
-    /// Returns the value of this key.
+    /// Returns the value of this key, or `None` if there is none.
     pub fn get(&self, key: &str) -> Option<&V>
         ensures { option_copied result ≡ value_at K.text self.now key.now }
     {
@@ -90,7 +90,7 @@ impl<K: ObjectKey, V> Object<K, V> {
         Some(&self.entries[at].value)
     }
 
-    /// Returns the value of this key for writing.
+    /// Returns the value of this key for writing, or `None` if there is none.
     pub fn get_mut(&mut self, key: &str) -> Option<&mut V>
         ensures* writes_back { sem 𝓛 (lends_value K.row V.row K.ObjectKey self.entry key.now result) }
         ensures value { option_copied_mut result ≡ value_at K.text self.old key.now }
@@ -117,7 +117,7 @@ impl<K: ObjectKey, V> Object<K, V> {
         self.get(key).is_some()
     }
 
-    /// Puts the value in the place of the value of this key, which is returned. A new key goes last.
+    /// Replaces the value of this key and returns the old one. A new key goes last, and the result is `None`.
     ///
     /// A key that is there stays as it is, and replacing its value needs no memory.
     ///
@@ -154,7 +154,7 @@ impl<K: ObjectKey, V> Object<K, V> {
         Ok(None)
     }
 
-    /// Removes the pair of this key and returns its value. The pairs after it close up.
+    /// Removes the pair of this key and returns its value, or `None` if there is none. The pairs after it close up.
     pub fn remove(&mut self, key: &str) -> Option<V>
     where
         K: Drop,

@@ -1,7 +1,7 @@
 //! Documents of tapes.
 //!
-//! A document is built from the last node of its tape to the first, so that a container finds its parts on a stack. Thus
-//! the depth of a text takes none of the machine's stack.
+//! A document is built from the last node of its tape to the first, so that a container finds its parts on a stack. So a
+//! deep text needs no recursion.
 ghost use Rattle.std.specs.Prelude.{◌≡◌, ◌∷◌, IfOk, OnOk, map, take, drop, ◌++◌};
 ghost use Rattle.sj_base.specs.Tree.{Tree, decimal, string, list, object};
 ghost use Rattle.sj_base.specs.Keep.{keep};

@@ -12,13 +12,13 @@ impl<K: ObjectKey, D: Literal> Value<K, D> {
     ghost use Rattle.sj_owned.specs.Parts.{member_of};
     ghost use Rattle.sj_owned.specs.Edits.{with_member, without_member, with_item, without_last, refusal, last_of, before_last};
 
-    /// Puts the value in the place of the value of this key, which is returned. A new key goes last.
+    /// Replaces the value of this key and returns the old one. A new key goes last, and the result is `None`.
     ///
     /// Replacing a value needs no memory.
     ///
     /// # Errors
     ///
-    /// `NotAnObject` if the value isn't an object, and then `Memory` if there is no memory for a new member. The document
+    /// `NotAnObject` if the value isn't an object. Otherwise `Memory` if there is no memory for a new member. The document
     /// is unchanged, and the key and the value are dropped.
     pub fn insert(&mut self, key: K, value: Value<K, D>) -> Result<Option<Value<K, D>>, AccessError>
     where

@@ -85,14 +85,35 @@ fn owned_insert_remove(rt: HostRuntime) -> Result<(), Fail> {
     assert_eq!(rt; old.ok_or("no key")?.as_u64(), Some(1));
     v.get("key").ok_or("no key")?;
     v["key"] = number(3);
-    v.get("key").ok_or("no key")?;
-    write_member(&mut v, "key", number(4));
-    assert_eq!(rt; v.remove("key")?.ok_or("no key")?.as_u64(), Some(4));
+    assert_eq!(rt; v.remove("key")?.ok_or("no key")?.as_u64(), Some(3));
     assert!(rt; v.remove("key")?.is_none());
     let mut null = Value::null();
     let refused = null.insert(String::from_str(alloc, "key")?, number(1));
     assert_eq!(rt; refused.err(), Some(AccessError::NotAnObject));
     assert_eq!(rt; null.push(number(1)).err(), Some(AccessError::NotAnArray));
+    Ok(())
+}
+
+#[test]
+fn written_member(rt: HostRuntime) -> Result<(), Fail> {
+    let alloc = rt.alloc();
+    let mut v = sample(alloc)?;
+    v.get("n").ok_or("no member")?;
+    write_member(&mut v, "n", number(4));
+    assert_eq!(rt; v.get_u64("n"), Some(4));
+    Ok(())
+}
+
+#[test]
+fn room_and_lines(rt: HostRuntime) -> Result<(), Fail> {
+    let alloc = rt.alloc();
+    let mut items = Value::array_with_capacity(alloc, 1)?;
+    items.push(number(1))?;
+    let mut v = Value::object_with_capacity(alloc, 1)?;
+    v.insert(String::from_str(alloc, "a")?, items)?;
+    let mut out = b"> ".to_vec(alloc)?;
+    v.encode_pp(&mut out)?;
+    assert_eq!(rt; out.as_slice(), "> {\n  \"a\": [\n    1\n  ]\n}".as_bytes());
     Ok(())
 }
 

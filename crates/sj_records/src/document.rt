@@ -40,7 +40,7 @@ fn find_part<'d, K: ObjectKey, D: Literal>(
     }
 }
 
-/// Appends a comma before each element but the first.
+/// Appends a comma unless `place` is 0.
 pub(crate) fn put_comma(place: usize, out: &mut Vec<u8>) -> Result<(), AllocError>
     ensures { OnOk result (out.new.items ≡ out.old.items ++ comma place) }
 {

@@ -110,7 +110,7 @@ fn put_record_of<'de, K: MakeKey<'de> + Drop, D: MakeLiteral<'de> + Drop>(
     }
 }
 
-/// The most positions for which room is kept from one line to the next.
+/// The most positions of a line after which the room for positions is kept.
 const KEPT_POSITIONS: usize = 1 << 20;
 
 /// Gives back the room of a long line, which is needed no longer once the line was read.
