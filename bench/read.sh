@@ -4,8 +4,8 @@
 #     bench/read.sh FOLDER
 #
 # The files are those of FOLDER: NAME.json as one document, and NAME.jsonl as one a line. The contestants take turns, a file
-# after the other, and the least time of each counts. `read_bench` and the kit's `json` are built for each level of the
-# processor, simdjson once. Settings are taken from the environment:
+# after the other, and the least time of each counts. `read_bench` and the kit's `json` and `serde_json` are built for each
+# level of the processor, simdjson once. Settings are taken from the environment:
 #
 #     ROUNDS=15         how many turns each contestant has at each file
 #     MILLISECONDS=200  for how long it makes passes in a turn
@@ -35,12 +35,12 @@ build_read_bench() { # build_read_bench LEVEL
     cd "$top/crates/read_bench" && rt run --cpu="$1" -- --help && cp out/read_bench "$work/read_bench-$1"
 }
 
-# A repository of its own, in which the peer is the only crate.
+# A repository of its own, in which the peers are the only crate.
 build_json() { # build_json LEVEL
     mkdir -p "$work/port/crates/read_json/src"
     cp "$top/bench/read_json.rattle" "$work/port/crates/read_json/src/main.rt"
     cd "$work/port"
-    echo 'read_json: json simdutf8 anyhow' > crates.txt
+    echo 'read_json: json serde_json simdutf8 anyhow' > crates.txt
     cd crates/read_json
     echo '[]' > "$work/empty.json"
     rt run --cpu="$1" -- tape "$work/empty.json" 0 && cp out/read_json "$work/json-$1"
@@ -61,7 +61,7 @@ build() { # build FILE COMMAND..
 
 # The rows of the tables, each as PROGRAM KIND. Of simdjson there is one with its kernel for AVX2, named haswell, and one
 # with the kernel that it chooses.
-rows=("read_bench tape" "read_bench plain" "json tape" "simdjson-haswell tape" "simdjson tape" "read_bench scan" "read_bench print" "simdjson-haswell print" "simdjson print")
+rows=("read_bench tape" "read_bench plain" "json tape" "simdjson-haswell tape" "simdjson tape" "read_bench owned" "read_bench borrowed" "serde_json value" "read_bench scan" "read_bench print" "simdjson-haswell print" "simdjson print")
 
 # Prints a contestant as PROGRAM KIND: a program that is built for each level has the level in its name.
 at_level() { # at_level LEVEL PROGRAM KIND
@@ -74,6 +74,7 @@ at_level() { # at_level LEVEL PROGRAM KIND
 # Sets `command` to the words that run a contestant.
 choose() { # choose PROGRAM KIND FILE
     case $1 in
+        serde_json-*) command=("$work/${1#serde_}") ;;
         simdjson-*) command=(env SIMDJSON_FORCE_IMPLEMENTATION="${1#simdjson-}" "$work/simdjson") ;;
         *) command=("$work/$1") ;;
     esac
@@ -121,10 +122,10 @@ rates() { # rates LEVEL PROGRAM KIND
     row "$2 $3" %.0f "${cells[@]}"
 }
 
-# A tape by another scan is compared with simdjson's tape.
+# A tape by another scan, and a document, are compared with simdjson's tape.
 ratios() { # ratios LEVEL PROGRAM KIND
     local contestant name peer=$3 cells=()
-    if [ "$peer" = plain ]; then peer=tape; fi
+    if [ "$peer" != print ]; then peer=tape; fi
     contestant=$(at_level "$@")
     for name in "${names[@]}"; do cells+=("${least[$contestant $name]}" "${least[simdjson-haswell $peer $name]}"); done
     row "$2 $3" %.2f "${cells[@]}"

@@ -1,11 +1,15 @@
 -- The text of a tape, with a document and without.
-use Rattle.std.proofs.Common.{◌≡◌, [], Some, refl}
+use Rattle.std.proofs.Common.{◌≡◌, [], None, Some, refl}
 use Rattle.sj_base.specs.Text.{text}
 use Rattle.sj_base.specs.Tree.{Tree}
 use Rattle.sj_tape.specs.Listed.{listed_tree}
 use Rattle.sj_tape.specs.Views.{tape_nodes, tape_tree}
 use Rattle.sj_tape.specs.declared.tape.Tape.{Tape}
 use Rattle.read_bench.specs.Printed.{text_of}
+
+pub tree-empty : (tape : Tape) → tape_nodes tape ≡ [] → tape_tree tape ≡ None
+unfolding listed_tree
+tree-empty tape e = rw e refl
 
 pub text_of-empty : (tape : Tape) → tape_nodes tape ≡ [] → text_of tape ≡ []
 unfolding text_of listed_tree

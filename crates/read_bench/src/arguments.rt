@@ -10,7 +10,9 @@ const ABOUT: &str =
     "Times the reading or the printing of JSON, and prints the median and the least time of a pass in nanoseconds, and the number of documents refused";
 
 /// The words of the kinds.
-const KINDS: [&str; 5] = ["tape", "plain", "scan", "print", "compare"];
+const KINDS: [&str; 7] = [
+    "tape", "plain", "owned", "borrowed", "scan", "print", "compare",
+];
 
 /// What a pass does with each document.
 #[derive(Clone, Copy, Debug, PartialEq, Eq)]
@@ -19,6 +21,10 @@ pub enum Kind {
     Tape,
     /// Reads it into a tape, with the scan byte by byte.
     Plain,
+    /// Reads it into a tape, and builds a document of it that owns its texts.
+    Owned,
+    /// Reads it into a tape, and builds a document of it that borrows its texts.
+    Borrowed,
     /// Finds its positions, which is stage one of reading, by the scan that `sj_parse` uses.
     Scan,
     /// Prints its tape, which was read before.
@@ -42,6 +48,8 @@ impl FromStr for Kind {
         match word {
             "tape" => Ok(Kind::Tape),
             "plain" => Ok(Kind::Plain),
+            "owned" => Ok(Kind::Owned),
+            "borrowed" => Ok(Kind::Borrowed),
             "scan" => Ok(Kind::Scan),
             "print" => Ok(Kind::Print),
             "compare" => Ok(Kind::Compare),

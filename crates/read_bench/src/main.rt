@@ -5,6 +5,7 @@
 #![tactic(auto)]
 
 mod arguments;
+mod build;
 mod cuts;
 mod documents;
 mod measure;

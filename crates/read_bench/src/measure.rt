@@ -3,6 +3,7 @@ ghost use Rattle.std.specs.Prelude.{◌≡◌, IfOk};
 ghost use Rattle.read_bench.specs.Refused.{refused_by};
 
 use crate::arguments::Kind;
+use crate::build::{DocumentPass, Form};
 use crate::cuts::ComparePass;
 use crate::passes::{Pass, PrintPass, ScanPass, TapePass};
 use crate::stats::Stats;
@@ -48,6 +49,18 @@ pub fn measure<R: Clock>(
             rt,
             alloc,
             &mut TapePass::new(alloc, documents, PlainScan)?,
+            duration,
+        ),
+        Kind::Owned => repeat(
+            rt,
+            alloc,
+            &mut DocumentPass::new(alloc, documents, Form::Owned)?,
+            duration,
+        ),
+        Kind::Borrowed => repeat(
+            rt,
+            alloc,
+            &mut DocumentPass::new(alloc, documents, Form::Borrowed)?,
             duration,
         ),
         Kind::Scan => repeat(rt, alloc, &mut ScanPass::new(alloc, documents), duration),

@@ -185,7 +185,7 @@ fn read_all<S: Stage1>(
 }
 
 /// Reads a document into the tape, and returns `true` if it is refused. The tape is empty then.
-fn is_refused<'de, S: Stage1>(
+pub(crate) fn is_refused<'de, S: Stage1>(
     scanner: &mut S,
     document: &'de mut [u8],
     buffers: &mut Buffers,

@@ -86,6 +86,8 @@ fn runs(rt: HostRuntime) -> Result<(), Fail> {
     for (kind, refused) in [
         (Kind::Tape, 2),
         (Kind::Plain, 2),
+        (Kind::Owned, 2),
+        (Kind::Borrowed, 2),
         (Kind::Scan, 1),
         (Kind::Print, 2),
         (Kind::Compare, 0),

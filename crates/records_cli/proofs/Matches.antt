@@ -1,36 +1,19 @@
--- The script that a parse of the program's words gives, and the kind of its error.
-use Rattle.std.proofs.Common.{◌≡◌, ℕ, Bool, true, false, cond, List, [], ◌∷◌, Option, Some, codes, map, option_map, refl, sym, ap, ◌∙◌}
-use Rattle.std.specs.Prelude.{option_and_then, find, slice_get, bytes_eq}
-use Rattle.std.proofs.lemmas.Option.{slice_get-map}
-use Rattle.clap.specs.Facts.{Entry}
-use Rattle.clap.specs.Words.{App, first_value, found_of, fault_of, is_simple_and_free, HasMatchesOf}
-use Rattle.clap.specs.Walk.{Row, row_of}
+-- What a parse of the program's words gives, and the kind of its error.
+use Rattle.std.proofs.Common.{◌≡◌, ℕ, List, Option, Some, None, Result, Ok, Err, true, codes, option_map, refl, sym, ◌∙◌}
+use Rattle.std.specs.Prelude.{option_and_then}
+use Rattle.std.specs.Borrow.{Bor}
+use Rattle.std.specs.Str.Parse.{ParsesUnsigned}
+use Rattle.clap.specs.Words.{App, first_of, first_value, found_of, rows_of, fault_of, is_simple_and_free, HasMatchesOf}
 use Rattle.clap.specs.declared.parser.matches.ArgMatches.{ArgMatches}
-use Rattle.records_cli.specs.Arguments.{app, script_in, script_of, kinds_of}
+use Rattle.clap.specs.declared.parser.matches.Found.{Found}
+use Rattle.clap.specs.Walk.{Row}
+use Rattle.clap.proofs.WalkLemmas.{first_value-rows}
+use Rattle.records_cli.specs.Arguments.{Hold, IsNumber, app, form_named, kinds_of, rows_in}
+use Rattle.records_cli.specs.declared.arguments.RunArguments.{RunArguments}
 
-abbrev is_script : Entry → Bool
-is_script e = bytes_eq e.0.now (codes "SCRIPT")
-
--- the first value of an entry
-abbrev value_of : Option Entry → Option (List ℕ)
-value_of o = option_and_then (λ a. option_map (λ s. s.now) (slice_get a.vals.items 0)) (option_map (λ e. e.1) o)
-
--- and of a row
-abbrev row_value : Option Row → Option (List ℕ)
-row_value o = option_and_then (λ row. slice_get row.values 0) o
-
-step : (b : Bool) (e : Entry) (found : Option Entry) (row : Option Row) → value_of found ≡ row_value row → value_of (cond b (Some e) found) ≡ row_value (cond b (Some (row_of e)) row)
-step true e found row h = sym (slice_get-map (λ s. s.now) e.1.vals.items 0)
-step false e found row h = h
-
--- the first value of SCRIPT, among entries and among their rows
-script_in-rows : (es : List Entry) → value_of (find is_script es) ≡ script_in (map row_of es)
-script_in-rows [] = refl
-script_in-rows (e ∷ es) = step (is_script e) e (find is_script es) (find (λ row. bytes_eq row.id (codes "SCRIPT")) (map row_of es)) (script_in-rows es)
-
-pub script_of-parse : (a : App) (words : List (List ℕ)) (m : ArgMatches) → a ≡ app → HasMatchesOf a words m → first_value (found_of m) (codes "SCRIPT") ≡ script_of words
-unfolding script_of
-script_of-parse a words m e h = script_in-rows (found_of m).entries.items ∙ ap script_in ((rw e at h) refl).0
+pub rows_in-parse : (a : App) (words : List (List ℕ)) (m : ArgMatches) → a ≡ app → HasMatchesOf a words m → rows_of (found_of m) ≡ rows_in words
+unfolding rows_in
+rows_in-parse a words m e h = ((rw e at h) refl).0
 
 pub app-free : (a : App) → a ≡ app → is_simple_and_free a ≡ true
 app-free a e = rw e refl
@@ -38,3 +21,36 @@ app-free a e = rw e refl
 pub kinds_of-app : (a : App) (words : List (List ℕ)) → a ≡ app → fault_of a words ≡ kinds_of words
 unfolding kinds_of
 kinds_of-app a words e = rw e refl
+
+-- the value of an argument, by the rows
+pub value-some : (f : Found) (id : List ℕ) (o : Option (Bor (List ℕ))) (s : Bor (List ℕ)) → option_map (λ s. s.now) o ≡ first_value f id → o ≡ Some s → first_of id (rows_of f) ≡ Some s.now
+value-some f id o s reads is = sym (rw is at (reads ∙ first_value-rows f id))
+
+pub value-none : (f : Found) (id : List ℕ) (o : Option (Bor (List ℕ))) → option_map (λ s. s.now) o ≡ first_value f id → o ≡ None → first_of id (rows_of f) ≡ None
+value-none f id o reads is = sym (rw is at (reads ∙ first_value-rows f id))
+
+-- a text is a number exactly where it is parsed
+pub parsed-number : {E : Type 0} (text : List ℕ) (n : ℕ) (r : Result ℕ E) → ParsesUnsigned 64 10 text r → r ≡ Ok n → IsNumber text n
+parsed-number text n (Ok m) parses is =
+    let same : m ≡ n = cc in
+    (parses.0.0, sym parses.1 ∙ same, rw (← same, parses.1) parses.0.1)
+parsed-number text n (Err e) parses is = absurd cc
+
+pub refused-number : {E : Type 0} (text : List ℕ) (n : ℕ) (e : E) (r : Result ℕ E) → ParsesUnsigned 64 10 text r → r ≡ Err e → IsNumber text n → ⊥
+refused-number text n e (Ok m) parses is number = absurd cc
+refused-number text n e (Err f) parses is number = parses (number.0, rw number.1 number.2)
+
+-- no run has values that aren't there, or that name no form
+pub no-script : (rows : List Row) (run : RunArguments) → first_of (codes "SCRIPT") rows ≡ None → Hold rows run → ⊥
+no-script rows run none h = let some = h.0 in absurd cc
+
+pub no-form : (rows : List Row) (run : RunArguments) → option_and_then form_named (first_of (codes "form") rows) ≡ None → Hold rows run → ⊥
+no-form rows run none h = let some = h.1 in absurd cc
+
+pub no-depth : (rows : List Row) (run : RunArguments) → first_of (codes "depth") rows ≡ None → Hold rows run → ⊥
+no-depth rows run none h = let some = h.2.1 in absurd cc
+
+pub no-number : {E : Type 0} (rows : List Row) (run : RunArguments) (text : List ℕ) (e : E) (r : Result ℕ E) → first_of (codes "depth") rows ≡ Some text → ParsesUnsigned 64 10 text r → r ≡ Err e → Hold rows run → ⊥
+no-number rows run text e r is parses refused h =
+    let same : h.2.0 ≡ text = let some = h.2.1 in cc in
+    refused-number text run.depth e r parses refused (rw same at h.2.2)

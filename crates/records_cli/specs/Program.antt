@@ -1,5 +1,5 @@
 -- What stands when the program ends: on its output, and on `faults`.
-use Rattle.std.specs.Prelude.{◌≡◌, ◌≢◌, ◌⊎◌, ℕ, List, [], Option, Some, Result, Ok, Err, OnOk, Vec, ⊤}
+use Rattle.std.specs.Prelude.{◌≡◌, ◌≢◌, ◌⊎◌, ℕ, List, [], Option, Result, Ok, Err, OnOk, Vec, ⊤}
 use Rattle.std.specs.Io.KnownBytes.{Appends, IsAtEnd, Keeps}
 use Rattle.std.specs.declared.alloc.Global.{Global}
 use Rattle.sj_base.specs.Calls.{Calls}
@@ -8,25 +8,17 @@ use Rattle.sj_records.specs.Command.{Step}
 use Rattle.sj_records.specs.Step.{Job}
 use Rattle.sj_records.specs.Record.{IsOutput}
 use Rattle.sj_records.specs.Run.{Transfers, Leaves, RecordsOfSome, RecordsOfEnded, RecordsPrefix}
-use Rattle.sj_records.specs.Script.{IsReadAs, IsRefusedAs}
-use Rattle.sj_records.specs.declared.form.Form.TheVariants.{Owned}
+use Rattle.sj_records.specs.Script.{IsReadAs, IsRefusedAs, keeping_of}
 use Rattle.sj_records.specs.declared.run_error.RunError.{RunError}
 use Rattle.sj_records.specs.declared.script.ScriptFault.{ScriptFault}
 use Rattle.sj_records.specs.declared.script.ScriptFault.TheVariants.{Memory as NoMemory}
-use Rattle.records_cli.specs.Arguments.{AreArguments, AskForHelp, AreRefused, script_of}
+use Rattle.records_cli.specs.Arguments.{AskForRun, AskForHelp, AreRefused}
 use Rattle.records_cli.specs.Fault.{line_of, refusal_line}
+use Rattle.records_cli.specs.declared.arguments.RunArguments.{RunArguments}
 use Rattle.records_cli.specs.declared.load.LoadFault.TheVariants.{Unreadable as NoFile}
 use Rattle.records_cli.specs.declared.load.LoadFault.{LoadFault}
 use Rattle.records_cli.specs.declared.fault.Fault.{Fault}
 use Rattle.records_cli.specs.declared.fault.Fault.TheVariants.{Memory, Read, Write, Arguments, Unreadable, Script}
-
--- the most levels that a document nests
-abbrev pub allowed_depth : ℕ
-allowed_depth = 1024
-
--- the script on documents that own their texts
-abbrev pub owned : List Step → Job
-owned script = record { script = script; limit = allowed_depth; form = Owned }
 
 -- ---- a run
 
@@ -35,35 +27,39 @@ abbrev pub ReadsAndWrites : Option (List ℕ) → Option (List ℕ) → Option (
 ReadsAndWrites unread held_old held_new result P =
     (left : Option (List ℕ)) × Transfers unread left held_old held_new P × OnOk result (IsAtEnd left)
 
--- What a run of the script leaves.
-abbrev pub RunLeaves : Option (List ℕ) → Option (List ℕ) → Option (List ℕ) → List Step → Result Unit RunError → Type 0
-RunLeaves unread held_old held_new script result = ReadsAndWrites unread held_old held_new result (Leaves result (owned script))
+-- What a run leaves.
+abbrev pub RunLeaves : Option (List ℕ) → Option (List ℕ) → Option (List ℕ) → Job → Result Unit RunError → Type 0
+RunLeaves unread held_old held_new job result = ReadsAndWrites unread held_old held_new result (Leaves result job)
 
 -- What a run leaves, by the fault that it ends the program with. A flush that fails is a failed write.
-abbrev pub WrittenBy : Result Unit Fault → List Step → List ℕ → List ℕ → Type 0
-WrittenBy (Ok done) script input output = IsOutput (owned script) input output
-WrittenBy (Err Memory) script input output = RecordsOfSome (owned script) input output
-WrittenBy (Err Read) script input output = RecordsOfEnded (owned script) input output
-WrittenBy (Err Write) script input output = RecordsPrefix (owned script) input output
-WrittenBy (Err (Arguments text)) script input output = ⊥
-WrittenBy (Err Unreadable) script input output = ⊥
-WrittenBy (Err (Script line)) script input output = ⊥
+abbrev pub WrittenBy : Result Unit Fault → Job → List ℕ → List ℕ → Type 0
+WrittenBy (Ok done) job input output = IsOutput job input output
+WrittenBy (Err Memory) job input output = RecordsOfSome job input output
+WrittenBy (Err Read) job input output = RecordsOfEnded job input output
+WrittenBy (Err Write) job input output = RecordsPrefix job input output
+WrittenBy (Err (Arguments text)) job input output = ⊥
+WrittenBy (Err Unreadable) job input output = ⊥
+WrittenBy (Err (Script line)) job input output = ⊥
 
-abbrev pub RunEnds : Option (List ℕ) → Option (List ℕ) → Option (List ℕ) → List Step → Result Unit Fault → Type 0
-RunEnds unread held_old held_new script ended = ReadsAndWrites unread held_old held_new ended (WrittenBy ended script)
+abbrev pub RunEnds : Option (List ℕ) → Option (List ℕ) → Option (List ℕ) → Job → Result Unit Fault → Type 0
+RunEnds unread held_old held_new job ended = ReadsAndWrites unread held_old held_new ended (WrittenBy ended job)
 
 -- ---- the script; `loads` says what loading the file of a name gives
 
 abbrev pub Loads : Type 1
 Loads = List ℕ → Result (Vec ℕ Global) LoadFault → Type 0
 
--- The words name a script, and loading it gave that.
-abbrev pub GivesScript : Loads → List (List ℕ) → Result (Vec ℕ Global) LoadFault → Type 0
-GivesScript loads words loaded = AreArguments words × ((name : List ℕ) × (script_of words ≡ Some name) × loads name loaded)
+-- The words ask for this run, and loading its script gave that.
+abbrev pub GivesScript : Loads → List (List ℕ) → RunArguments → Result (Vec ℕ Global) LoadFault → Type 0
+GivesScript loads words run loaded = AskForRun words run × loads run.script.now loaded
 
--- The script that the words name has these commands.
-abbrev pub HasCommands : Loads → List (List ℕ) → List Step → Type 0
-HasCommands loads words script = (bytes : Vec ℕ Global) × GivesScript loads words (Ok bytes) × IsReadAs bytes.items (Ok script)
+-- The words ask for this run, and its script has these commands.
+abbrev pub HasCommands : Loads → List (List ℕ) → RunArguments → List Step → Type 0
+HasCommands loads words run script = (bytes : Vec ℕ Global) × GivesScript loads words run (Ok bytes) × IsReadAs bytes.items (Ok script)
+
+-- what the run does to each line
+abbrev pub job_of : RunArguments → List Step → Job
+job_of run script = record { script = script; limit = run.depth; keeping = keeping_of run.form }
 
 -- The bytes are refused as a script with this line.
 abbrev pub IsRefusedWith : List ℕ → List ℕ → Type 0
@@ -78,15 +74,16 @@ RefusesBytes bytes Write = ⊥
 RefusesBytes bytes (Arguments text) = ⊥
 RefusesBytes bytes Unreadable = ⊥
 
--- The script that the words name is refused with this line.
+-- The words ask for a run whose script is refused with this line.
 abbrev pub HasRefusal : Loads → List (List ℕ) → List ℕ → Type 0
-HasRefusal loads words line = (bytes : Vec ℕ Global) × GivesScript loads words (Ok bytes) × IsRefusedWith line bytes.items
+HasRefusal loads words line = (run : RunArguments) × (bytes : Vec ℕ Global) × GivesScript loads words run (Ok bytes) × IsRefusedWith line bytes.items
 
 -- ---- the program
 
--- The script that the words name ran, and ended so.
+-- The run that the words ask for ended so.
 abbrev pub Ran : Loads → List (List ℕ) → Option (List ℕ) → Option (List ℕ) → Option (List ℕ) → Result Unit Fault → Type 0
-Ran loads words unread held_old held_new ended = (script : List Step) × HasCommands loads words script × RunEnds unread held_old held_new script ended
+Ran loads words unread held_old held_new ended =
+    (run : RunArguments) × (script : List Step) × HasCommands loads words run script × RunEnds unread held_old held_new (job_of run script) ended
 
 -- The words ask for the help, and it was written, or a prefix of it. Its text is that of `clap`.
 abbrev pub HelpWritten : List (List ℕ) → Option (List ℕ) → Option (List ℕ) → Type 0
@@ -102,7 +99,7 @@ ProgramLeaves loads words unread held_old held_new (Err Memory) = Ran loads word
 ProgramLeaves loads words unread held_old held_new (Err Read) = Ran loads words unread held_old held_new (Err Read)
 ProgramLeaves loads words unread held_old held_new (Err Write) = Ran loads words unread held_old held_new (Err Write) ⊎ HelpBegun words held_old held_new
 ProgramLeaves loads words unread held_old held_new (Err (Arguments text)) = AreRefused words × Keeps held_old held_new
-ProgramLeaves loads words unread held_old held_new (Err Unreadable) = GivesScript loads words (Err NoFile) × Keeps held_old held_new
+ProgramLeaves loads words unread held_old held_new (Err Unreadable) = ((run : RunArguments) × GivesScript loads words run (Err NoFile)) × Keeps held_old held_new
 ProgramLeaves loads words unread held_old held_new (Err (Script line)) = HasRefusal loads words line.items × Keeps held_old held_new
 
 -- What the program leaves on `faults`, by its end: the line of the fault, or a prefix of it before a write that failed,

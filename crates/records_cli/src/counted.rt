@@ -3,10 +3,11 @@ ghost use Rattle.std.specs.Prelude.{◌≡◌, ℕ, OnErr, OnOk};
 ghost use Rattle.std.specs.Io.KnownBytes.{Appends};
 ghost use Rattle.sj_base.specs.Output.{AppendsPrefix};
 ghost use Rattle.sj_records.specs.Script.{steps_of};
-ghost use Rattle.records_cli.specs.Program.{RunLeaves};
+ghost use Rattle.records_cli.specs.Program.{RunLeaves, job_of};
 
-use sj_base::{Counted, DEFAULT_MAX_DEPTH, Output, WriteFault};
-use sj_records::{Form, RunError, Script, run};
+use crate::arguments::RunArguments;
+use sj_base::{Counted, Output, WriteFault};
+use sj_records::{RunError, Script, run};
 use std::alloc::Global;
 use std::io;
 use std::io::{Read, Write};
@@ -43,13 +44,14 @@ impl<O: Write, N: Named> Write for Lent<'_, O, N> {
     }
 }
 
-/// Runs the script on the input, and returns the output. The blanks open the counts of reads and writes that `run`
+/// Runs the script on the input as the arguments ask, and returns the output. The blanks open the counts of reads and writes that `run`
 /// needs.
 pub fn run_counted<'a, I: Read + Drop, O: Write, L: Ledger, M: Ledger, N: Named>(
     alloc: Global,
     input: I,
     output: &'a mut O,
     script: &Script,
+    arguments: RunArguments<'_>,
     reads: Blank,
     writes: Blank,
 ) -> (Result<(), RunError>, &'a mut O)
@@ -57,7 +59,7 @@ pub fn run_counted<'a, I: Read + Drop, O: Write, L: Ledger, M: Ledger, N: Named>
     requires writes { (writes.name ≡ M.name) × (writes.parts ≡ M.parts) × (writes.parts ≡ 4) }
     requires output { output.ghost_name ≡ N.name }
     ensures same_reference { result.1.ghost_name ≡ output.entry.ghost_name }
-    ensures stands { RunLeaves (I.remaining input) (O.contents output.old) (O.contents result.1.now) (steps_of script.now) result.0 }
+    ensures stands { RunLeaves (I.remaining input) (O.contents output.old) (O.contents result.1.now) (job_of arguments.entry (steps_of script.now)) result.0 }
 {
     let mut source = Counted::<I, L>::new(input, reads);
     let lent = Lent::<'a, O, N> {
@@ -70,8 +72,8 @@ pub fn run_counted<'a, I: Read + Drop, O: Write, L: Ledger, M: Ledger, N: Named>
         &mut source,
         &mut sink,
         script,
-        DEFAULT_MAX_DEPTH,
-        Form::Owned,
+        arguments.depth,
+        arguments.form,
     );
     let _ = source.into_inner();
     let Lent { output, of: _ } = sink.into_inner();

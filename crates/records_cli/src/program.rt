@@ -5,10 +5,10 @@ ghost use Rattle.std.specs.Io.KnownBytes.{Appends, Keeps};
 ghost use Rattle.sj_base.specs.Output.{AppendsPrefix};
 ghost use Rattle.sj_records.specs.Script.{IsReadAs, steps_of};
 ghost use Rattle.records_cli.specs.Fault.{exit_status, refusal_line, status_of};
-ghost use Rattle.records_cli.specs.Program.{ProgramLeaves, Reports, RunEnds, RefusesBytes};
+ghost use Rattle.records_cli.specs.Program.{ProgramLeaves, Reports, RunEnds, RefusesBytes, job_of};
 ghost use Rattle.records_cli.specs.declared.fault.Fault.{Fault};
 
-use crate::arguments::{Arguments, parse_arguments};
+use crate::arguments::{Arguments, RunArguments, parse_arguments};
 use crate::counted::{put_counted, run_counted};
 use crate::fault::Fault;
 use crate::load::LoadFault;
@@ -72,13 +72,13 @@ where
     requires { L.IsAlwaysCallable load }
     ensures { ProgramLeaves (FnOnceReturnsAt L.FnOnce load) (map S.text words.now) (I.remaining input) (O.contents output.old) (O.contents output.new) result }
 {
-    let name = match parse_arguments(alloc, words)? {
-        Arguments::Run(name) => name,
+    let arguments = match parse_arguments(alloc, words)? {
+        Arguments::Run(arguments) => arguments,
         Arguments::Help(help) => return print_help(output, help.as_str()),
     };
-    let mut bytes = load(name)?;
+    let mut bytes = load(arguments.script)?;
     let script = read_script(alloc, &mut bytes)?;
-    run_script(alloc, input, output, &script)
+    run_script(alloc, input, output, &script, arguments)
 }
 
 /// Writes the help, and flushes the output. A prefix of the help is written before an error.
@@ -133,15 +133,17 @@ fn run_script<I: Read + Drop, O: Write>(
     input: I,
     output: &mut O,
     script: &Script,
+    arguments: RunArguments<'_>,
 ) -> Result<(), Fault>
     ensures status { IfErr result (λ f. status_of f ≡ 1) }
-    ensures stands { RunEnds (I.remaining input) (O.contents output.old) (O.contents output.new) (steps_of script.now) result }
+    ensures stands { RunEnds (I.remaining input) (O.contents output.old) (O.contents output.new) (job_of arguments.entry (steps_of script.now)) result }
 {
     let (ran, output) = run_counted::<I, O, Brand, Brand, Brand>(
         alloc,
         input,
         output,
         script,
+        arguments,
         Blank::new(4),
         Blank::new(4),
     );

@@ -1,5 +1,7 @@
 //! What no clause says: the texts of `clap`, that a run with enough memory ends well, which fault comes first, and that
 //! the output is flushed.
+mod cookbook;
+
 ghost use Rattle.std.specs.Prelude.{◌≡◌};
 
 use crate::load::{LoadFault, read_rest};
@@ -16,13 +18,29 @@ use std::test::Fail;
 const HELP: &str = "\
 Runs a script on each JSON line of standard input, and writes a record for it
 
-Usage: records <SCRIPT>
+Usage: records [OPTIONS] <SCRIPT>
 
 Arguments:
   <SCRIPT>  The file with the script, an array of commands
 
 Options:
-  -h, --help  Print help
+      --form <FORM>     The form of each document: owned, borrowed or lazy [default: owned]
+      --depth <LEVELS>  The most levels that a document nests, from 0 to 1024 [default: 1024]
+  -h, --help            Print help
+
+Commands of a script:
+  [\"get\", PATH]                 [value], or [] where PATH selects nothing
+  [\"contains\", PATH, KEY]       whether the object has the key
+  [\"type\", PATH]                null, bool, integer, decimal, string, array or object
+  [\"len\", PATH]                 the number of items or members
+  [\"keys\", PATH]                the keys of the object, in order
+  [\"insert\", PATH, KEY, VALUE]  sets a member; [old value], or [] for a new key
+  [\"remove\", PATH, KEY]         removes a member; [old value], or []
+  [\"push\", PATH, VALUE]         appends an item; []
+  [\"pop\", PATH]                 removes the last item; [item], or []
+  [\"set\", PATH, VALUE]          replaces the value; [old value]
+
+PATH is an array of keys and of indexes from 0; [] is the whole document.
 ";
 
 const NO_SCRIPT: &str = "\
@@ -30,6 +48,21 @@ error: the following required arguments were not provided:
   <SCRIPT>
 
 Usage: records <SCRIPT>
+
+For more information, try '--help'.
+";
+
+const TAPE: &str = "\
+error: invalid value 'tape' for '--form <FORM>'
+  [possible values: owned, borrowed, lazy]
+
+Usage: records [OPTIONS] <SCRIPT>
+
+For more information, try '--help'.
+";
+
+const TOO_DEEP: &str = "\
+error: invalid value '1025' for '--depth <LEVELS>': 1025 is not in 0..=1024
 
 For more information, try '--help'.
 ";
@@ -184,19 +217,18 @@ fn refuses_arguments(rt: HostRuntime) {
         assert!(rt; faults.starts_with(b"error: "));
         assert!(rt; faults.ends_with(b"\n"));
     }
-    for name in ["records", "records_cli"] {
+    let texts: [(&[&str], &str); 4] = [
+        (&["records"], NO_SCRIPT),
+        (&["records_cli"], NO_SCRIPT),
+        (&["records", "--form", "tape", "a.json"], TAPE),
+        (&["records", "--depth", "1025", "a.json"], TOO_DEEP),
+    ];
+    for (words, text) in &texts {
         let mut output = Narrow::new(rt.alloc(), usize::MAX, false);
-        let words = [name];
-        let given = Given::new(&words);
+        let given = Given::new(words);
         let input: &[u8] = b"";
-        expect(
-            &rt,
-            rt.alloc(),
-            given,
-            input,
-            &mut output,
-            (2, b"", NO_SCRIPT),
-        );
+        let want = (2, b"".as_slice(), *text);
+        expect(&rt, rt.alloc(), given, input, &mut output, want);
     }
 }
 
@@ -361,5 +393,25 @@ fn reads_to_the_end(rt: HostRuntime) {
         };
         assert_eq!(rt; read_rest(&mut slow, &mut bytes, reads), want);
         assert_eq!(rt; bytes.as_slice(), b"abc".as_slice());
+    }
+}
+
+#[test]
+fn takes_forms_and_depths(rt: HostRuntime) {
+    let alloc = rt.alloc();
+    let records =
+        "{\"replies\":[[]],\"document\":[1]}\n{\"error\":\"Syntax\",\"index\":1,\"character\":\"[\"}\n";
+    for form in ["owned", "borrowed", "lazy"] {
+        let words = ["records", "--form", form, "--depth", "1", "get.json"];
+        let mut output = Narrow::new(alloc, usize::MAX, false);
+        let want = (0, records.as_bytes(), "");
+        expect(
+            &rt,
+            alloc,
+            Given::new(&words),
+            b"[1]\n[[]]\n".as_slice(),
+            &mut output,
+            want,
+        );
     }
 }

@@ -71,6 +71,14 @@ module _ {K V : Type 0} (text : K → List ℕ) (k : List ℕ) where
   pub value_at_no_place : (es : List (Entry K V)) → place_of text es k ≡ None → value_at text es k ≡ None
   value_at_no_place = at_no_place (λ es. value_at text es k ≡ None) refl (λ e es f p. rw f p)
 
+  pub no_place : (es : List (Entry K V)) → value_at text es k ≡ None → place_of text es k ≡ None
+  no_place [] h = refl
+  no_place (e ∷ es) h =
+      elim (cases_Bool (bytes_eq (text e.key) k)) [
+        | inl t ↦ absurd (none_some e.value (sym (rw t at h)))
+        | inr f ↦ rw f (ap (option_map (λ i. suc i)) (no_place es (rw f at h)))
+      ]
+
   pub drop_key_place : (es : List (Entry K V)) (i : ℕ) → place_of text es k ≡ Some i → drop_key text es k ≡ take i es ++ drop (suc i) es
   drop_key_place = at_place (λ es i. drop_key text es k ≡ take i es ++ drop (suc i) es) (λ e es t. rw t) (λ e es i f p. rw f (ap (λ l. e ∷ l) p))
 

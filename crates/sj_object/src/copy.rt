@@ -1,5 +1,5 @@
 //! Copies of objects.
-ghost use Rattle.std.specs.Prelude.{◌≡◌, ℕ, List};
+ghost use Rattle.std.specs.Prelude.{◌≡◌, List};
 ghost use Rattle.std.proofs.Common.{ap};
 ghost use Rattle.sj_base.specs.Tree.{object};
 ghost use Rattle.sj_object.specs.Copies.{copied_pairs, pair_members};
@@ -24,13 +24,13 @@ impl CopyKey for CowStr<'_> {
     ghost keeps_text = { λ a b same. ap (λ p. p.1) same };
 }
 
-/// A copy has the keys of its original and copies of its values, in the same order.
+/// A copy has copies of the keys and of the values, in the same order.
 impl<K: CopyKey + Drop, V: TryCopy + Drop> TryCopy for Object<K, V> {
-    ghost Copied = { List (List ℕ × V.Copied) };
+    ghost Copied = { List (K.Copied × V.Copied) };
 
-    ghost copied = { copied_pairs K.text V.copied };
+    ghost copied = { copied_pairs K.copied V.copied };
 
-    ghost tree = { λ pairs. object (pair_members V.tree pairs) };
+    ghost tree = { λ pairs. object (pair_members K.tree V.tree pairs) };
 
     fn try_clone(&self) -> Result<Object<K, V>, AllocError> {
         let mut entries = Vec::with_capacity(*self.entries.allocator(), self.entries.len())?;

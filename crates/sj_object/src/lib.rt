@@ -6,14 +6,13 @@
 
 mod compare;
 mod copy;
+mod entries;
 mod entry;
 mod hash;
 mod hashed;
 mod iter;
 mod key;
 mod object;
-#[cfg(test)]
-mod tests;
 
 pub use copy::CopyKey;
 pub use entry::{Entry, Refused};

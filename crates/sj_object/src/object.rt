@@ -58,6 +58,18 @@ impl<K: ObjectKey, V> Object<K, V> {
         Ok(Object { entries })
     }
 
+    /// Returns an object without pairs that has this one's allocator, and room for as many pairs.
+    ///
+    /// # Errors
+    ///
+    /// `AllocError` if there is no memory for that room.
+    pub fn emptied(&self) -> Result<Self, AllocError>
+        ensures empty { IfOk result (λ object. object ≡ []) }
+        ensures distinct { AreDistinct (keys_of K.text self.now) }
+    {
+        Object::with_capacity(*self.entries.allocator(), self.entries.len())
+    }
+
     /// Returns the number of pairs.
     pub fn len(&self) -> usize
         ensures len { result ≡ length self.now }
@@ -134,16 +146,20 @@ impl<K: ObjectKey, V> Object<K, V> {
         ensures handed_back { IfErr result (λ pair. (pair.key ≡ key) × (pair.value ≡ value)) }
     {
         let Some(at) = self.position(key.as_text()) else {
-            return self.append(key, value);
+            self.push_new(key, value)?;
+            return Ok(None);
         };
         Ok(Some(mem::replace(&mut self.entries[at].value, value)))
     }
 
-    // Puts a pair with a new key last.
-    fn append(&mut self, key: K, value: V) -> Result<Option<V>, Refused<K, V>>
-        requires { place_of K.text self.old (K.text key) ≡ None }
+    /// Puts a pair with a new key last, without a look for the key. To test the condition, call [`Object::contains_key`].
+    ///
+    /// # Errors
+    ///
+    /// The key and the value come back if there is no memory for a new pair. The object is unchanged.
+    pub fn push_new(&mut self, key: K, value: V) -> Result<(), Refused<K, V>>
+        requires { value_at K.text self.old (K.text key) ≡ None }
         ensures ok { OnOk result (self.new ≡ put_key K.text self.old key value) }
-        ensures none { IfOk result (λ old. old ≡ None) }
         ensures err { OnErr result (self.new ≡ self.old) }
         ensures handed_back { IfErr result (λ pair. (pair.key ≡ key) × (pair.value ≡ value)) }
     {
@@ -151,7 +167,7 @@ impl<K: ObjectKey, V> Object<K, V> {
             let Entry { key, value } = refused.value;
             return Err(Refused { key, value });
         }
-        Ok(None)
+        Ok(())
     }
 
     /// Removes the pair of this key and returns its value, or `None` if there is none. The pairs after it close up.

@@ -6,3 +6,9 @@ pub mod Kept
 pub mod Placed
 pub mod Stacks
 pub mod Members
+pub mod Reading
+pub mod Steps
+pub mod Copies
+pub mod Comparing
+pub mod Made
+pub mod Zipped

@@ -11,6 +11,10 @@ is_some-map : {A B : Type 0} (f : A → B) (o : Option A) → is_some (option_ma
 is_some-map f None = refl
 is_some-map f (Some x) = refl
 
+pub not_there : {A : Type 0} (o : Option A) → is_some o ≡ false → o ≡ None
+not_there None h = refl
+not_there (Some x) h = cc
+
 module _ {K V : Type 0} (text : K → List ℕ) (tree : V → Tree) where
   found_first : (b : Bool) (v : V) (o : Option V) → option_map tree (if b then Some v else o) ≡ (if b then Some (tree v) else option_map tree o)
   found_first true v o = refl

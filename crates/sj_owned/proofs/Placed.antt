@@ -7,7 +7,7 @@ use Rattle.sj_tape.specs.Listing.{Entry, list_entry, object_entry, listing, item
 use Rattle.sj_tape.specs.Listed.{IsTape, tree_of}
 use Rattle.sj_tape.proofs.Tapes.{tape_is_listing}
 use Rattle.sj_owned.specs.Trees.{items_of}
-use Rattle.sj_owned.specs.inside.Building.{Shown, text, built, shown_tree, members_from, drop_pairs, place, placed}
+use Rattle.sj_owned.specs.inside.Building.{Shown, first_part, text, built, shown_tree, members_from, drop_pairs, place, placed}
 use Rattle.sj_owned.specs.inside.Kept.{gathered}
 use Rattle.sj_owned.proofs.Kept.{kept_each, gathered_keeps}
 
@@ -90,26 +90,14 @@ pub placed_last : (es : List Entry) (e : Entry) (ps : List Shown) → placed (es
 placed_last [] e ps = refl
 placed_last (d ∷ es) e ps = ap (place d) (placed_last es e ps)
 
-abbrev first_part : List Shown → Shown
-first_part [] = built null
-first_part (p ∷ ps) = p
-
 listing_placed : (es : List Entry) (t : Tree) → es ≡ listing t → placed es [] ≡ whole t ∷ []
 listing_placed es t is = ap (λ l. placed l []) (is ∙ sym (append-nil (listing t))) ∙ placed_tree t [] []
 
 -- The first part of what a tape's entries place is what is kept of its tree.
-pub built_whole : (es : List Entry) (p : Shown) (ps : List Shown) → IsTape es → p ∷ ps ≡ placed es [] → shown_tree p ≡ keep (tree_of es)
-built_whole [] p ps tape same = cc
-built_whole (e ∷ es) p ps tape same =
+pub built_whole : (es : List Entry) (ps : List Shown) → IsTape es → ps ≡ placed es [] → shown_tree (first_part ps) ≡ keep (tree_of es)
+unfolding tree_of
+built_whole [] ps tape same = ap (λ qs. shown_tree (first_part qs)) same
+built_whole (e ∷ es) ps tape same =
     let t = tree_of (e ∷ es) in
     let listed : listing t ≡ e ∷ es = tape_is_listing (e ∷ es) tape (λ h. cc) in
     ap (λ qs. shown_tree (first_part qs)) (same ∙ listing_placed (e ∷ es) t (sym listed)) ∙ shown_whole t
-
--- Where nothing was placed, there is no entry.
-pub built_nothing : (es : List Entry) → IsTape es → [] ≡ placed es [] → es ≡ []
-built_nothing [] tape same = refl
-built_nothing (e ∷ es) tape same =
-    let t = tree_of (e ∷ es) in
-    let listed : listing t ≡ e ∷ es = tape_is_listing (e ∷ es) tape (λ h. cc) in
-    let none : [] ≡ whole t ∷ [] = same ∙ listing_placed (e ∷ es) t (sym listed) in
-    cc

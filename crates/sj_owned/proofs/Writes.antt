@@ -3,7 +3,7 @@ use Rattle.std.proofs.Common.{◌≡◌, Some, rules, ℕ, zero, suc, true, fals
 use Rattle.std.specs.declared.alloc.Global.{Global}
 use Rattle.std.specs.Vec.{with_item}
 use Rattle.sj_base.specs.Path.{key, place, change_member, change_item, put}
-use Rattle.sj_base.specs.Tree.{Tree, list, object, item, Members, member}
+use Rattle.sj_base.specs.Tree.{list, object, item, Members, member}
 use Rattle.sj_object.specs.Pairs.{set_value}
 use Rattle.sj_object.specs.declared.entry.Entry.{Entry}
 use Rattle.sj_owned.specs.Views.{value_tree, items_view, members_view, members_inside}

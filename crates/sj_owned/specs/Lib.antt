@@ -1,6 +1,14 @@
 pub mod Trees
 pub mod Views
+pub mod Compare
+pub mod Display
+pub mod From
+pub mod SameAs
 pub mod Parts
 pub mod Edits
 pub mod Lends
+pub mod Reading
+pub mod Steps
+pub mod Deserializers
+pub mod Copies
 pub mod inside

@@ -1,3 +1,6 @@
 pub mod Building
 pub mod Refusals
 pub mod Kept
+pub mod Copying
+pub mod Comparing
+pub mod Shown

@@ -1,4 +1,4 @@
-//! Reads of the parts of a document, in the names of the traits of `value_trait`.
+//! Reads of the parts of a document, with the names of the traits of `value_trait`.
 ghost use Rattle.std.specs.Prelude.{◌≡◌, is_some, IfSome, option_map, option_and_then, option_copied, ok_or};
 ghost use Rattle.sj_base.specs.Containers.{scalar_in};
 ghost use Rattle.sj_base.specs.Path.{key, place, child};

@@ -3,20 +3,17 @@
 //! A document is built from the last node of its tape to the first, so that a container finds its parts on a stack. So a
 //! deep text needs no recursion.
 ghost use Rattle.std.specs.Prelude.{◌≡◌, ◌∷◌, IfOk, OnOk, map, take, drop, ◌++◌};
-ghost use Rattle.sj_base.specs.Tree.{Tree, decimal, string, list, object};
 ghost use Rattle.sj_base.specs.Keep.{keep};
-ghost use Rattle.sj_base.specs.Scalar.{static_tree, decimal_text};
 ghost use Rattle.sj_tape.specs.Nodes.{node_entry};
-ghost use Rattle.sj_tape.specs.Views.{value_tree as view_tree};
-ghost use Rattle.sj_owned.specs.Trees.{items_of, members_of, on_values};
-ghost use Rattle.sj_owned.specs.Views.{value_tree};
-ghost use Rattle.sj_owned.specs.inside.Building.{part_shown, shown_tree, stack, place, list_from, object_from, drop_pairs, add_pair};
+ghost use Rattle.sj_tape.specs.Views.{tape_nodes, nodes_tree, value_tree as view_tree};
+ghost use Rattle.sj_owned.specs.Trees.{members_of, on_values};
+ghost use Rattle.sj_owned.specs.inside.Building.{part_shown, shown_tree, first_part, stack, place, list_from, object_from, drop_pairs, add_pair};
 ghost use Rattle.sj_owned.specs.inside.Kept.{add_member};
 
-use crate::literal::MakeLiteral;
-use crate::value::Value;
-use sj_object::{MakeKey, Object, ObjectKey};
-use sj_tape::{Node, Value as TapeValue};
+use crate::built::BuildValue;
+use sj_base::StaticNode;
+use sj_object::{MakeKey, Object};
+use sj_tape::{Node, Tape, Value as TapeValue};
 use std::alloc::{AllocError, Global};
 
 // What is built of the nodes behind. A text is a string or a key, as the container before it decides.
@@ -26,27 +23,27 @@ enum Part<'de, V> {
     Built(V),
 }
 
-fn into_value<'de, K: MakeKey<'de> + Drop, D: MakeLiteral<'de> + Drop>(
+fn into_value<'de, V: BuildValue<'de, K> + Drop, K: MakeKey<'de> + Drop>(
     alloc: Global,
-    part: Part<'de, Value<K, D>>,
-) -> Result<Value<K, D>, AllocError>
-    ensures { IfOk result (λ v. value_tree K.text D.literal v ≡ shown_tree (part_shown (value_tree K.text D.literal) part.entry)) }
+    part: Part<'de, V>,
+) -> Result<V, AllocError>
+    ensures { IfOk result (λ v. V.tree v ≡ shown_tree (part_shown V.tree part.entry)) }
 {
     match part {
-        Part::Text(text) => Ok(Value::String(K::from_text(alloc, text)?)),
+        Part::Text(text) => V::from_text(alloc, text),
         Part::Built(value) => Ok(value),
     }
 }
 
 // Moves the first part of the stack, if there is one, to the items.
-fn take_item<'de, K: MakeKey<'de> + Drop, D: MakeLiteral<'de> + Drop>(
+fn take_item<'de, V: BuildValue<'de, K> + Drop, K: MakeKey<'de> + Drop>(
     alloc: Global,
-    parts: &mut Vec<Part<'de, Value<K, D>>>,
-    items: &mut Vec<Value<K, D>>,
+    parts: &mut Vec<Part<'de, V>>,
+    items: &mut Vec<V>,
 ) -> Result<(), AllocError>
-    ensures items { OnOk result (map (value_tree K.text D.literal) items.new.items ≡ map (value_tree K.text D.literal) items.old.items
-        ++ map shown_tree (take 1 (stack (value_tree K.text D.literal) parts.old.items))) }
-    ensures rest { OnOk result (stack (value_tree K.text D.literal) parts.new.items ≡ drop 1 (stack (value_tree K.text D.literal) parts.old.items)) }
+    ensures items { OnOk result (map V.tree items.new.items ≡ map V.tree items.old.items
+        ++ map shown_tree (take 1 (stack V.tree parts.old.items))) }
+    ensures rest { OnOk result (stack V.tree parts.new.items ≡ drop 1 (stack V.tree parts.old.items)) }
 {
     if let Some(part) = parts.pop() {
         items.push(into_value(alloc, part)?)?;
@@ -55,13 +52,13 @@ fn take_item<'de, K: MakeKey<'de> + Drop, D: MakeLiteral<'de> + Drop>(
 }
 
 // Makes a list of the first parts of the stack.
-fn take_list<'de, K: MakeKey<'de> + Drop, D: MakeLiteral<'de> + Drop>(
+fn take_list<'de, V: BuildValue<'de, K> + Drop, K: MakeKey<'de> + Drop>(
     alloc: Global,
     len: usize,
-    parts: &mut Vec<Part<'de, Value<K, D>>>,
-) -> Result<Value<K, D>, AllocError>
-    ensures value { IfOk result (λ v. value_tree K.text D.literal v ≡ list_from len (stack (value_tree K.text D.literal) parts.old.items)) }
-    ensures rest { OnOk result (stack (value_tree K.text D.literal) parts.new.items ≡ drop len (stack (value_tree K.text D.literal) parts.old.items)) }
+    parts: &mut Vec<Part<'de, V>>,
+) -> Result<V, AllocError>
+    ensures value { IfOk result (λ v. V.tree v ≡ list_from len (stack V.tree parts.old.items)) }
+    ensures rest { OnOk result (stack V.tree parts.new.items ≡ drop len (stack V.tree parts.old.items)) }
 {
     let mut items = Vec::with_capacity(alloc, len)?;
     let mut left = len;
@@ -69,39 +66,39 @@ fn take_list<'de, K: MakeKey<'de> + Drop, D: MakeLiteral<'de> + Drop>(
         take_item(alloc, parts, &mut items)?;
         left -= 1;
     }
-    Ok(Value::Array(items))
+    V::from_array(alloc, items)
 }
 
 // Adds a member, unless there is one with its key.
-fn add_member<'de, K: MakeKey<'de> + Drop, D: MakeLiteral<'de> + Drop>(
+fn add_member<'de, V: BuildValue<'de, K> + Drop, K: MakeKey<'de> + Drop>(
     alloc: Global,
     key: &'de str,
-    value: Part<'de, Value<K, D>>,
-    members: &mut Object<K, Value<K, D>>,
+    value: Part<'de, V>,
+    members: &mut Object<K, V>,
 ) -> Result<(), AllocError>
-    ensures { OnOk result (members_of K.text (on_values (value_tree K.text D.literal) members.new)
-        ≡ add_member (members_of K.text (on_values (value_tree K.text D.literal) members.old)) key.now (shown_tree (part_shown (value_tree K.text D.literal) value.entry))) }
+    ensures { OnOk result (members_of K.text (on_values V.tree members.new)
+        ≡ add_member (members_of K.text (on_values V.tree members.old)) key.now (shown_tree (part_shown V.tree value.entry))) }
 {
     if members.contains_key(key) {
         return Ok(());
     }
     let value = into_value(alloc, value)?;
     let key = K::from_text(alloc, key)?;
-    match members.insert(key, value) {
-        Ok(_) => Ok(()),
-        Err(_) => Err(AllocError),
-    }
+    let Ok(()) = members.push_new(key, value) else {
+        return Err(AllocError);
+    };
+    Ok(())
 }
 
 // Moves the first two parts of the stack, a key and a value, to the members, unless there is a member with that key.
-fn take_member<'de, K: MakeKey<'de> + Drop, D: MakeLiteral<'de> + Drop>(
+fn take_member<'de, V: BuildValue<'de, K> + Drop, K: MakeKey<'de> + Drop>(
     alloc: Global,
-    parts: &mut Vec<Part<'de, Value<K, D>>>,
-    members: &mut Object<K, Value<K, D>>,
+    parts: &mut Vec<Part<'de, V>>,
+    members: &mut Object<K, V>,
 ) -> Result<(), AllocError>
-    ensures members { OnOk result (members_of K.text (on_values (value_tree K.text D.literal) members.new)
-        ≡ add_pair (members_of K.text (on_values (value_tree K.text D.literal) members.old)) (stack (value_tree K.text D.literal) parts.old.items)) }
-    ensures rest { OnOk result (stack (value_tree K.text D.literal) parts.new.items ≡ drop_pairs 1 (stack (value_tree K.text D.literal) parts.old.items)) }
+    ensures members { OnOk result (members_of K.text (on_values V.tree members.new)
+        ≡ add_pair (members_of K.text (on_values V.tree members.old)) (stack V.tree parts.old.items)) }
+    ensures rest { OnOk result (stack V.tree parts.new.items ≡ drop_pairs 1 (stack V.tree parts.old.items)) }
 {
     let key = parts.pop();
     let value = parts.pop();
@@ -112,13 +109,13 @@ fn take_member<'de, K: MakeKey<'de> + Drop, D: MakeLiteral<'de> + Drop>(
 }
 
 // Makes an object of the first parts of the stack, a key and a value for each member.
-fn take_object<'de, K: MakeKey<'de> + Drop, D: MakeLiteral<'de> + Drop>(
+fn take_object<'de, V: BuildValue<'de, K> + Drop, K: MakeKey<'de> + Drop>(
     alloc: Global,
     len: usize,
-    parts: &mut Vec<Part<'de, Value<K, D>>>,
-) -> Result<Value<K, D>, AllocError>
-    ensures value { IfOk result (λ v. value_tree K.text D.literal v ≡ object_from len (stack (value_tree K.text D.literal) parts.old.items)) }
-    ensures rest { OnOk result (stack (value_tree K.text D.literal) parts.new.items ≡ drop_pairs len (stack (value_tree K.text D.literal) parts.old.items)) }
+    parts: &mut Vec<Part<'de, V>>,
+) -> Result<V, AllocError>
+    ensures value { IfOk result (λ v. V.tree v ≡ object_from len (stack V.tree parts.old.items)) }
+    ensures rest { OnOk result (stack V.tree parts.new.items ≡ drop_pairs len (stack V.tree parts.old.items)) }
 {
     let mut members = Object::with_capacity(alloc, len)?;
     let mut left = len;
@@ -126,38 +123,51 @@ fn take_object<'de, K: MakeKey<'de> + Drop, D: MakeLiteral<'de> + Drop>(
         take_member(alloc, parts, &mut members)?;
         left -= 1;
     }
-    Ok(Value::Object(members))
+    V::from_object(alloc, members.into_entries())
 }
 
 // Makes what is built of a node and of the parts behind it.
-fn next_part<'de, K: MakeKey<'de> + Drop, D: MakeLiteral<'de> + Drop>(
+fn next_part<'de, V: BuildValue<'de, K> + Drop, K: MakeKey<'de> + Drop>(
     alloc: Global,
     node: &Node<'de>,
-    parts: &mut Vec<Part<'de, Value<K, D>>>,
-) -> Result<Part<'de, Value<K, D>>, AllocError>
-    ensures { IfOk result (λ part. part_shown (value_tree K.text D.literal) part ∷ stack (value_tree K.text D.literal) parts.new.items
-        ≡ place (node_entry node.now) (stack (value_tree K.text D.literal) parts.old.items)) }
+    parts: &mut Vec<Part<'de, V>>,
+) -> Result<Part<'de, V>, AllocError>
+    ensures { IfOk result (λ part. part_shown V.tree part ∷ stack V.tree parts.new.items
+        ≡ place (node_entry node.now) (stack V.tree parts.old.items)) }
 {
     match *node {
         Node::String(text) => Ok(Part::Text(text)),
-        Node::Static(scalar) => Ok(Part::Built(Value::Static(scalar))),
-        Node::Decimal(literal) => Ok(Part::Built(Value::Decimal(D::from_decimal(alloc, literal)?))),
+        Node::Static(scalar) => Ok(Part::Built(V::from_static(alloc, scalar)?)),
+        Node::Decimal(literal) => Ok(Part::Built(V::from_decimal(alloc, literal)?)),
         Node::Array { len, .. } => Ok(Part::Built(take_list(alloc, len, parts)?)),
         Node::Object { len, .. } => Ok(Part::Built(take_object(alloc, len, parts)?)),
     }
 }
 
-fn place<'de, K: MakeKey<'de> + Drop, D: MakeLiteral<'de> + Drop>(
+fn place<'de, V: BuildValue<'de, K> + Drop, K: MakeKey<'de> + Drop>(
     alloc: Global,
     node: &Node<'de>,
-    parts: &mut Vec<Part<'de, Value<K, D>>>,
+    parts: &mut Vec<Part<'de, V>>,
 ) -> Result<(), AllocError>
-    ensures { OnOk result (stack (value_tree K.text D.literal) parts.new.items
-        ≡ place (node_entry node.now) (stack (value_tree K.text D.literal) parts.old.items)) }
+    ensures { OnOk result (stack V.tree parts.new.items
+        ≡ place (node_entry node.now) (stack V.tree parts.old.items)) }
 {
     let part = next_part(alloc, node, parts)?;
     parts.push(part)?;
     Ok(())
+}
+
+// Makes the value of the part on top, and a null if there is none.
+fn finish<'de, V: BuildValue<'de, K> + Drop, K: MakeKey<'de> + Drop>(
+    alloc: Global,
+    parts: &mut Vec<Part<'de, V>>,
+) -> Result<V, AllocError>
+    ensures { IfOk result (λ v. V.tree v ≡ shown_tree (first_part (stack V.tree parts.old.items))) }
+{
+    match parts.pop() {
+        Some(part) => into_value(alloc, part),
+        None => V::from_static(alloc, StaticNode::Null),
+    }
 }
 
 /// Builds a value of a view of a tape. Of members with equal keys the first one is kept. Room for the items of an array
@@ -166,11 +176,11 @@ fn place<'de, K: MakeKey<'de> + Drop, D: MakeLiteral<'de> + Drop>(
 /// # Errors
 ///
 /// `AllocError` if there is no memory for the value. What was built is dropped.
-pub fn build_value<'de, K: MakeKey<'de> + Drop, D: MakeLiteral<'de> + Drop>(
+pub fn build_value<'de, V: BuildValue<'de, K> + Drop, K: MakeKey<'de> + Drop>(
     alloc: Global,
     view: TapeValue<'_, 'de>,
-) -> Result<Value<K, D>, AllocError>
-    ensures { IfOk result (λ v. value_tree K.text D.literal v ≡ keep (view_tree view.entry)) }
+) -> Result<V, AllocError>
+    ensures { IfOk result (λ v. V.tree v ≡ keep (view_tree view.entry)) }
 {
     let mut parts = Vec::new(alloc);
     let nodes = view.nodes();
@@ -179,9 +189,39 @@ pub fn build_value<'de, K: MakeKey<'de> + Drop, D: MakeLiteral<'de> + Drop>(
         left -= 1;
         place(alloc, &nodes[left], &mut parts)?;
     }
-    match parts.pop() {
-        Some(part) => into_value(alloc, part),
-        // Only the null that is in no tape has no nodes.
-        None => Ok(Value::null()),
+    finish(alloc, &mut parts)
+}
+
+/// The most nodes whose room is kept until the end.
+const KEPT_NODES: usize = 1 << 16;
+
+// Gives back the room of many nodes once half of it is free.
+fn release(nodes: &mut Vec<Node<'_>>)
+    ensures { nodes.new.items ≡ nodes.old.items }
+{
+    if nodes.capacity() > KEPT_NODES && nodes.len() <= nodes.capacity() / 2 {
+        nodes.shrink_to_fit();
     }
+}
+
+/// Builds the value of a tape, as [`build_value`] does of a view. Of a tape without nodes it is a null.
+///
+/// The room of the nodes is given back on the way, so a large tape and its value are never both in memory as a whole.
+///
+/// # Errors
+///
+/// `AllocError` if there is no memory for the value. What was built is dropped.
+pub fn build_tape<'de, V: BuildValue<'de, K> + Drop, K: MakeKey<'de> + Drop>(
+    alloc: Global,
+    tape: Tape<'de>,
+) -> Result<V, AllocError>
+    ensures { IfOk result (λ v. V.tree v ≡ keep (nodes_tree (tape_nodes tape.entry))) }
+{
+    let mut parts = Vec::new(alloc);
+    let mut nodes = tape.into_nodes();
+    while let Some(node) = nodes.pop() {
+        place(alloc, &node, &mut parts)?;
+        release(&mut nodes);
+    }
+    finish(alloc, &mut parts)
 }

@@ -1,4 +1,4 @@
-//! Edits of a document, in the names of the traits of `value_trait`.
+//! Edits of a document, with the names of the traits of `value_trait`.
 ghost use Rattle.std.specs.Prelude.{◌≡◌, [], ◌∷◌, ◌++◌, Some, IsSome, IsNone, IsOk, is_ok, if◌then◌else◌, IfOk, IfErr, OnOk, OnErr, option_map, ok_or};
 ghost use Rattle.sj_object.specs.Pairs.{value_at, put_key, drop_key};
 

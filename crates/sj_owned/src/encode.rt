@@ -14,7 +14,7 @@ use std::alloc::AllocError;
 use std::mem;
 
 // An output that may refuse before anything is appended.
-trait Refuses: Output<Fault = AllocError> {
+pub(crate) trait Refuses: Output<Fault = AllocError> {
     ghost refuses: { (old : Self) (bytes : List ℕ) → Self.begins old old bytes };
 }
 
@@ -34,7 +34,7 @@ fn test_level(layout: Layout) -> Result<(), AllocError>
 }
 
 #[cycle(print)]
-fn print_value<K: ObjectKey, D: Literal, O: Refuses>(
+pub(crate) fn print_value<K: ObjectKey, D: Literal, O: Refuses>(
     value: &Value<K, D>,
     layout: Layout,
     out: &mut O,

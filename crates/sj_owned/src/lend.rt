@@ -1,4 +1,4 @@
-//! References into a document for writing, in the names of the traits of `value_trait`.
+//! References into a document for writing, with the names of the traits of `value_trait`.
 ghost use Rattle.std.specs.Prelude.{◌≡◌, option_map};
 ghost use Rattle.std.specs.Borrow.{sem};
 ghost use Rattle.std.specs.Option.{option_copied_mut};

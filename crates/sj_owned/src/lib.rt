@@ -7,17 +7,34 @@
 
 mod access;
 mod build;
+mod built;
+mod compare;
+mod convert;
+mod copy;
+mod deserializer;
+mod display;
 mod edit;
 mod encode;
+mod from;
 mod index;
 mod lend;
 mod literal;
 pub mod owned;
-#[cfg(test)]
-mod tests;
+mod read;
+mod same_as;
 mod value;
 
-pub use build::build_value;
+pub use build::{build_tape, build_value};
+pub use built::BuildValue;
+pub use convert::from_borrowed;
+pub use copy::CopyLiteral;
+pub use deserializer::ValueDeserializer;
+pub use from::FromString;
 pub use literal::{Literal, MakeLiteral};
-pub use owned::Value as OwnedValue;
+pub use owned::{
+    OwnedDeserializer, Value as OwnedValue, to_value as to_owned_value,
+    to_value_with_buffers as to_owned_value_with_buffers,
+};
+pub use read::{deserialize, deserialize_with_buffers};
+pub use same_as::{Comparand, SameAs};
 pub use value::Value;

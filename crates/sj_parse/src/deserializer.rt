@@ -1,9 +1,11 @@
 //! A tape whose nodes are taken one by one.
-ghost use Rattle.std.specs.Prelude.{◌≡◌, ◌≢◌, ◌↔◌, ◌+◌, ◌<◌, ◌≤◌, [], Some, Err, IsTrue, IfOk, length, slice_get};
+ghost use Rattle.std.specs.Prelude.{◌≡◌, ◌≢◌, ◌↔◌, ◌+◌, ◌<◌, ◌≤◌, List, [], ◌++◌, Some, Err, IsTrue, IfOk, drop, length, slice_get};
 ghost use Rattle.sj_base.specs.Tree.{IsValidTree};
 ghost use Rattle.sj_base.specs.Spelling.{longest};
 ghost use Rattle.sj_base.specs.declared.TheConstants.{DEFAULT_MAX_DEPTH};
 ghost use Rattle.sj_base.specs.declared.error.ErrorType.TheVariants.{InputTooLarge};
+ghost use Rattle.sj_tape.specs.Listing.{listing};
+ghost use Rattle.sj_tape.specs.Nodes.{entries};
 ghost use Rattle.sj_tape.specs.Views.{tape_nodes, tape_tree, value_nodes, value_tree};
 ghost use Rattle.sj_parse.specs.Fault.{generic, fault};
 ghost use Rattle.sj_parse.specs.Answers.{Answers, Leaves, buffer_positions, buffer_limit, buffer_room, deserializer_nodes, deserializer_next};
@@ -121,5 +123,24 @@ impl<'de> Deserializer<'de> {
         ensures is_valid { IsValidTree (value_tree result) }
     {
         self.tape.as_value()
+    }
+
+    /// Returns a view of the value whose first node comes next, and stays before it. A key is a string here. To test the
+    /// condition, call [`Deserializer::is_at_end`].
+    pub fn next_value(&self) -> Value<'_, 'de>
+        requires { deserializer_next self.now < length (deserializer_nodes self.now) }
+        ensures nodes { (rest : List Node) × (drop (deserializer_next self.now) (deserializer_nodes self.now) ≡ value_nodes result ++ rest) }
+        ensures listed { entries (value_nodes result) ≡ listing (value_tree result) }
+    {
+        self.tape.value_at(self.next)
+    }
+
+    /// Goes past this many nodes, which have to be left: those of [`Deserializer::next_value`] are.
+    pub fn skip(&mut self, count: usize)
+        requires { deserializer_next self.old + count ≤ length (deserializer_nodes self.old) }
+        ensures nodes { deserializer_nodes self.new ≡ deserializer_nodes self.old }
+        ensures next { deserializer_next self.new ≡ deserializer_next self.old + count }
+    {
+        self.next += count;
     }
 }

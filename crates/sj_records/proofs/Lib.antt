@@ -1,4 +1,3 @@
-pub mod Built
 pub mod Printed
 pub mod Cut
 pub mod Written
@@ -8,3 +7,14 @@ pub mod RecordText
 pub mod Counts
 pub mod Running
 pub mod ScriptSteps
+pub mod Edits
+pub mod Parts
+pub mod Settled
+pub mod TapeKeys
+pub mod KeptValues
+pub mod KeptTrees
+pub mod Along
+pub mod Accepted
+pub mod KeptAlong
+pub mod Shown
+pub mod LazyWrites

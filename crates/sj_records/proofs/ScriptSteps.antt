@@ -1,17 +1,17 @@
 -- Reading the parts of a path and the commands of a script one after the other, as loops do.
-use Rattle.std.proofs.Common.{◌≡◌, ℕ, suc, ◌+◌, ◌<◌, List, [], ◌∷◌, ◌++◌, length, get_or, drop, codes, true, Result, Ok, Err, refl, sym, ap, ◌∙◌, append_assoc, arith}
-use Rattle.std.specs.Prelude.{bytes_eq}
-use Rattle.sj_records.specs.declared.script.CommandFault.TheVariants.{WrongCount}
+use Rattle.std.proofs.Common.{◌≡◌, ℕ, suc, ◌+◌, ◌<◌, List, [], ◌∷◌, ◌++◌, length, get_or, drop, Result, Ok, Err, refl, sym, ap, ◌∙◌, append_assoc, arith}
 use Rattle.std.proofs.lemmas.List.{append-nil, drop_more, drop_all}
-use Rattle.sj_base.specs.Tree.{Tree, null, boolean, integer, decimal, string, list, object, Items, no_items, item}
-use Rattle.sj_base.specs.Keep.{keep, keep_items}
+use Rattle.sj_base.specs.Tree.{Tree, no_items, item}
 use Rattle.sj_base.specs.Path.{Part}
 use Rattle.sj_records.specs.declared.script.CommandFault.{CommandFault}
+use Rattle.sj_records.specs.declared.script.CommandFault.TheVariants.{WrongCount}
 use Rattle.sj_records.specs.declared.read_error.ReadError.{ReadError}
 use Rattle.sj_records.specs.declared.read_error.ReadError.TheVariants as errors
-use Rattle.sj_records.specs.Command.{Step, Refusal, command, ◌>>=◌, part_of, parts_of, path_of, get_of, named, command_of, commands_from, commands_of}
+use Rattle.sj_records.specs.Command.{Step, Refusal, ◌>>=◌, part_of, parts_of, path_of, key_of, path_alone, path_and_key, path_and_value, path_key_value, command_of, commands_from}
 use Rattle.sj_records.specs.inside.ReadErrors.{IsFaultOf}
-use Rattle.sj_records.specs.inside.Documents.{Document, document_tree, items_view}
+use Rattle.sj_records.specs.declared.script.Command.{Command}
+use Rattle.sj_records.specs.Script.{command_view, commands_view}
+use Rattle.sj_records.specs.Values.{Document, document_tree, items_view}
 
 -- what is read behind a front
 abbrev pub read_after : {A F : Type 0} → List A → Result (List A) F → Result (List A) F
@@ -20,6 +20,16 @@ read_after front r = r >>= λ xs. Ok (front ++ xs)
 regroup : {A F : Type 0} (front : List A) (x : A) (r : Result (List A) F) → read_after front (r >>= λ xs. Ok (x ∷ xs)) ≡ read_after (front ++ x ∷ []) r
 regroup front x (Ok xs) = ap (λ ys. Ok ys) (sym (append_assoc front (x ∷ []) xs))
 regroup front x (Err f) = refl
+
+-- results side by side
+abbrev with_key : Result (List Part) CommandFault → Result (List ℕ) CommandFault → Result (List Part × List ℕ) CommandFault
+with_key path k = path >>= λ p. k >>= λ s. Ok (p, s)
+
+abbrev pub with_value : Result (List Part × List ℕ) CommandFault → Tree → Result (List Part × List ℕ × Tree) CommandFault
+with_value a v = a >>= λ a. Ok (a.0, a.1, v)
+
+abbrev with_both : Result (List Part) CommandFault → Result (List ℕ) CommandFault → Tree → Result (List Part × List ℕ × Tree) CommandFault
+with_both path k v = path >>= λ p. k >>= λ s. Ok (p, s, v)
 
 -- the items from that place on, where one is left
 items_left : (ds : List Document) (i : ℕ) (d : Document) → i < length ds → d ≡ get_or ds i d → items_view (drop i ds) ≡ item (document_tree d) (items_view (drop (i + 1) ds))
@@ -47,87 +57,76 @@ parts-done ds i front total end so_far =
 
 -- ---- the commands of a script
 
-pub commands-more : (ds : List Document) (i : ℕ) (d : Document) (front : List Step) (step : Step) (total : Result (List Step) Refusal) → i < length ds → d ≡ get_or ds i d → command_of (document_tree d) ≡ Ok step
-    → read_after front (commands_from i (items_view (drop i ds))) ≡ total → read_after (front ++ step ∷ []) (commands_from (i + 1) (items_view (drop (i + 1) ds))) ≡ total
-commands-more ds i d front step total lt is found so_far =
-    let next : suc i ≡ i + 1 = omega arith in
-    let one : read_after front (commands_from i (items_view (drop i ds))) ≡ read_after (front ++ step ∷ []) (commands_from (suc i) (items_view (drop (i + 1) ds))) = rw (items_left ds i d lt is, found) (regroup front step (commands_from (suc i) (items_view (drop (i + 1) ds)))) in
-    ap (λ n. read_after (front ++ step ∷ []) (commands_from n (items_view (drop (i + 1) ds)))) (sym next) ∙ sym one ∙ so_far
+pub commands-more : (n m : ℕ) (d : Document) (all left : List Document) (front : List Step) (step : Step) (total : Result (List Step) Refusal) → all ≡ d ∷ left → m ≡ suc n → command_of (document_tree d) ≡ Ok step
+    → read_after front (commands_from n (items_view all)) ≡ total → read_after (front ++ step ∷ []) (commands_from m (items_view left)) ≡ total
+commands-more n m d all left front step total is next found so_far =
+    let one : read_after front (commands_from n (items_view all)) ≡ read_after (front ++ step ∷ []) (commands_from (suc n) (items_view left)) = rw (is, found) (regroup front step (commands_from (suc n) (items_view left))) in
+    ap (λ n. read_after (front ++ step ∷ []) (commands_from n (items_view left))) next ∙ sym one ∙ so_far
 
-pub commands-fault : (f : CommandFault) (ds : List Document) (i : ℕ) (d : Document) (front : List Step) (total : Result (List Step) Refusal) → i < length ds → d ≡ get_or ds i d → command_of (document_tree d) ≡ Err f
-    → read_after front (commands_from i (items_view (drop i ds))) ≡ total → total ≡ Err (command i f)
-commands-fault f ds i d front total lt is fault so_far =
-    let one : read_after front (commands_from i (items_view (drop i ds))) ≡ Err (command i f) = rw (items_left ds i d lt is, fault) refl in
-    sym so_far ∙ one
+-- ---- another number of arguments
 
-pub commands-done : (ds : List Document) (i : ℕ) (front : List Step) (total : Result (List Step) Refusal) → length ds ≡ i → read_after front (commands_from i (items_view (drop i ds))) ≡ total → total ≡ Ok front
-commands-done ds i front total end so_far =
-    let none : items_view (drop i ds) ≡ no_items = ap items_view (drop_all i ds (omega arith)) in
-    sym so_far ∙ ap (λ ts. read_after front (commands_from i ts)) none ∙ ap (λ xs. Ok xs) (append-nil front)
+pub alone-other : (ds : List Document) → (length ds ≡ 1 → ⊥) → path_alone (items_view ds) ≡ Err WrongCount
+alone-other [] other = refl
+alone-other (a ∷ []) other = absurd (other refl)
+alone-other (a ∷ b ∷ ds) other = refl
 
--- ---- a kept script has the same commands
+-- ---- a key behind other arguments
 
-kept-part : (t : Tree) → part_of (keep t) ≡ part_of t
-kept-part null = refl
-kept-part (boolean b) = refl
-kept-part (integer n) = refl
-kept-part (decimal literal) = refl
-kept-part (string s) = refl
-kept-part (list ts) = refl
-kept-part (object ms) = refl
+pub key_behind : (ds : List Document) (d : Document) → path_and_key (items_view (ds ++ d ∷ [])) ≡ with_key (path_alone (items_view ds)) (key_of (document_tree d))
+key_behind [] d = refl
+key_behind (a ∷ []) d = refl
+key_behind (a ∷ b ∷ []) d = refl
+key_behind (a ∷ b ∷ e ∷ ds) d = refl
 
-kept-parts : (ts : Items) → parts_of (keep_items ts) ≡ parts_of ts
-kept-parts no_items = refl
-kept-parts (item t ts) = rw (kept-part t, kept-parts ts) refl
+-- ---- a value behind other arguments
 
-kept-path : (t : Tree) → path_of (keep t) ≡ path_of t
-kept-path null = refl
-kept-path (boolean b) = refl
-kept-path (integer n) = refl
-kept-path (decimal literal) = refl
-kept-path (string s) = refl
-kept-path (list ts) = kept-parts ts
-kept-path (object ms) = refl
+pub value_behind : (ds : List Document) (d : Document) → path_and_value (items_view (ds ++ d ∷ [])) ≡ (path_alone (items_view ds) >>= λ path. Ok (path, document_tree d))
+value_behind [] d = refl
+value_behind (a ∷ []) d = refl
+value_behind (a ∷ b ∷ []) d = refl
+value_behind (a ∷ b ∷ e ∷ ds) d = refl
 
-kept-get : (ts : Items) → get_of (keep_items ts) ≡ get_of ts
-kept-get no_items = refl
-kept-get (item t no_items) = rw (kept-path t) refl
-kept-get (item t (item u ts)) = refl
+regroup_key : (path : Result (List Part) CommandFault) (k : Result (List ℕ) CommandFault) (v : Tree) → with_both path k v ≡ with_value (with_key path k) v
+regroup_key (Err f) k v = refl
+regroup_key (Ok p) (Err f) v = refl
+regroup_key (Ok p) (Ok s) v = refl
 
-kept-named : (name : List ℕ) (ts : Items) → named name (keep_items ts) ≡ named name ts
-kept-named name ts = rw (kept-get ts) refl
+pub value_behind_key : (ds : List Document) (d : Document) → path_key_value (items_view (ds ++ d ∷ [])) ≡ with_value (path_and_key (items_view ds)) (document_tree d)
+value_behind_key [] d = refl
+value_behind_key (a ∷ []) d = refl
+value_behind_key (a ∷ b ∷ []) d = regroup_key (path_of (document_tree a)) (key_of (document_tree b)) (document_tree d)
+value_behind_key (a ∷ b ∷ e ∷ []) d = refl
+value_behind_key (a ∷ b ∷ e ∷ f ∷ ds) d = refl
 
-kept-command : (t : Tree) → command_of (keep t) ≡ command_of t
-kept-command null = refl
-kept-command (boolean b) = refl
-kept-command (integer n) = refl
-kept-command (decimal literal) = refl
-kept-command (string s) = refl
-kept-command (object ms) = refl
-kept-command (list no_items) = refl
-kept-command (list (item null ts)) = refl
-kept-command (list (item (boolean b) ts)) = refl
-kept-command (list (item (integer n) ts)) = refl
-kept-command (list (item (decimal literal) ts)) = refl
-kept-command (list (item (string s) ts)) = kept-named s ts
-kept-command (list (item (list us) ts)) = refl
-kept-command (list (item (object ms) ts)) = refl
+module _ (whole ds : List Document) (d : Document) (is : whole ≡ ds ++ d ∷ []) where
+  pub value_fault : (e : ReadError CommandFault) → IsFaultOf e (path_alone (items_view ds)) → IsFaultOf e (path_and_value (items_view whole))
+  value_fault errors.Memory fault = tt
+  value_fault (errors.Refused f) fault = rw (is, value_behind ds d, fault) refl
 
-kept-commands : (n : ℕ) (ts : Items) → commands_from n (keep_items ts) ≡ commands_from n ts
-kept-commands n no_items = refl
-kept-commands n (item t ts) = rw (kept-command t, kept-commands (suc n) ts) refl
+  pub value_read : (path : List Part) (v : Document) → path_alone (items_view ds) ≡ Ok path → v ≡ d → path_and_value (items_view whole) ≡ Ok (path, document_tree v)
+  value_read path v found same = rw (is, value_behind ds d, found, same) refl
 
-pub commands_of-keep : (t : Tree) → commands_of (keep t) ≡ commands_of t
-commands_of-keep null = refl
-commands_of-keep (boolean b) = refl
-commands_of-keep (integer n) = refl
-commands_of-keep (decimal literal) = refl
-commands_of-keep (string s) = refl
-commands_of-keep (list ts) = kept-commands 0 ts
-commands_of-keep (object ms) = refl
+  pub key_value_fault : (e : ReadError CommandFault) → IsFaultOf e (path_and_key (items_view ds)) → IsFaultOf e (path_key_value (items_view whole))
+  key_value_fault errors.Memory fault = tt
+  key_value_fault (errors.Refused f) fault = rw (is, value_behind_key ds d, fault) refl
 
--- `get` with no argument, or with two and more
-pub named-other_count : (name : List ℕ) (ds : List Document) → bytes_eq name (codes "get") ≡ true → (length ds ≡ 1 → ⊥) → named name (items_view ds) ≡ Err WrongCount
-named-other_count name [] same other = rw same refl
-named-other_count name (d ∷ []) same other = absurd (other refl)
-named-other_count name (d ∷ e ∷ ds) same other = rw same refl
+  pub key_value_read : (path : List Part) (k : List ℕ) (v : Document) → path_and_key (items_view ds) ≡ Ok (path, k) → v ≡ d → path_key_value (items_view whole) ≡ Ok (path, k, document_tree v)
+  key_value_read path k v found same = rw (is, value_behind_key ds d, found, same) refl
+
+module _ (whole ds : List Document) (d : Document) (is : whole ≡ ds ++ d ∷ []) where
+  pub key_path_fault : (e : ReadError CommandFault) → IsFaultOf e (path_alone (items_view ds)) → IsFaultOf e (path_and_key (items_view whole))
+  key_path_fault errors.Memory fault = tt
+  key_path_fault (errors.Refused f) fault = rw (is, key_behind ds d, fault) refl
+
+  pub key_fault : (e : ReadError CommandFault) (path : List Part) → path_alone (items_view ds) ≡ Ok path → IsFaultOf e (key_of (document_tree d)) → IsFaultOf e (path_and_key (items_view whole))
+  key_fault errors.Memory path found fault = tt
+  key_fault (errors.Refused f) path found fault = rw (is, key_behind ds d, found, fault) refl
+
+  pub key_read : (path : List Part) (k : List ℕ) → path_alone (items_view ds) ≡ Ok path → key_of (document_tree d) ≡ Ok k → path_and_key (items_view whole) ≡ Ok (path, k)
+  key_read path k found known = rw (is, key_behind ds d, found, known) refl
+
+-- ---- one more command
+
+pub view-more : (cs : List Command) (c : Command) → commands_view (cs ++ c ∷ []) ≡ commands_view cs ++ command_view c ∷ []
+view-more [] c = refl
+view-more (b ∷ cs) c = ap (λ ss. command_view b ∷ ss) (view-more cs c)

@@ -1,20 +1,18 @@
 -- Worked values: lines, the commands of scripts, the depth limit of writes, and records.
-use Rattle.std.specs.Prelude.{◌≡◌, refl, List, pos, negsuc, true, [], ◌∷◌, ◌++◌, Ok, Err, Some, codes}
+use Rattle.std.specs.Prelude.{◌≡◌, refl, ℕ, List, pos, negsuc, true, false, [], ◌∷◌, ◌++◌, Ok, Err, Some, codes}
 use Rattle.std.specs.Char.{encode_utf8}
 use Rattle.std.specs.Fmt.{digits}
 use Rattle.std.specs.Str.{chars, is_utf8}
-use Rattle.std.proofs.Common.{lit≤, inr}
-use Rattle.std.proofs.Math.Nat.{not-suc-le_self}
-use Rattle.sj_base.specs.Tree.{Tree, integer, string, list, object, Items, no_items, item, no_members, member}
+use Rattle.std.proofs.Common.{inr}
+use Rattle.sj_base.specs.Tree.{Tree, null, boolean, integer, decimal, string, list, object, Items, no_items, item, no_members, member}
 use Rattle.sj_base.specs.Path.{key, place}
 use Rattle.sj_base.specs.Number.{signed}
 use Rattle.sj_base.specs.Text.{text}
 use Rattle.sj_base.specs.declared.error.ErrorType.TheVariants.{Eof, ExpectedTrue, InternalError, Syntax}
-use Rattle.sj_records.specs.declared.form.Form.TheVariants.{Owned}
-use Rattle.sj_records.specs.declared.script.CommandFault.TheVariants.{NotAnArray, NoName, UnknownName, WrongCount, BadPath}
+use Rattle.sj_records.specs.declared.script.CommandFault.TheVariants.{NotAnArray, NoName, UnknownName, WrongCount, BadPath, BadKey}
 use Rattle.sj_records.specs.Lines.{lines}
-use Rattle.sj_records.specs.Command.{Step, get, json, command, not_an_array, commands_of}
-use Rattle.sj_records.specs.Step.{Job, Fits, FitsBelow}
+use Rattle.sj_records.specs.Command.{Step, get, contains, type_of, len, keys, insert, remove, push, pop, set_at, json, command, not_an_array, commands_of}
+use Rattle.sj_records.specs.Step.{Job, Keeping, from_start, from_write, begun, after, fits, fits_below}
 use Rattle.sj_parse.specs.Descent.{value}
 use Rattle.sj_parse.specs.Fault.{generic}
 use Rattle.sj_records.specs.Record.{outcome, IsRecord}
@@ -87,28 +85,108 @@ minus_zero_as_place = refl
 key_and_place : commands_of (list (one (get_command (list (item (string (codes "a")) (one (integer (pos 1)))))))) ≡ Ok (get (key (codes "a") ∷ place 1 ∷ []) ∷ [])
 key_and_place = refl
 
+abbrev two : Tree → Tree → Items
+two t u = item t (one u)
+
+abbrev three : Tree → Tree → Tree → Items
+three t u v = item t (two u v)
+
+abbrev word : List ℕ → Tree
+word s = string s
+
+abbrev number : ℕ → Tree
+number n = integer (pos n)
+
+abbrev empty_list : Tree
+empty_list = list no_items
+
+abbrev empty_object : Tree
+empty_object = object no_members
+
+-- {"a":1,"a":2}
+abbrev repeated_key : Tree
+repeated_key = object (member (codes "a") (number 1) (member (codes "a") (number 2) no_members))
+
+-- {"a":1}
+abbrev a_is_1 : Tree
+a_is_1 = object (member (codes "a") (number 1) no_members)
+
+-- a script of one command with this name and these arguments
+abbrev script_of : List ℕ → Items → Tree
+script_of name arguments = list (one (list (item (word name) arguments)))
+
+-- [["insert",[],"x",{"a":1,"a":2}]]
+value_kept : commands_of (script_of (codes "insert") (three empty_list (word (codes "x")) repeated_key)) ≡ Ok (insert [] (codes "x") a_is_1 ∷ [])
+value_kept = refl
+
+contains_read : commands_of (script_of (codes "contains") (two empty_list (word (codes "b")))) ≡ Ok (contains [] (codes "b") ∷ [])
+contains_read = refl
+
+type_read : commands_of (script_of (codes "type") (one empty_list)) ≡ Ok (type_of [] ∷ [])
+type_read = refl
+
+len_read : commands_of (script_of (codes "len") (one empty_list)) ≡ Ok (len [] ∷ [])
+len_read = refl
+
+keys_read : commands_of (script_of (codes "keys") (one empty_list)) ≡ Ok (keys [] ∷ [])
+keys_read = refl
+
+remove_read : commands_of (script_of (codes "remove") (two empty_list (word (codes "b")))) ≡ Ok (remove [] (codes "b") ∷ [])
+remove_read = refl
+
+push_read : commands_of (script_of (codes "push") (two empty_list (number 7))) ≡ Ok (push [] (number 7) ∷ [])
+push_read = refl
+
+pop_read : commands_of (script_of (codes "pop") (one empty_list)) ≡ Ok (pop [] ∷ [])
+pop_read = refl
+
+set_read : commands_of (script_of (codes "set") (two empty_list (number 7))) ≡ Ok (set_at [] (number 7) ∷ [])
+set_read = refl
+
+-- [["contains",1]]
+count_before_path_of_contains : commands_of (script_of (codes "contains") (one (number 1))) ≡ Err (command 0 WrongCount)
+count_before_path_of_contains = refl
+
+-- [["insert",[],1,2]]
+number_as_key : commands_of (script_of (codes "insert") (three empty_list (number 1) (number 2))) ≡ Err (command 0 BadKey)
+number_as_key = refl
+
+-- [["remove",7,1]]
+path_before_key : commands_of (script_of (codes "remove") (two (number 7) (number 1))) ≡ Err (command 0 BadPath)
+path_before_key = refl
+
+no_reload : commands_of (script_of (codes "reload") no_items) ≡ Err (command 0 UnknownName)
+no_reload = refl
+
 -- the depth limit of writes: `[]` at the end of a path of one part
 
-fits_at_the_limit : Fits (key (codes "a") ∷ []) (list no_items) 2
-fits_at_the_limit = lit≤ tt
+fits_at_the_limit : fits (key (codes "a") ∷ []) empty_list 2 ≡ true
+fits_at_the_limit = refl
 
-fits_not_past_it : Fits (key (codes "a") ∷ []) (list no_items) 1 → ⊥
-fits_not_past_it = not-suc-le_self 1
+fits_not_past_it : fits (key (codes "a") ∷ []) empty_list 1 ≡ false
+fits_not_past_it = refl
 
-fits_below_at_the_limit : FitsBelow (key (codes "a") ∷ []) (list no_items) 3
-fits_below_at_the_limit = lit≤ tt
+fits_below_at_the_limit : fits_below (key (codes "a") ∷ []) empty_list 3 ≡ true
+fits_below_at_the_limit = refl
 
-fits_below_not_past_it : FitsBelow (key (codes "a") ∷ []) (list no_items) 2 → ⊥
-fits_below_not_past_it = not-suc-le_self 2
+fits_below_not_past_it : fits_below (key (codes "a") ∷ []) empty_list 2 ≡ false
+fits_below_not_past_it = refl
 
-scalar_fits_anywhere : Fits [] (integer (pos 7)) 0
-scalar_fits_anywhere = lit≤ tt
+scalar_fits_anywhere : fits [] (number 7) 0 ≡ true
+scalar_fits_anywhere = refl
 
 -- records of documents
 
--- the script on documents that own their texts
+abbrev job : Keeping → ℕ → List Step → Job
+job keeping limit script = record { script = script; limit = limit; keeping = keeping }
+
+-- the script on documents whose repeats are dropped at the start
 abbrev owned : List Step → Job
-owned script = record { script = script; limit = 1024; form = Owned }
+owned script = job from_start 1024 script
+
+-- and on documents whose repeats are dropped by the first write
+abbrev lazy : List Step → Job
+lazy script = job from_write 1024 script
 
 -- {"key": "value", "snot": 42}
 abbrev key_and_snot : Tree
@@ -117,10 +195,6 @@ key_and_snot = object (member (codes "key") (string (codes "value")) (member (co
 member_replied : text (outcome (owned (get (key (codes "key") ∷ []) ∷ [])) key_and_snot) ≡ codes "{\"replies\":[[\"value\"]],\"document\":{\"key\":\"value\",\"snot\":42}}"
 unfolding digits
 member_replied = refl
-
--- {"a":1,"a":2}
-abbrev repeated_key : Tree
-repeated_key = object (member (codes "a") (integer (pos 1)) (member (codes "a") (integer (pos 2)) no_members))
 
 first_member_replied : text (outcome (owned (get (key (codes "a") ∷ []) ∷ get (key (codes "b") ∷ []) ∷ [])) repeated_key) ≡ codes "{\"replies\":[[1],[]],\"document\":{\"a\":1}}"
 unfolding digits
@@ -137,6 +211,86 @@ item_replied = refl
 no_command : text (outcome (owned []) minus_zero_and_list) ≡ codes "{\"replies\":[],\"document\":[0,[7]]}"
 unfolding digits
 no_command = refl
+
+-- get-insert-get
+abbrev get_insert_get : List Step
+get_insert_get = get (key (codes "key") ∷ []) ∷ insert [] (codes "new") (number 42) ∷ get (key (codes "new") ∷ []) ∷ []
+
+new_member_replied : text (outcome (owned get_insert_get) key_and_snot) ≡ codes "{\"replies\":[[\"value\"],[],[42]],\"document\":{\"key\":\"value\",\"snot\":42,\"new\":42}}"
+unfolding digits
+new_member_replied = refl
+
+-- repeats-len: a refused write drops repeats where none was dropped before
+abbrev len_push_len : List Step
+len_push_len = len [] ∷ push [] (number 0) ∷ len [] ∷ []
+
+repeats_dropped_at_start : text (outcome (owned len_push_len) repeated_key) ≡ codes "{\"replies\":[1,\"NotAnArray\",1],\"document\":{\"a\":1}}"
+unfolding digits
+repeats_dropped_at_start = refl
+
+repeats_dropped_by_write : text (outcome (lazy len_push_len) repeated_key) ≡ codes "{\"replies\":[2,\"NotAnArray\",1],\"document\":{\"a\":1}}"
+unfolding digits
+repeats_dropped_by_write = refl
+
+repeats_read : text (outcome (lazy (get (key (codes "a") ∷ []) ∷ keys [] ∷ [])) repeated_key) ≡ codes "{\"replies\":[[1],[\"a\",\"a\"]],\"document\":{\"a\":1,\"a\":2}}"
+unfolding digits
+repeats_read = refl
+
+-- depth-limits
+too_deep : text (outcome (job from_start 1 (push [] empty_list ∷ [])) empty_list) ≡ codes "{\"replies\":[\"TooDeep\"],\"document\":[]}"
+too_deep = refl
+
+-- insert-repeats
+kept_value_inserted : text (outcome (owned (insert [] (codes "x") a_is_1 ∷ [])) empty_object) ≡ codes "{\"replies\":[[]],\"document\":{\"x\":{\"a\":1}}}"
+unfolding digits
+kept_value_inserted = refl
+
+-- thirteen-commands, on {"a":[1,"x"],"b":null}
+abbrev thirteen_commands : List Step
+thirteen_commands =
+    let a = key (codes "a") in
+    contains [] (codes "b") ∷ contains (a ∷ []) (codes "b") ∷ type_of (a ∷ place 1 ∷ []) ∷ keys [] ∷ keys (a ∷ [])
+    ∷ len (key (codes "b") ∷ []) ∷ pop (a ∷ []) ∷ remove [] (codes "b") ∷ remove [] (codes "b") ∷ set_at (a ∷ place 0 ∷ []) (decimal (codes "2.50"))
+    ∷ type_of (a ∷ place 0 ∷ []) ∷ get (key (codes "z") ∷ []) ∷ len (key (codes "z") ∷ []) ∷ []
+
+abbrev list_and_null : Tree
+list_and_null = object (member (codes "a") (list (two (number 1) (word (codes "x")))) (member (codes "b") null no_members))
+
+thirteen_replies : text (outcome (owned thirteen_commands) list_and_null) ≡ codes "{\"replies\":[true,false,\"string\",[\"a\",\"b\"],\"NotAnObject\",\"NotAContainer\",[\"x\"],[null],[],[1],\"decimal\",[],\"NoSuchPath\"],\"document\":{\"a\":[2.50]}}"
+unfolding digits
+thirteen_replies = refl
+
+-- path, kind and depth are tested in this order
+abbrev refused_writes : List Step
+refused_writes =
+    let a = key (codes "a") in
+    let x = key (codes "x") in
+    insert (a ∷ []) (codes "k") (list (one empty_list)) ∷ insert (x ∷ []) (codes "k") (number 1) ∷ set_at (a ∷ []) empty_list ∷ insert [] (codes "k") empty_list
+    ∷ push (a ∷ []) empty_list ∷ []
+
+refusals_in_order : text (outcome (job from_start 1 refused_writes) a_is_1) ≡ codes "{\"replies\":[\"NotAnObject\",\"NoSuchPath\",\"TooDeep\",\"TooDeep\",\"NotAnArray\"],\"document\":{\"a\":1}}"
+unfolding digits
+refusals_in_order = refl
+
+-- the whole document may be set
+abbrev set_and_pop : List Step
+set_and_pop = set_at [] (list (two (number 1) (number 2))) ∷ type_of [] ∷ set_at (place 5 ∷ []) (number 0) ∷ pop [] ∷ []
+
+whole_document_set : text (outcome (owned set_and_pop) empty_object) ≡ codes "{\"replies\":[[{}],\"array\",\"NoSuchPath\",[2]],\"document\":[1]}"
+unfolding digits
+whole_document_set = refl
+
+-- what a write replaces is its reply, and the items close up
+old_values_replied : text (outcome (owned (insert [] (codes "a") (boolean false) ∷ remove [] (codes "a") ∷ push [] null ∷ set_at [] empty_list ∷ push [] null ∷ pop [] ∷ pop [] ∷ [])) a_is_1) ≡ codes "{\"replies\":[[1],[false],\"NotAnArray\",[{}],[],[null],[]],\"document\":[]}"
+unfolding digits
+old_values_replied = refl
+
+-- A write that finds nothing to remove counts, and a refused one doesn't. Its base is kept where repeats are dropped by writes.
+bases_of_writes : (after (lazy []) (begun (lazy []) repeated_key) (remove [] (codes "b") ∷ push [] null ∷ remove [] (codes "a") ∷ [])) ≡ record { tree = empty_object; bases = a_is_1 ∷ a_is_1 ∷ [] }
+bases_of_writes = refl
+
+bases_of_owned : (after (owned []) (begun (owned []) a_is_1) (set_at [] null ∷ get [] ∷ set_at [] empty_list ∷ [])) ≡ record { tree = empty_list; bases = null ∷ a_is_1 ∷ [] }
+bases_of_owned = refl
 
 -- lines that are no documents, and their records
 

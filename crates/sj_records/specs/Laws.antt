@@ -1,6 +1,12 @@
--- Laws of the definitions: each line has one record, and any bytes are read as a script in one way.
-use Rattle.std.specs.Prelude.{◌≡◌, ℕ, List}
-use Rattle.sj_records.specs.Step.{Job}
+-- Laws of the definitions: each line has one record, any bytes are read as a script in one way, and the depth limit holds
+-- along a script.
+use Rattle.std.specs.Prelude.{◌≡◌, ◌≢◌, ℕ, ◌≤◌, Bool, true, false, ◌||◌, List, [], ◌∷◌, take, Ok}
+use Rattle.std.specs.List.{AllByRecursion}
+use Rattle.sj_base.specs.Tree.{Tree, depth}
+use Rattle.sj_base.specs.Keep.{IsKept}
+use Rattle.sj_base.specs.Spelling.{Document}
+use Rattle.sj_records.specs.Command.{Step, get, contains, type_of, len, keys, insert, remove, push, pop, set_at}
+use Rattle.sj_records.specs.Step.{Job, Keeping, from_start, from_write, State, begun, after}
 use Rattle.sj_records.specs.Record.{IsRecord}
 use Rattle.sj_records.specs.Script.{IsReadAs}
 
@@ -15,3 +21,54 @@ OneRecord = (job : Job) (line : List ℕ) → ExactlyOne (IsRecord job line)
 -- Any bytes are read as exactly one list of commands, or as exactly one refusal.
 abbrev pub OneReading : Type 0
 OneReading = (bytes : List ℕ) → ExactlyOne (IsReadAs bytes)
+
+-- the state after the first n commands of a job, on a line's tree
+abbrev pub state_at : Job → Tree → ℕ → State
+state_at job t n = after job (begun job t) (take n job.script)
+
+-- P holds of the tree of a state and of each base.
+abbrev pub HoldsInState : (Tree → Type 0) → State → Type 0
+HoldsInState P s = P s.tree × AllByRecursion P s.bases
+
+-- Where the tree of a line is within the limit of levels, each tree and each base along the script is.
+abbrev pub DepthStays : Type 0
+DepthStays = (job : Job) (t : Tree) (n : ℕ) → depth t ≤ job.limit → HoldsInState (λ u. depth u ≤ job.limit) (state_at job t n)
+
+-- a script that some bytes are read as
+abbrev pub IsAccepted : List Step → Type 0
+IsAccepted script = (bytes : List ℕ) × IsReadAs bytes (Ok script)
+
+abbrev pub is_write : Step → Bool
+is_write (insert path k v) = true
+is_write (remove path k) = true
+is_write (push path v) = true
+is_write (pop path) = true
+is_write (set_at path v) = true
+is_write (get path) = false
+is_write (contains path k) = false
+is_write (type_of path) = false
+is_write (len path) = false
+is_write (keys path) = false
+
+-- whether repeated keys have been dropped: from the start, or once there was a write command
+abbrev pub has_dropped : Keeping → List Step → Bool
+has_dropped from_start cs = true
+has_dropped from_write [] = false
+has_dropped from_write (c ∷ cs) = is_write c || has_dropped from_write cs
+
+-- Along an accepted script no base repeats a key, and no tree does once repeated keys have been dropped.
+abbrev pub BasesAreKept : Type 0
+BasesAreKept = (job : Job) (t : Tree) (n : ℕ) → IsAccepted job.script → AllByRecursion IsKept (state_at job t n).bases
+
+abbrev pub TreesAreKept : Type 0
+TreesAreKept = (job : Job) (t : Tree) (n : ℕ) → IsAccepted job.script → has_dropped job.keeping (take n job.script) ≡ true → IsKept (state_at job t n).tree
+
+-- Where the tree of a line repeats no key, its records under an accepted script are the same, however repeated keys are kept.
+abbrev pub FormsAgree : Type 0
+FormsAgree =
+    (script : List Step) (limit : ℕ) (a b : Keeping) (line bytes : List ℕ) → IsAccepted script → ((t : Tree) → Document line limit t → IsKept t)
+    → IsRecord (record { script = script; limit = limit; keeping = a }) line bytes → IsRecord (record { script = script; limit = limit; keeping = b }) line bytes
+
+-- No record under an accepted script holds a line feed.
+abbrev pub NoLineFeed : Type 0
+NoLineFeed = (job : Job) (line bytes : List ℕ) → IsAccepted job.script → IsRecord job line bytes → AllByRecursion (λ b. b ≢ 0x0a) bytes

@@ -1,20 +1,24 @@
 -- What the values of the program stand for: the commands of a script, what is done to each line, and a script's fault.
-use Rattle.std.specs.Prelude.{◌≡◌, ℕ, List, map, ◌++◌, codes, decimal, Result, Ok, Err, ⊤}
+use Rattle.std.specs.Prelude.{◌≡◌, ◌⊎◌, ℕ, List, [], map, ◌++◌, codes, decimal, Result, Ok, Err, ⊤}
 use Rattle.std.specs.String.{string_bytes}
+use Rattle.sj_base.specs.Tree.{Tree}
 use Rattle.sj_base.specs.Path.{Part, key, place}
 use Rattle.sj_base.specs.Names.{name_of}
+use Rattle.sj_base.specs.Text.{text}
 use Rattle.sj_records.specs.declared.path.PathPart.{PathPart}
 use Rattle.sj_records.specs.declared.path.PathPart.TheVariants.{Key, Item}
 use Rattle.sj_records.specs.declared.script.Command.{Command}
-use Rattle.sj_records.specs.declared.script.Command.TheVariants.{Get}
+use Rattle.sj_records.specs.declared.script.Command.TheVariants.{Get, Contains, TypeOf, Len, Keys, Insert, Remove, Push, Pop, SetAt}
 use Rattle.sj_records.specs.declared.script.CommandFault.{CommandFault}
 use Rattle.sj_records.specs.declared.script.CommandFault.TheVariants as faults
 use Rattle.sj_records.specs.declared.script.Script.{Script}
 use Rattle.sj_records.specs.declared.script.ScriptFault.{ScriptFault}
 use Rattle.sj_records.specs.declared.script.ScriptFault.TheVariants.{Json, NotAnArray, Command as CommandAt, Memory}
 use Rattle.sj_records.specs.declared.form.Form.{Form}
-use Rattle.sj_records.specs.Command.{Step, Refusal, get, json, not_an_array, command, commands_of}
-use Rattle.sj_records.specs.Step.{Job}
+use Rattle.sj_records.specs.declared.form.Form.TheVariants.{Owned, Borrowed, Lazy}
+use Rattle.sj_records.specs.Values.{document_tree}
+use Rattle.sj_records.specs.Command.{Step, get, contains, type_of, len, keys, insert, remove, push, pop, set_at, Refusal, json, not_an_array, command, commands_of}
+use Rattle.sj_records.specs.Step.{Job, Keeping, from_start, from_write, base, Change, settled, write_at}
 use Rattle.sj_records.specs.Record.{ComesOf}
 
 abbrev pub part_view : PathPart → Part
@@ -26,6 +30,15 @@ path_view parts = map part_view parts
 
 abbrev pub command_view : Command → Step
 command_view (Get path) = get (path_view path.items)
+command_view (Contains path k) = contains (path_view path.items) (string_bytes k)
+command_view (TypeOf path) = type_of (path_view path.items)
+command_view (Len path) = len (path_view path.items)
+command_view (Keys path) = keys (path_view path.items)
+command_view (Insert path k v) = insert (path_view path.items) (string_bytes k) (document_tree v.value)
+command_view (Remove path k) = remove (path_view path.items) (string_bytes k)
+command_view (Push path v) = push (path_view path.items) (document_tree v.value)
+command_view (Pop path) = pop (path_view path.items)
+command_view (SetAt path v) = set_at (path_view path.items) (document_tree v.value)
 
 abbrev pub commands_view : List Command → List Step
 commands_view commands = map command_view commands
@@ -33,16 +46,21 @@ commands_view commands = map command_view commands
 abbrev pub steps_of : Script → List Step
 steps_of script = commands_view script.commands.items
 
+-- how a form keeps a document
+abbrev pub keeping_of : Form → Keeping
+keeping_of Owned = from_start
+keeping_of Borrowed = from_start
+keeping_of Lazy = from_write
+
 -- a run of the script under the depth limit, with documents in the form
 abbrev pub job_of : Script → ℕ → Form → Job
-job_of script limit form = record { script = steps_of script; limit = limit; form = form }
+job_of script limit form = record { script = steps_of script; limit = limit; keeping = keeping_of form }
 
 -- the most levels that a script nests
 abbrev pub script_limit : ℕ
 script_limit = 1024
 
--- What a script's bytes are read as: the commands of its document, or the first refusal. (Which member of a repeated key
--- is kept matters to no command: a path has no object.)
+-- What a script's bytes are read as: the commands of its document, or the first refusal.
 abbrev pub IsReadAs : List ℕ → Result (List Step) Refusal → Type 0
 IsReadAs bytes r = ComesOf commands_of (λ e. Err (json e)) bytes script_limit r
 
@@ -58,6 +76,16 @@ abbrev pub AppendsOrLeaves : {E : Type 0} → Result Unit E → List ℕ → Lis
 AppendsOrLeaves (Ok done) old new bytes = new ≡ old ++ bytes
 AppendsOrLeaves (Err e) old new bytes = new ≡ old
 
+-- What a write leaves of the vector and of the tree t of the document: the reply is appended, and the tree is that after the
+-- write. On an error the vector is as it was, and the tree is t, the base of the write, or that after it.
+abbrev pub Settles : {E : Type 0} → Result Unit E → List ℕ → List ℕ → Keeping → Tree → Tree → List Part → Change → Type 0
+Settles (Ok done) old new keeping t u path change =
+    let w = settled (base t keeping) [] (write_at (base t keeping) path change) in
+    (new ≡ old ++ text w.0) × (u ≡ w.1.tree)
+Settles (Err e) old new keeping t u path change =
+    let w = settled (base t keeping) [] (write_at (base t keeping) path change) in
+    (new ≡ old) × ((u ≡ t) ⊎ (u ≡ base t keeping) ⊎ (u ≡ w.1.tree))
+
 -- the texts of faults
 
 abbrev pub command_fault_name : CommandFault → List ℕ
@@ -66,6 +94,7 @@ command_fault_name faults.NoName = codes "NoName"
 command_fault_name faults.UnknownName = codes "UnknownName"
 command_fault_name faults.WrongCount = codes "WrongCount"
 command_fault_name faults.BadPath = codes "BadPath"
+command_fault_name faults.BadKey = codes "BadKey"
 
 abbrev pub fault_text : ScriptFault → List ℕ
 fault_text (Json e) = name_of e.error ++ codes " at " ++ decimal e.index

@@ -2,3 +2,5 @@
 pub mod ReadErrors
 pub mod Documents
 pub mod Progress
+pub mod KeptValues
+pub mod LazyDocuments

@@ -7,4 +7,7 @@ pub enum Form {
     Owned,
     /// A document that borrows its texts from the line. Of members with equal keys only the first is kept.
     Borrowed,
+    /// The tape of the line until the first write, and from then on a document that borrows its texts from the line. Until
+    /// then all of members with equal keys are there, and from then on only the first.
+    Lazy,
 }

@@ -1,5 +1,5 @@
-//! Laws of the definitions: each function does nothing, and its contract is the law.
-ghost use Rattle.sj_records.specs.Laws.{OneRecord, OneReading};
+//! Laws of the definitions: each function does nothing but to call other laws, and its contract is the law.
+ghost use Rattle.sj_records.specs.Laws.{OneRecord, OneReading, DepthStays, BasesAreKept, TreesAreKept, FormsAgree, NoLineFeed};
 
 /// Each line has exactly one record, whatever the script, the limit of levels and the form.
 pub fn one_record()
@@ -10,3 +10,26 @@ pub fn one_record()
 pub fn one_reading()
     ensures { OneReading }
 {}
+
+/// Along a script, each tree and each base nests at most as deep as the limit, if the line's tree does.
+pub fn depth_stays()
+    ensures { DepthStays }
+{}
+
+/// A line whose document repeats no key has the same record in each form, for any script that `Script::read` accepts.
+pub fn forms_agree()
+    ensures { FormsAgree }
+{}
+
+/// Along a script that `Script::read` accepts, no base repeats a key, and no tree does once repeated keys have been dropped.
+pub fn kept_along()
+    ensures bases { BasesAreKept }
+    ensures trees { TreesAreKept }
+{}
+
+/// No record holds a line feed, for any script that `Script::read` accepts.
+pub fn no_line_feed()
+    ensures { NoLineFeed }
+{
+    sj_base::laws::printed_bytes();
+}

@@ -3,19 +3,28 @@
 
 mod commands;
 mod document;
+mod edit;
 mod engine;
 mod form;
 pub mod laws;
+mod lazy_document;
+mod part;
 mod path;
 mod read_error;
+mod reads;
+mod refusal;
 mod run_error;
 mod script;
+mod script_value;
 mod task;
 #[cfg(test)]
 mod tests;
 
+pub use document::Document;
 pub use engine::run;
 pub use form::Form;
+pub use lazy_document::LazyDocument;
 pub use path::PathPart;
 pub use run_error::RunError;
 pub use script::{Command, CommandFault, Script, ScriptFault};
+pub use script_value::ScriptValue;

@@ -7,16 +7,38 @@ ghost use Rattle.sj_records.specs.inside.ReadErrors.{IsScriptFault};
 
 use crate::commands::read_commands;
 use crate::path::PathPart;
+use crate::script_value::ScriptValue;
 use sj_base::{Error, ErrorType, put_int};
-use sj_owned::build_value;
-use sj_parse::to_tape;
+use sj_owned::to_owned_value;
 use std::alloc::{AllocError, AllocFailed, Global};
 
 /// One command of a script.
+///
+/// All but `Get` reply `"NoSuchPath"` if the path selects nothing. `Insert`, `Remove`, `Push`, `Pop` and `SetAt` are the
+/// write commands.
 #[derive(Debug, Drop)]
 pub enum Command {
     /// Replies with an array of the value that the path selects, or with an empty array.
     Get(Vec<PathPart>),
+    /// Replies with whether the path selects an object with this key.
+    Contains(Vec<PathPart>, String),
+    /// Replies with the type of the value that the path selects.
+    TypeOf(Vec<PathPart>),
+    /// Replies with the number of items or members, or `"NotAContainer"`.
+    Len(Vec<PathPart>),
+    /// Replies with an array of the keys, in order, or `"NotAnObject"`.
+    Keys(Vec<PathPart>),
+    /// Replaces the value of a key, or adds a member at the end. Replies with an array of the old value, or an empty array,
+    /// or else `"NotAnObject"` or `"TooDeep"`.
+    Insert(Vec<PathPart>, String, ScriptValue),
+    /// Takes out the member of a key. Replies with an array of its value, or an empty array, or else `"NotAnObject"`.
+    Remove(Vec<PathPart>, String),
+    /// Adds an item at the end. Replies with an empty array, or else `"NotAnArray"` or `"TooDeep"`.
+    Push(Vec<PathPart>, ScriptValue),
+    /// Takes out the last item. Replies with an array of it, or an empty array, or else `"NotAnArray"`.
+    Pop(Vec<PathPart>),
+    /// Replaces the value that the path selects. Replies with an array of the old value, or else `"TooDeep"`.
+    SetAt(Vec<PathPart>, ScriptValue),
 }
 
 /// Why a command of a script is refused.
@@ -37,6 +59,9 @@ pub enum CommandFault {
     /// The path is not an array of strings and integers not below 0.
     #[error("BadPath")]
     BadPath,
+    /// The key is not a string.
+    #[error("BadKey")]
+    BadKey,
 }
 
 /// Why a script is refused: its first fault.
@@ -93,6 +118,7 @@ impl CommandFault {
             CommandFault::UnknownName => "UnknownName",
             CommandFault::WrongCount => "WrongCount",
             CommandFault::BadPath => "BadPath",
+            CommandFault::BadKey => "BadKey",
         }
     }
 }
@@ -154,9 +180,8 @@ impl Script {
         ensures ok { IfOk result (λ script. IsReadAs bytes.entry.now (Ok (steps_of script))) }
         ensures refused { IfErr result (λ fault. IsRefusedAs fault bytes.entry.now) }
     {
-        let tape = to_tape(alloc, bytes)?;
-        let document = build_value(alloc, tape.as_value())?;
-        let commands = read_commands(alloc, &document)?;
+        let document = to_owned_value(alloc, bytes)?;
+        let commands = read_commands(alloc, document)?;
         Ok(Script { commands })
     }
 

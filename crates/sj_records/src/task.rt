@@ -1,22 +1,29 @@
 //! The record of one line, in bytes.
-ghost use Rattle.std.specs.Prelude.{◌≡◌, ℕ, List, ◌∷◌, [], ◌++◌, Some, OnOk, IfOk, IfErr};
+ghost use Rattle.std.specs.Prelude.{◌≡◌, ◌≢◌, ℕ, List, ◌∷◌, [], ◌++◌, Some, OnOk, IfOk, IfErr};
 ghost use Rattle.sj_base.specs.Tree.{list};
 ghost use Rattle.sj_base.specs.Text.{text};
-ghost use Rattle.sj_parse.specs.Answers.{buffer_limit};
+ghost use Rattle.sj_parse.specs.Answers.{IsTapeOf, buffer_limit};
 ghost use Rattle.sj_parse.specs.Fault.{fault};
 ghost use Rattle.sj_records.specs.Record.{IsRecord, fault_record, record_of, character_of};
 ghost use Rattle.sj_owned.specs.Views.{value_tree};
+ghost use Rattle.sj_records.specs.Script.{command_view};
+ghost use Rattle.sj_tape.specs.Views.{tape_nodes};
+ghost use Rattle.sj_records.specs.Step.{from_start, from_write};
 ghost use Rattle.sj_records.specs.inside.ReadErrors.{IsKept, IfRefused};
-ghost use Rattle.sj_records.specs.inside.Progress.{task_job, replies_to, scratch_limit};
+ghost use Rattle.sj_records.specs.inside.Progress.{task_job, replies_to, tree_after, scratch_limit, IsStep};
 
-use crate::document::{find, put_comma, put_reply};
+use crate::document::Document;
+use crate::edit::ScriptText;
 use crate::form::Form;
+use crate::lazy_document::LazyDocument;
 use crate::read_error::ReadError;
+use crate::reads::put_comma;
 use crate::script::{Command, Script};
 use sj_base::{DecimalBuf, DecimalCow, Error, put_int, put_string};
-use sj_object::{MakeKey, ObjectKey};
-use sj_owned::{Literal, MakeLiteral, Value, build_value};
+use sj_object::MakeKey;
+use sj_owned::{MakeLiteral, Value, build_tape};
 use sj_parse::{Buffers, to_tape_with_buffers};
+use sj_tape::Tape;
 use std::alloc::{AllocError, Global};
 use std::borrow::CowStr;
 
@@ -87,24 +94,47 @@ fn put_record(
         Form::Borrowed => put_record_of::<CowStr<'_>, DecimalCow<'_>>(
             alloc, buffers, out, line, task,
         ),
+        Form::Lazy => put_lazy_record(alloc, buffers, out, line, task),
     }
 }
 
 /// Appends the record of a line by a document with these types of texts.
-fn put_record_of<'de, K: MakeKey<'de> + Drop, D: MakeLiteral<'de> + Drop>(
+fn put_record_of<'de, K: MakeKey<'de> + ScriptText<D> + Drop, D: MakeLiteral<'de> + Drop>(
     alloc: Global,
     buffers: &mut Buffers,
     out: &mut Vec<u8>,
     line: &'de mut [u8],
     task: Task<'_>,
 ) -> Result<(), AllocError>
-    requires { buffer_limit buffers.old ≡ task.depth }
+    requires limit { buffer_limit buffers.old ≡ task.depth }
+    requires keeping { (task_job task).keeping ≡ from_start }
     ensures holds { OnOk result ((bytes : List ℕ) × (out.new.items ≡ out.old.items ++ bytes)
         × IsRecord (task_job task.entry) line.entry.now bytes) }
     ensures limit { buffer_limit buffers.new ≡ buffer_limit buffers.old }
 {
     match read_document::<K, D>(alloc, buffers, line) {
-        Ok(document) => put_outcome(&document, task, out),
+        Ok(mut document) => put_outcome(&mut document, task, out),
+        Err(ReadError::Refused(fault)) => put_fault_record(fault, out),
+        Err(ReadError::Memory) => Err(AllocError),
+    }
+}
+
+/// Appends the record of a line by a document in the form `Lazy`.
+fn put_lazy_record<'de>(
+    alloc: Global,
+    buffers: &mut Buffers,
+    out: &mut Vec<u8>,
+    line: &'de mut [u8],
+    task: Task<'_>,
+) -> Result<(), AllocError>
+    requires limit { buffer_limit buffers.old ≡ task.depth }
+    requires keeping { (task_job task).keeping ≡ from_write }
+    ensures holds { OnOk result ((bytes : List ℕ) × (out.new.items ≡ out.old.items ++ bytes)
+        × IsRecord (task_job task.entry) line.entry.now bytes) }
+    ensures limit { buffer_limit buffers.new ≡ buffer_limit buffers.old }
+{
+    match read_tape(alloc, buffers, line) {
+        Ok(tape) => put_outcome(&mut LazyDocument::new(tape.as_value()), task, out),
         Err(ReadError::Refused(fault)) => put_fault_record(fault, out),
         Err(ReadError::Memory) => Err(AllocError),
     }
@@ -133,45 +163,83 @@ fn read_document<'de, K: MakeKey<'de> + Drop, D: MakeLiteral<'de> + Drop>(
     ensures refused { IfErr result (λ e. IfRefused e (λ why. fault line.entry.now (buffer_limit buffers.old) ≡ Some why)) }
     ensures limit { buffer_limit buffers.new ≡ buffer_limit buffers.old }
 {
+    let tape = read_tape(alloc, buffers, line)?;
+    Ok(build_tape::<Value<K, D>, K>(alloc, tape)?)
+}
+
+/// Reads the tape of a line under the limit of the buffers. The line is rewritten.
+fn read_tape<'de>(
+    alloc: Global,
+    buffers: &mut Buffers,
+    line: &'de mut [u8],
+) -> Result<Tape<'de>, ReadError<Error>>
+    ensures found { IfOk result (λ tape. IsTapeOf line.entry.now (buffer_limit buffers.old) (tape_nodes tape)) }
+    ensures not_empty { IfOk result (λ tape. tape_nodes tape ≢ []) }
+    ensures refused { IfErr result (λ e. IfRefused e (λ why. fault line.entry.now (buffer_limit buffers.old) ≡ Some why)) }
+    ensures limit { buffer_limit buffers.new ≡ buffer_limit buffers.old }
+{
     let tape = to_tape_with_buffers(alloc, line, buffers)?;
     release(alloc, buffers)?;
-    Ok(build_value(alloc, tape.as_value())?)
+    Ok(tape)
 }
 
 /// Appends the record of a document: the replies to the script's commands, and then the document.
-fn put_outcome<K: ObjectKey, D: Literal>(
-    document: &Value<K, D>,
+fn put_outcome<T: Document>(
+    document: &mut T,
     task: Task<'_>,
     out: &mut Vec<u8>,
 ) -> Result<(), AllocError>
+    requires { T.keeping ≡ (task_job task).keeping }
     ensures { OnOk result (out.new.items ≡ out.old.items
-        ++ text (record_of (replies_to task.entry (value_tree K.text D.literal document.now)) (value_tree K.text D.literal document.now))) }
+        ++ text (record_of (replies_to task.entry (T.tree document.old)) (tree_after task.entry (T.tree document.old)))) }
 {
     out.extend_from_slice(b"{\"replies\":")?;
     put_replies(document, task, out)?;
     out.extend_from_slice(b",\"document\":")?;
-    document.encode(out)?;
+    document.text(out)?;
     out.push(b'}')?;
     Ok(())
 }
 
-fn put_replies<K: ObjectKey, D: Literal>(
-    document: &Value<K, D>,
+fn put_replies<T: Document>(
+    document: &mut T,
     task: Task<'_>,
     out: &mut Vec<u8>,
 ) -> Result<(), AllocError>
-    ensures { OnOk result (out.new.items ≡ out.old.items
-        ++ text (list (replies_to task.entry (value_tree K.text D.literal document.now)))) }
+    requires { T.keeping ≡ (task_job task).keeping }
+    ensures { OnOk result ((out.new.items ≡ out.old.items ++ text (list (replies_to task.entry (T.tree document.old))))
+        × (T.tree document.new ≡ tree_after task.entry (T.tree document.old))) }
 {
     out.push(b'[')?;
     for (place, command) in task.script.commands().iter().enumerate() {
         put_comma(place, out)?;
-        match command {
-            Command::Get(path) => put_reply(find(document, path), out)?,
-        }
+        put_command(document, command, task.depth, out)?;
     }
     out.push(b']')?;
     Ok(())
+}
+
+/// Runs one command, and appends its reply.
+fn put_command<T: Document>(
+    document: &mut T,
+    command: &Command,
+    depth: usize,
+    out: &mut Vec<u8>,
+) -> Result<(), AllocError>
+    ensures { OnOk result (IsStep T.keeping depth (T.tree document.old) (T.tree document.new) out.old.items out.new.items (command_view command.now)) }
+{
+    match command {
+        Command::Get(path) => document.get(path, out),
+        Command::Contains(path, key) => document.contains(path, key, out),
+        Command::TypeOf(path) => document.type_of(path, out),
+        Command::Len(path) => document.len(path, out),
+        Command::Keys(path) => document.keys(path, out),
+        Command::Insert(path, key, value) => document.insert(path, key, value, depth, out),
+        Command::Remove(path, key) => document.remove(path, key, out),
+        Command::Push(path, value) => document.push(path, value, depth, out),
+        Command::Pop(path) => document.pop(path, out),
+        Command::SetAt(path, value) => document.set_at(path, value, depth, out),
+    }
 }
 
 fn put_fault_record(fault: Error, out: &mut Vec<u8>) -> Result<(), AllocError>

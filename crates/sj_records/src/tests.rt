@@ -1,13 +1,21 @@
-//! Worked lines and scripts, the display texts of errors, and readers and writers that fail. The tests of `sj_base`,
-//! `sj_scan`, `sj_reads` and `sj_parse` stand here too, since a crate with tests is proved once more with them.
+//! Worked lines and scripts, the display texts of errors, and readers and writers that fail. The tests of the crates below
+//! stand here too, but for those of `sj_tape`, since a crate with tests is proved once more with them.
 ghost use Rattle.std.specs.Prelude.{◌≡◌};
 
+mod copies;
 mod documents;
 mod faults;
+mod keys;
+mod lazy;
+mod objects;
+mod owned;
 mod rows;
 mod scans;
 mod shared;
+mod slices;
 mod tapes;
+mod values;
+mod writes;
 
 use super::*;
 use sj_base::{Counted, Error, ErrorType};
@@ -146,7 +154,7 @@ fn script_of(alloc: Global, text: &str) -> Result<Script, ScriptFault> {
     Script::read(alloc, &mut bytes)
 }
 
-const FORMS: [Form; 2] = [Form::Owned, Form::Borrowed];
+const FORMS: [Form; 3] = [Form::Owned, Form::Borrowed, Form::Lazy];
 
 // Looks for what a script writes, in each form, for a stream that comes in pieces of `step` bytes.
 fn expect(
@@ -158,18 +166,32 @@ fn expect(
     step: usize,
     records: &str,
 ) {
-    let script = script_of(alloc, script).expect(rt, "a script");
     for form in FORMS {
-        let mut output = Vec::new(alloc);
-        let input = Pieces::new(stream.as_bytes(), step);
-        let result = run_on(alloc, input, &mut output, &script, depth, form);
-        assert_eq!(rt; result, Ok(()));
-        assert_eq!(rt;
-            output.as_slice(),
-            records.as_bytes(),
-            "{stream} by {step} in {form:?}"
-        );
+        expect_in(form, rt, alloc, script, stream, depth, step, records);
     }
+}
+
+// The same in one form.
+fn expect_in(
+    form: Form,
+    rt: &impl Abort,
+    alloc: Global,
+    script: &str,
+    stream: &str,
+    depth: usize,
+    step: usize,
+    records: &str,
+) {
+    let script = script_of(alloc, script).expect(rt, "a script");
+    let mut output = Vec::new(alloc);
+    let input = Pieces::new(stream.as_bytes(), step);
+    let result = run_on(alloc, input, &mut output, &script, depth, form);
+    assert_eq!(rt; result, Ok(()));
+    assert_eq!(rt;
+        output.as_slice(),
+        records.as_bytes(),
+        "{stream} by {step} in {form:?}"
+    );
 }
 
 // The two parts of a row of a table: a line, and what is wanted for it.
@@ -226,13 +248,6 @@ fn records(rt: HostRuntime) {
             r#"{"key": "value", "snot": 42}
 "#,
             r#"{"replies":[["value"]],"document":{"key":"value","snot":42}}
-"#,
-        ),
-        (
-            r#"[["get",["a"]],["get",["b"]]]"#,
-            r#"{"a":1,"a":2}
-"#,
-            r#"{"replies":[[1],[]],"document":{"a":1}}
 "#,
         ),
         (
@@ -374,6 +389,46 @@ fn refused_scripts(rt: HostRuntime) -> Result<(), Fail> {
             command_fault(CommandFault::BadPath),
             "command 0: BadPath",
         ),
+        (
+            r#"[["type",[]],["frob",[]]]"#,
+            second,
+            "command 1: UnknownName",
+        ),
+        (
+            r#"[["reload"]]"#,
+            command_fault(CommandFault::UnknownName),
+            "command 0: UnknownName",
+        ),
+        (
+            r#"[["contains",1]]"#,
+            command_fault(CommandFault::WrongCount),
+            "command 0: WrongCount",
+        ),
+        (
+            r#"[["insert",1,2]]"#,
+            command_fault(CommandFault::WrongCount),
+            "command 0: WrongCount",
+        ),
+        (
+            r#"[["pop",[],1]]"#,
+            command_fault(CommandFault::WrongCount),
+            "command 0: WrongCount",
+        ),
+        (
+            r#"[["remove",7,1]]"#,
+            command_fault(CommandFault::BadPath),
+            "command 0: BadPath",
+        ),
+        (
+            r#"[["set","a",1]]"#,
+            command_fault(CommandFault::BadPath),
+            "command 0: BadPath",
+        ),
+        (
+            r#"[["insert",[],1,2]]"#,
+            command_fault(CommandFault::BadKey),
+            "command 0: BadKey",
+        ),
     ] {
         let found = script_of(alloc, script).err();
         assert_eq!(rt; found, Some(fault), "{script}");
@@ -409,6 +464,7 @@ fn display_texts(rt: HostRuntime) -> Result<(), Fail> {
         (CommandFault::UnknownName, "UnknownName"),
         (CommandFault::WrongCount, "WrongCount"),
         (CommandFault::BadPath, "BadPath"),
+        (CommandFault::BadKey, "BadKey"),
     ] {
         assert_eq!(rt; format!(in alloc; "{fault}")?.as_str(), text);
     }

@@ -8,3 +8,4 @@ pub mod Comparing
 pub mod Printing
 pub mod Children
 pub mod ChildTrees
+pub mod Beginnings

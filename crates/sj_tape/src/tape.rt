@@ -1,5 +1,5 @@
 //! Tapes: a whole document as one flat list of nodes.
-ghost use Rattle.std.specs.Prelude.{◌≡◌, ◌≢◌, ◌↔◌, ◌⊎◌, [], ◌∷◌, Some, IsTrue, IsSome, IfSome, IfOk};
+ghost use Rattle.std.specs.Prelude.{◌≡◌, ◌≢◌, ◌↔◌, ◌⊎◌, ◌<◌, List, [], ◌∷◌, ◌++◌, Some, IsTrue, IsSome, IfSome, IfOk, drop, length};
 ghost use Rattle.sj_base.specs.Tree.{Tree, null, IsValidTree};
 ghost use Rattle.sj_tape.specs.Listing.{listing};
 ghost use Rattle.sj_tape.specs.Listed.{IsPreorder, IsTape, option_listing, tree_of};
@@ -113,5 +113,15 @@ impl<'i> Tape<'i> {
         Value {
             nodes: self.nodes(),
         }
+    }
+
+    /// Returns a view of the value whose nodes begin at this index. The key of a member is a string here. To test the
+    /// condition, compare the index with the length of [`Tape::nodes`].
+    pub fn value_at(&self, index: usize) -> Value<'_, 'i>
+        requires { index < length (tape_nodes self.now) }
+        ensures nodes { (rest : List Node) × (drop index (tape_nodes self.now) ≡ value_nodes result ++ rest) }
+        ensures listed { entries (value_nodes result) ≡ listing (value_tree result) }
+    {
+        self.as_value().value_at(index)
     }
 }

@@ -1,5 +1,5 @@
 //! Views of the values of a tape.
-ghost use Rattle.std.specs.Prelude.{◌≡◌, ◌++◌, List, Some, IfOk, IfSome, is_some, ok_or, option_and_then, option_map};
+ghost use Rattle.std.specs.Prelude.{◌≡◌, ◌<◌, ◌++◌, List, Some, IfOk, IfSome, drop, is_some, length, ok_or, option_and_then, option_map};
 ghost use Rattle.sj_base.specs.Containers.{items_in, members_in, scalar_in};
 ghost use Rattle.sj_base.specs.Tree.{Tree, null, IsValidTree};
 ghost use Rattle.sj_base.specs.Path.{key, place, member_at, item_at, child};
@@ -299,6 +299,17 @@ impl<'t, 'i> Value<'t, 'i> {
             Some((first, _)) => first.scalar(),
             None => Some(Scalar::Static(StaticNode::Null)),
         }
+    }
+
+    /// Returns a view of the value whose nodes begin at this index of [`Value::nodes`]. The key of a member is a string
+    /// here. To test the condition, compare the index with the length of the nodes.
+    pub fn value_at(&self, index: usize) -> Value<'t, 'i>
+        requires { index < length (value_nodes self.now) }
+        ensures nodes { (rest : List Node) × (drop index (value_nodes self.now) ≡ value_nodes result ++ rest) }
+        ensures listed { entries (value_nodes result) ≡ listing (value_tree result) }
+    {
+        let (value, _) = Value::split_from(&self.nodes[index..]);
+        value
     }
 
     fn mismatch(&self, expected: ValueType) -> TryTypeError

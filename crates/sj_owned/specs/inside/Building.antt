@@ -16,6 +16,11 @@ abbrev pub shown_tree : Shown → Tree
 shown_tree (text s) = string s
 shown_tree (built t) = t
 
+-- the part on top, and null where there is none
+abbrev pub first_part : List Shown → Shown
+first_part [] = built null
+first_part (p ∷ ps) = p
+
 -- the members of that many pairs of a text and a value
 abbrev pub members_from : ℕ → List Shown → Members
 members_from zero ps = no_members

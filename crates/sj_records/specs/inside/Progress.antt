@@ -10,7 +10,9 @@ use Rattle.sj_records.specs.declared.run_error.RunError.TheVariants.{Memory, Wri
 use Rattle.sj_records.specs.declared.task.Task.{Task}
 use Rattle.sj_records.specs.declared.task.Scratch.{Scratch}
 use Rattle.sj_parse.specs.Answers.{buffer_limit}
-use Rattle.sj_records.specs.Step.{Job, State, replies}
+use Rattle.sj_records.specs.Step.{Job, Keeping, State, step, replies, after}
+use Rattle.sj_records.specs.Command.{Step}
+use Rattle.sj_base.specs.Text.{text}
 use Rattle.sj_records.specs.Record.{AreRecords}
 use Rattle.sj_records.specs.Script.{job_of}
 
@@ -64,3 +66,13 @@ first_state t = record { tree = t; bases = [] }
 -- the replies to the task's script
 abbrev pub replies_to : Task → Tree → Items
 replies_to task t = replies (task_job task) (first_state t) (task_job task).script
+
+-- the document after the task's script
+abbrev pub tree_after : Task → Tree → Tree
+tree_after task t = (after (task_job task) (first_state t) (task_job task).script).tree
+
+-- The reply to a command on the tree t was appended, and u is the tree after it.
+abbrev pub IsStep : Keeping → ℕ → Tree → Tree → List ℕ → List ℕ → Step → Type 0
+IsStep keeping limit t u old new c =
+    let s = step (record { script = []; limit = limit; keeping = keeping }) (first_state t) c in
+    (new ≡ old ++ text s.0) × (u ≡ s.1.tree)

@@ -1,16 +1,15 @@
 use Rattle.std.proofs.Common.{◌≡◌, ◌-◌, ◌++◌, take, drop, map, ap, sym, ◌∙◌, arith, append_assoc, append-nil}
+use Rattle.std.proofs.lemmas.Result.{IfOk-weaker}
 use Rattle.sj_base.specs.Tree.{list}
 use Rattle.sj_owned.specs.Trees.{items_of}
-use Rattle.sj_owned.specs.Views.{value_tree}
-use Rattle.sj_owned.specs.inside.Building.{stack, shown_tree}
-use Rattle.sj_owned.proofs.Layers.{tree-Array}
+use Rattle.sj_owned.specs.inside.Building.{stack, shown_tree, list_from}
 use Rattle.sj_owned.proofs.Stacks.{items_then, drop_then}
 use Rattle.sj_owned.proofs.build.take_list.Goals as goal
 
 pub loop-left-preserved : goal.loop-left-preserved
 loop-left-preserved g c =
     let left = c.loop-left.left in
-    let tree = value_tree g.K.ObjectKey.text g.D.Literal.literal in
+    let tree = g.V.BuildValue.tree in
     let items = map tree c.loop-left.items.items in
     let ps = stack tree c.loop-left.parts.items in
     let more = stack tree c.take_item.new.parts.items in (
@@ -24,11 +23,9 @@ loop-left-preserved g c =
 
 pub returns-clause-value : goal.returns-clause-value
 returns-clause-value g c =
-    let text = g.K.ObjectKey.text in
-    let literal = g.D.Literal.literal in
-    let tree = value_tree text literal in
+    let tree = g.V.BuildValue.tree in
     let items = map tree c.loop-left.items.items in
     let ps = stack tree c.loop-left.parts.items in
     let done : c.loop-left.left ≡ 0 = omega (arith, c.loop-left-test.false) in
     let all = sym (append-nil items) ∙ ap (λ n. items ++ map shown_tree (take n ps)) (sym done) ∙ c.loop-left.invariant.0 in
-    tree-Array text literal c.loop-left.items ∙ ap (λ ts. list (items_of ts)) all
+    IfOk-weaker c.from_array.result (λ v. tree v ≡ list (items_of items)) (λ v. tree v ≡ list_from c.args.len (stack tree c.args.parts.now.items)) (λ v h. h ∙ ap (λ ts. list (items_of ts)) all) c.from_array.ensures

@@ -1,11 +1,10 @@
 use Rattle.std.proofs.Common.{◌≡◌, ◌++◌, map, take, drop}
-use Rattle.sj_owned.specs.Views.{value_tree}
 use Rattle.sj_owned.specs.inside.Building.{shown_tree, stack}
 use Rattle.sj_owned.proofs.build.take_list.Given as goal
 
 abbrev pub invariant-loop-left : goal.invariant-loop-left
 invariant-loop-left g l =
-    let tree = value_tree g.K.ObjectKey.text g.D.Literal.literal in
+    let tree = g.V.BuildValue.tree in
     (map tree l.items.items ++ map shown_tree (take l.left (stack tree l.parts.items)) ≡ map shown_tree (take l.len (stack tree l.fn.parts.items)))
     × (drop l.left (stack tree l.parts.items) ≡ drop l.len (stack tree l.fn.parts.items))
 

@@ -1,5 +1,4 @@
 use Rattle.std.proofs.Common.{◌-◌, ap, ◌∙◌, arith}
-use Rattle.sj_owned.specs.Views.{value_tree}
 use Rattle.sj_owned.specs.Trees.{members_of, on_values}
 use Rattle.sj_owned.specs.inside.Building.{stack, members_from, drop_pairs, add_pair}
 use Rattle.sj_owned.specs.inside.Kept.{gathered}
@@ -9,7 +8,7 @@ use Rattle.sj_owned.proofs.build.take_object.Goals as goal
 pub loop-left-preserved : goal.loop-left-preserved
 loop-left-preserved g c =
     let left = c.loop-left.left in
-    let tree = value_tree g.K.ObjectKey.text g.D.Literal.literal in
+    let tree = g.V.BuildValue.tree in
     let old = members_of g.K.ObjectKey.text (on_values tree c.loop-left.members) in
     let ps = stack tree c.loop-left.parts.items in
     let more = stack tree c.take_member.new.parts.items in (

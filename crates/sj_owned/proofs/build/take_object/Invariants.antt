@@ -1,6 +1,5 @@
 use Rattle.std.proofs.Common.{◌≡◌}
 use Rattle.sj_base.specs.Tree.{no_members}
-use Rattle.sj_owned.specs.Views.{value_tree}
 use Rattle.sj_owned.specs.Trees.{members_of, on_values}
 use Rattle.sj_owned.specs.inside.Building.{stack, members_from, drop_pairs}
 use Rattle.sj_owned.specs.inside.Kept.{gathered}
@@ -8,7 +7,7 @@ use Rattle.sj_owned.proofs.build.take_object.Given as goal
 
 abbrev pub invariant-loop-left : goal.invariant-loop-left
 invariant-loop-left g l =
-    let tree = value_tree g.K.ObjectKey.text g.D.Literal.literal in
+    let tree = g.V.BuildValue.tree in
     let start = stack tree l.fn.parts.items in
     let now = stack tree l.parts.items in
     (gathered (members_of g.K.ObjectKey.text (on_values tree l.members)) (members_from l.left now) ≡ gathered no_members (members_from l.len start))

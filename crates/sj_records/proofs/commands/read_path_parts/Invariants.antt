@@ -1,6 +1,6 @@
 use Rattle.std.proofs.Common.{◌≡◌, drop}
 use Rattle.sj_records.specs.Command.{parts_of}
-use Rattle.sj_records.specs.inside.Documents.{items_view}
+use Rattle.sj_records.specs.Values.{items_view}
 use Rattle.sj_records.specs.Script.{path_view}
 use Rattle.sj_records.proofs.ScriptSteps.{read_after}
 use Rattle.sj_records.proofs.commands.read_path_parts.Given as goal

@@ -4,15 +4,18 @@ use Rattle.sj_object.proofs.Distinct.{keys_of-set}
 use Rattle.sj_object.proofs.Places.{place_within, value_at_place, value_at_no_place, put_key-set_place, set_place-set}
 use Rattle.sj_object.proofs.object.Object.insert.Goals as goal
 
-pub returns-in_default-clause-replaced : goal.returns-in_default-clause-replaced
-returns-in_default-clause-replaced g c =
-    let absent = value_at_no_place g.K.ObjectKey.text (g.K.ObjectKey.text c.args.key) c.args.self.now (rw c.as_text.ensures at (sym c.in_default.ensures)) in
-    rw absent c.append.ensures.none
+pub push_new-requires : goal.push_new-requires
+push_new-requires g c =
+    value_at_no_place g.K.ObjectKey.text (g.K.ObjectKey.text c.args.key) c.args.self.now (rw c.as_text.ensures at (sym c.in_default.ensures))
 
-pub returns-in_default-clause-succeeds : goal.returns-in_default-clause-succeeds
-returns-in_default-clause-succeeds g c =
+pub returns-in_err-push_new-clause-succeeds : goal.returns-in_err-push_new-clause-succeeds
+returns-in_err-push_new-clause-succeeds g c =
     let absent = value_at_no_place g.K.ObjectKey.text (g.K.ObjectKey.text c.args.key) c.args.self.now (rw c.as_text.ensures at (sym c.in_default.ensures)) in
     rw absent (search rules)
+
+pub returns-in_default-clause-replaced : goal.returns-in_default-clause-replaced
+returns-in_default-clause-replaced g c =
+    sym (value_at_no_place g.K.ObjectKey.text (g.K.ObjectKey.text c.args.key) c.args.self.now (rw c.as_text.ensures at (sym c.in_default.ensures)))
 
 pub index_mut-requires : goal.index_mut-requires
 index_mut-requires g c =

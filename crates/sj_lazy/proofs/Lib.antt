@@ -1,0 +1,4 @@
+mod Alike
+mod Documents
+mod Lists
+mod Upgrades

@@ -1,0 +1,87 @@
+use Rattle.std.proofs.Common.{◌≡◌, ◌&&◌, ◌||◌, ◌+◌, ◌<◌, ◌≤◌, true, false, [], ◌∷◌, ◌++◌, map, option_map, sym, ap, ap₂, ◌∙◌, arith, add-one}
+use Rattle.sj_base.specs.Containers.{members_len, member_pairs}
+use Rattle.sj_tape.specs.Views.{value_tree, array_items as tape_items, object_members as tape_members}
+use Rattle.sj_tape.proofs.Printing.{fewer_items, fewer_members}
+use Rattle.sj_lazy.specs.Parts.{array_items, object_members, items_left, keys_left}
+use Rattle.sj_lazy.specs.Views.{contents_tree, lazy_tree}
+use Rattle.sj_lazy.specs.inside.Comparing.{among, first_keys, all_found}
+use Rattle.sj_lazy.proofs.Alike.{left_alike, next_item, none_left, lists_alike, agrees, next_agrees, rest_alike, objects_alike, behind_first, key_passed, all_behind, some_behind}
+use Rattle.sj_lazy.proofs.compare.+same.Goals as goal
+use Rattle.sj_lazy.proofs.compare.+same.Goals.{same_members-else-not-is_repeat-via-then-not-is_repeat+else-not-same_next, same_members-else-not-is_repeat-via-else-not-is_repeat}
+
+pub same_items-returns-then-not-same_next : goal.same_items-returns-then-not-same_next
+same_items-returns-then-not-same_next t c =
+    let rest = tape_items c.in-Some.behind in
+    let more = items_left c.next.new.self in
+    ap (λ b. b && left_alike rest (map contents_tree more)) c.if-not-same_next.ensures
+    ∙ sym (next_item c.next.result (items_left c.loop-item.left) more (tape_items c.loop-item.rest) rest (value_tree c.in-Some.item) c.next.ensures.steps c.in-Some.ensures.items)
+    ∙ c.loop-item.invariant.1
+    ∙ lists_alike (tape_items c.args.items) (array_items c.args.others)
+
+pub same_items-loop-item-smaller : goal.same_items-loop-item-smaller
+same_items-loop-item-smaller t c =
+    fewer_items (tape_items c.loop-item.rest) (value_tree c.in-Some.item) (tape_items c.in-Some.behind) c.in-Some.ensures.items
+
+pub same_items-returns : goal.same_items-returns
+same_items-returns t c =
+    c.is_end.ensures
+    ∙ none_left c.next-2.result (items_left c.loop-item.left) (items_left c.next-2.new.self) (tape_items c.loop-item.rest) c.next-2.ensures.steps c.in_default.ensures.items
+    ∙ c.loop-item.invariant.1
+    ∙ lists_alike (tape_items c.args.items) (array_items c.args.others)
+
+pub same_members-unreachable-requires : goal.same_members-unreachable-requires
+same_members-unreachable-requires t c =
+    let all = tape_members c.args.members in
+    let within : c.loop-count.count < members_len all = omega (arith, c.loop-count-test.true, c.len-count-end.ensures) in
+    some_behind c.loop-count.count all within (c.loop-count.invariant.1 ∙ c.in_default.ensures.members)
+
+pub same_members-returns-then-not-same_next : goal.same_members-returns-then-not-same_next
+same_members-returns-then-not-same_next t c =
+    let all = tape_members c.args.members in
+    let ns = object_members c.args.others in
+    let ks = first_keys c.loop-count.count all in
+    let k = c.in-Some.key.now in
+    let v = value_tree c.in-Some.value in
+    let left = rest_alike (ks ++ k ∷ []) (tape_members c.in-Some.behind) ns in
+    let differs = c.if-not-same_next.ensures ∙ next_agrees k v ns (option_map lazy_tree c.get.result) c.get.ensures.tree in
+    let found = ap₂ (λ a b. (a || b) && left) c.if-not-is_repeat.ensures differs
+    ∙ sym (ap (λ l. rest_alike ks l ns) c.in-Some.ensures.members) ∙ c.loop-count.invariant.2 in
+    ap (λ b. b && all_found (map (λ p. p.0) (member_pairs ns)) all) found ∙ objects_alike all ns
+
+pub same_members-loop-count-preserved : goal.same_members-loop-count-preserved
+same_members-loop-count-preserved t c =
+    let all = tape_members c.args.members in
+    let ns = object_members c.args.others in
+    let n = c.loop-count.count in
+    let ks = first_keys n all in
+    let k = c.in-Some.key.now in
+    let v = value_tree c.in-Some.value in
+    let ms = tape_members c.in-Some.behind in
+    let left = rest_alike (ks ++ k ∷ []) ms ns in
+    let passed = key_passed n all ms k v (c.loop-count.invariant.1 ∙ c.in-Some.ensures.members) in
+    let fewer = fewer_members (tape_members c.loop-count.rest) k v ms c.in-Some.ensures.members in
+    let known = ap (λ l. rest_alike l ms ns) (ap (λ j. first_keys j all) (add-one n) ∙ passed.0) in
+    let before = sym (ap (λ l. rest_alike ks l ns) c.in-Some.ensures.members) ∙ c.loop-count.invariant.2 in
+    elim c.else-not-is_repeat.branch [
+      | same_members-else-not-is_repeat-via-then-not-is_repeat+else-not-same_next w ↦ (
+        omega (arith, fewer, c.loop-count.invariant.0),
+        ap (λ j. behind_first j all) (add-one n) ∙ passed.1,
+        known ∙ ap₂ (λ a b. (a || b) && left) w.if-not-is_repeat.ensures (w.if-not-same_next.ensures ∙ next_agrees k v ns (option_map lazy_tree w.get.result) w.get.ensures.tree) ∙ before,
+      )
+      | same_members-else-not-is_repeat-via-else-not-is_repeat w ↦ (
+        omega (arith, fewer, c.loop-count.invariant.0),
+        ap (λ j. behind_first j all) (add-one n) ∙ passed.1,
+        known ∙ ap (λ a. (a || agrees k v ns) && left) w.if-not-is_repeat.ensures ∙ before,
+      )
+    ]
+
+pub same_members-returns : goal.same_members-returns
+same_members-returns t c =
+    let all = tape_members c.args.members in
+    let ns = object_members c.args.others in
+    let n = c.loop-count.count in
+    let found = all_found (map (λ p. p.0) (member_pairs ns)) all in
+    let ended : n ≡ members_len all = omega (arith, c.loop-count.auto.count-end, c.loop-count-test.false, c.len-count-end.ensures) in
+    let none = sym c.loop-count.invariant.1 ∙ ap (λ j. behind_first j all) ended ∙ all_behind all in
+    let done = sym (ap (λ l. rest_alike (first_keys n all) l ns) none) ∙ c.loop-count.invariant.2 in
+    c.are_found.ensures ∙ ap (λ l. all_found l all) c.keys.ensures.keys ∙ ap (λ b. b && found) done ∙ objects_alike all ns

@@ -1,0 +1,7 @@
+pub mod Contents
+pub mod Views
+pub mod Parts
+pub mod ByName
+pub mod Upgrade
+pub mod Copies
+pub mod inside

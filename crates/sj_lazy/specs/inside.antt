@@ -1,0 +1,2 @@
+-- Definitions that only contracts of private functions cite.
+pub mod Comparing

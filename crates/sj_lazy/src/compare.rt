@@ -1,0 +1,175 @@
+//! Comparisons of lazy values. They take no memory.
+//!
+//! Two documents are compared by `==` of documents. A part of a tape is walked through, and its repeated keys are passed
+//! over.
+ghost use Rattle.std.specs.Prelude.{◌≡◌, is_none, option_map};
+ghost use Rattle.std.specs.Cmp.{on_equiv, partial_equiv_from_equiv};
+ghost use Rattle.std.specs.Ordering.{on};
+ghost use Rattle.sj_base.specs.Scalar.{scalar_tree};
+ghost use Rattle.sj_base.specs.Tree.{list, object};
+ghost use Rattle.sj_owned.specs.Compare.{kept_alike};
+ghost use Rattle.sj_owned.specs.inside.Comparing.{kept_alike-equiv};
+ghost use Rattle.sj_tape.specs.Views.{value_tree, array_items as tape_items, object_members as tape_members};
+ghost use Rattle.sj_lazy.specs.Parts.{array_items, object_members, keys_left};
+ghost use Rattle.sj_lazy.specs.Views.{document_tree, lazy_tree};
+ghost use Rattle.sj_lazy.specs.inside.Comparing.{next_alike, among, first_keys, all_found};
+
+use crate::array::Array;
+use crate::object::{Keys, Object};
+use crate::value::Value;
+use sj_base::{DecimalCow, Scalar};
+use sj_reads::ValueAsScalar;
+use sj_tape::{Array as TapeArray, Object as TapeObject, Value as TapeValue};
+use sj_values::BorrowedValue;
+use std::borrow::CowStr;
+
+// The document of a scalar, which borrows its text.
+fn document_of(scalar: Scalar<'_>) -> BorrowedValue<'_>
+    ensures { document_tree result ≡ scalar_tree scalar.entry }
+{
+    match scalar {
+        Scalar::Static(node) => BorrowedValue::Static(node),
+        Scalar::Text(text) => BorrowedValue::String(CowStr::Borrowed(text)),
+        Scalar::Literal(literal) => BorrowedValue::Decimal(DecimalCow::Borrowed(literal)),
+    }
+}
+
+// Returns `true` if the value is a scalar that is equal to this one.
+fn is_scalar(value: &Value<'_, '_, '_>, scalar: Scalar<'_>) -> bool
+    ensures { result ≡ kept_alike (scalar_tree scalar.entry) (lazy_tree value.now) }
+{
+    match value.as_scalar() {
+        Some(other) => document_of(scalar) == document_of(other),
+        None => false,
+    }
+}
+
+// Returns `true` if one of the first `count` members has this key.
+fn is_among(members: &TapeObject<'_, '_>, count: usize, name: &str) -> bool
+    ensures { result ≡ among (first_keys count (tape_members members.now)) name.now }
+{
+    let mut rest = *members;
+    let mut left = count;
+    while left > 0 {
+        let Some((key, _, behind)) = rest.split_first() else {
+            return false;
+        };
+        if name == key {
+            return true;
+        }
+        rest = behind;
+        left -= 1;
+    }
+    false
+}
+
+// Returns `true` if each of these keys has a member.
+fn are_found(mut keys: Keys<'_, '_, '_>, members: &TapeObject<'_, '_>) -> bool
+    ensures { result ≡ all_found (keys_left keys.entry) (tape_members members.now) }
+{
+    while let Some(key) = keys.next() {
+        if members.get(key).is_none() {
+            return false;
+        }
+    }
+    true
+}
+
+fn is_end(next: Option<Value<'_, '_, '_>>) -> bool
+    ensures { result ≡ is_none next.entry }
+{
+    next.is_none()
+}
+
+#[cycle(same)]
+fn same_view(view: &TapeValue<'_, '_>, other: &Value<'_, '_, '_>) -> bool
+    ensures { result ≡ kept_alike (value_tree view.now) (lazy_tree other.now) }
+{
+    if let Some(items) = view.as_array() {
+        return match other.as_array() {
+            Some(others) => same_items(items, others),
+            None => false,
+        };
+    }
+    if let Some(members) = view.as_object() {
+        return match other.as_object() {
+            Some(others) => same_members(members, others),
+            None => false,
+        };
+    }
+    match view.into_scalar() {
+        Some(scalar) => is_scalar(other, scalar),
+        // A value that isn't a container is a scalar.
+        None => unreachable!(),
+    }
+}
+
+// Returns `true` if there is a value and it is equal to the part of a tape.
+#[cycle(same)]
+fn same_next(view: &TapeValue<'_, '_>, next: Option<Value<'_, '_, '_>>) -> bool
+    ensures { result ≡ next_alike (value_tree view.now) (option_map lazy_tree next.entry) }
+{
+    match next {
+        Some(other) => same_view(view, &other),
+        None => false,
+    }
+}
+
+#[cycle(same)]
+fn same_items(items: TapeArray<'_, '_>, others: Array<'_, '_, '_>) -> bool
+    ensures { result ≡ kept_alike (list (tape_items items.entry)) (list (array_items others.entry)) }
+{
+    let mut rest = items;
+    let mut left = others.iter();
+    while let Some((item, behind)) = rest.split_first() {
+        if !same_next(&item, left.next()) {
+            return false;
+        }
+        rest = behind;
+    }
+    is_end(left.next())
+}
+
+#[cycle(same)]
+fn same_members(members: TapeObject<'_, '_>, others: Object<'_, '_, '_>) -> bool
+    ensures { result ≡ kept_alike (object (tape_members members.entry)) (object (object_members others.entry)) }
+{
+    let mut rest = members;
+    for count in 0..members.len() {
+        let Some((key, value, behind)) = rest.split_first() else {
+            unreachable!()
+        };
+        let is_repeat = is_among(&members, count, key);
+        if !is_repeat && !same_next(&value, others.get(key)) {
+            return false;
+        }
+        rest = behind;
+    }
+    are_found(others.keys(), &members)
+}
+
+/// Two lazy values are equal if what is kept of their trees is: of a tape the first member of each key counts, alone.
+/// Objects are compared as maps, integers by number and decimal literals by text, as those of documents are.
+///
+/// The recursion is as deep as the values nest.
+impl PartialEq for Value<'_, '_, '_> {
+    ghost eq = { on lazy_tree kept_alike };
+
+    ghost laws = { partial_equiv_from_equiv (on_equiv lazy_tree kept_alike-equiv) };
+
+    fn eq(&self, other: &Self) -> bool
+        ensures { result ≡ kept_alike (lazy_tree self.now) (lazy_tree other.now) }
+    {
+        match self {
+            Value::Tape(view) => same_view(view, other),
+            Value::Value(held) => match other {
+                Value::Tape(view) => same_view(view, self),
+                Value::Value(others) => held.as_document() == others.as_document(),
+            },
+        }
+    }
+}
+
+impl Eq for Value<'_, '_, '_> {
+    ghost laws = { on_equiv lazy_tree kept_alike-equiv };
+}

@@ -1,0 +1,215 @@
+//! Write calls. Each makes a document of a tape first, and copies a document that is only borrowed.
+ghost use Rattle.std.specs.Prelude.{◌≡◌, false, Some, IsNone, IfOk, IfErr, OnOk, OnErr, option_map};
+ghost use Rattle.std.specs.Cow.{cow_str_bytes};
+ghost use Rattle.std.specs.Option.{option_copied_mut};
+ghost use Rattle.sj_base.specs.Containers.{items_in, members_in};
+ghost use Rattle.sj_base.specs.Edit.{last_item};
+ghost use Rattle.sj_base.specs.Path.{child, key as key_part};
+ghost use Rattle.sj_owned.specs.Parts.{member_of, item_of};
+ghost use Rattle.sj_owned.specs.Views.{items_inside, members_inside};
+ghost use Rattle.sj_owned.specs.Edits.{with_member, without_member, with_item, without_last, refusal};
+
+use crate::held::Held;
+use crate::value::Value;
+use sj_base::{AccessError, TryCopy};
+use sj_owned::build_value;
+use sj_values::BorrowedValue;
+use sj_values::borrowed::Object;
+use std::alloc::{AllocError, Global};
+use std::borrow::CowStr;
+
+impl<'i> Value<'_, '_, 'i> {
+    ghost use Rattle.sj_lazy.specs.Contents.{Document};
+    ghost use Rattle.sj_lazy.specs.Upgrade.{OwnsSuch, Upgrades, Refuses, upgraded, owns};
+    ghost use Rattle.sj_lazy.specs.Views.{document_tree, lazy_tree};
+
+    // Returns a document of what the value holds, for which memory is taken.
+    pub(crate) fn document(&self, alloc: Global) -> Result<BorrowedValue<'i>, AllocError>
+        requires { owns self.now ≡ false }
+        ensures { IfOk result (Upgrades self.now) }
+    {
+        match self {
+            Value::Tape(view) => build_value::<BorrowedValue<'i>, CowStr<'i>>(alloc, *view),
+            Value::Value(held) => held.as_document().try_clone(),
+        }
+    }
+
+    // Makes the value a document of its own.
+    fn upgrade(&mut self, alloc: Global) -> Result<(), AllocError>
+        ensures ok { OnOk result (OwnsSuch (Upgrades self.old) self.new) }
+        ensures err { OnErr result ((self.new ≡ self.old) × (owns self.old ≡ false)) }
+    {
+        if let Value::Value(Held::Owned(_)) = self {
+            return Ok(());
+        }
+        *self = Value::Value(Held::Owned(self.document(alloc)?));
+        Ok(())
+    }
+
+    /// Makes the value a document of its own, and returns that for writing.
+    ///
+    /// # Errors
+    ///
+    /// `AllocError` if there is no memory for the document. The value is unchanged.
+    pub fn value_mut(&mut self, alloc: Global) -> Result<&mut BorrowedValue<'i>, AllocError>
+        ensures { IfOk result (λ d. Upgrades self.old d.now) }
+    {
+        self.upgrade(alloc)?;
+        match self {
+            Value::Value(Held::Owned(document)) => Ok(document),
+            _ => unreachable!(),
+        }
+    }
+
+    /// Replaces the value of this key and returns the old one. A new key goes last, and the result is `None`.
+    ///
+    /// # Errors
+    ///
+    /// `Memory` if there is no memory for the document: the value is unchanged. Otherwise `NotAnObject` if it isn't an
+    /// object, and then `Memory` if there is no memory for a new member: the value is that document. The key and the value
+    /// to insert are dropped.
+    pub fn insert(
+        &mut self,
+        alloc: Global,
+        key: CowStr<'i>,
+        value: BorrowedValue<'i>,
+    ) -> Result<Option<BorrowedValue<'i>>, AccessError>
+        ensures ok { OnOk result (OwnsSuch (λ d. Some (document_tree d)
+            ≡ with_member (upgraded self.old) (cow_str_bytes key.entry) (document_tree value.entry)) self.new) }
+        ensures replaced { IfOk result (λ old. option_map document_tree old
+            ≡ child (upgraded self.old) (key_part (cow_str_bytes key.entry))) }
+        ensures err { IfErr result (Refuses (λ e. e ≡ refusal AccessError.NotAnObject (members_in (upgraded self.old))) self.old self.new) }
+    {
+        let Ok(()) = self.upgrade(alloc) else {
+            return Err(AccessError::Memory);
+        };
+        match self {
+            Value::Value(Held::Owned(document)) => document.insert(key, value),
+            _ => unreachable!(),
+        }
+    }
+
+    /// Removes the member of this key and returns its value. The members after it close up.
+    ///
+    /// # Errors
+    ///
+    /// `Memory` if there is no memory for the document: the value is unchanged. Otherwise `NotAnObject` if it isn't an
+    /// object: the value is that document.
+    pub fn remove(
+        &mut self,
+        alloc: Global,
+        key: &str,
+    ) -> Result<Option<BorrowedValue<'i>>, AccessError>
+        ensures ok { OnOk result (OwnsSuch (λ d. Some (document_tree d)
+            ≡ without_member (upgraded self.old) key.now) self.new) }
+        ensures value { IfOk result (λ old. option_map document_tree old
+            ≡ child (upgraded self.old) (key_part key.now)) }
+        ensures err { IfErr result (Refuses (λ e. (e ≡ AccessError.NotAnObject) × IsNone (members_in (upgraded self.old))) self.old self.new) }
+    {
+        let Ok(()) = self.upgrade(alloc) else {
+            return Err(AccessError::Memory);
+        };
+        match self {
+            Value::Value(Held::Owned(document)) => document.remove(key),
+            _ => unreachable!(),
+        }
+    }
+
+    /// Appends the value as the last item.
+    ///
+    /// # Errors
+    ///
+    /// `Memory` if there is no memory for the document: the value is unchanged. Otherwise `NotAnArray` if it isn't an
+    /// array, and then `Memory` if there is no memory for one more item: the value is that document. The item is dropped.
+    pub fn push(&mut self, alloc: Global, value: BorrowedValue<'i>) -> Result<(), AccessError>
+        ensures ok { OnOk result (OwnsSuch (λ d. Some (document_tree d)
+            ≡ with_item (upgraded self.old) (document_tree value.entry)) self.new) }
+        ensures err { IfErr result (Refuses (λ e. e ≡ refusal AccessError.NotAnArray (items_in (upgraded self.old))) self.old self.new) }
+    {
+        let Ok(()) = self.upgrade(alloc) else {
+            return Err(AccessError::Memory);
+        };
+        match self {
+            Value::Value(Held::Owned(document)) => document.push(value),
+            _ => unreachable!(),
+        }
+    }
+
+    /// Removes the last item and returns it, or `None` if there is none.
+    ///
+    /// # Errors
+    ///
+    /// `Memory` if there is no memory for the document: the value is unchanged. Otherwise `NotAnArray` if it isn't an
+    /// array: the value is that document.
+    pub fn pop(&mut self, alloc: Global) -> Result<Option<BorrowedValue<'i>>, AccessError>
+        ensures ok { OnOk result (OwnsSuch (λ d. Some (document_tree d)
+            ≡ without_last (upgraded self.old)) self.new) }
+        ensures value { IfOk result (λ old. Some (option_map document_tree old)
+            ≡ option_map last_item (items_in (upgraded self.old))) }
+        ensures err { IfErr result (Refuses (λ e. (e ≡ AccessError.NotAnArray) × IsNone (items_in (upgraded self.old))) self.old self.new) }
+    {
+        let Ok(()) = self.upgrade(alloc) else {
+            return Err(AccessError::Memory);
+        };
+        match self {
+            Value::Value(Held::Owned(document)) => document.pop(),
+            _ => unreachable!(),
+        }
+    }
+
+    /// Returns the items for writing, or `None` if the value isn't an array.
+    ///
+    /// # Errors
+    ///
+    /// `AllocError` if there is no memory for the document. The value is unchanged.
+    pub fn as_array_mut(
+        &mut self,
+        alloc: Global,
+    ) -> Result<Option<&mut Vec<BorrowedValue<'i>>>, AllocError>
+        ensures { IfOk result (λ found. (d : Document) × Upgrades self.old d × (option_map (λ v. v.now.items) found ≡ items_inside d)) }
+    {
+        Ok(self.value_mut(alloc)?.as_array_mut())
+    }
+
+    /// Returns the members for writing, or `None` if the value isn't an object.
+    ///
+    /// # Errors
+    ///
+    /// `AllocError` if there is no memory for the document. The value is unchanged.
+    pub fn as_object_mut(&mut self, alloc: Global) -> Result<Option<&mut Object<'i>>, AllocError>
+        ensures { IfOk result (λ found. (d : Document) × Upgrades self.old d × (option_copied_mut found ≡ members_inside d)) }
+    {
+        Ok(self.value_mut(alloc)?.as_object_mut())
+    }
+
+    /// Returns the value of the member with this key for writing, or `None` if there is none or the value isn't an
+    /// object.
+    ///
+    /// # Errors
+    ///
+    /// `AllocError` if there is no memory for the document. The value is unchanged.
+    pub fn get_mut(
+        &mut self,
+        alloc: Global,
+        name: &str,
+    ) -> Result<Option<&mut BorrowedValue<'i>>, AllocError>
+        ensures { IfOk result (λ found. (d : Document) × Upgrades self.old d × (option_copied_mut found ≡ member_of cow_str_bytes d name.now)) }
+    {
+        Ok(self.value_mut(alloc)?.get_mut(name))
+    }
+
+    /// Returns the item at this index for writing, or `None` if there is none or the value isn't an array.
+    ///
+    /// # Errors
+    ///
+    /// `AllocError` if there is no memory for the document. The value is unchanged.
+    pub fn get_idx_mut(
+        &mut self,
+        alloc: Global,
+        index: usize,
+    ) -> Result<Option<&mut BorrowedValue<'i>>, AllocError>
+        ensures { IfOk result (λ found. (d : Document) × Upgrades self.old d × (option_copied_mut found ≡ item_of d index)) }
+    {
+        Ok(self.value_mut(alloc)?.get_idx_mut(index))
+    }
+}

@@ -1,0 +1,45 @@
+//! Encoders: the JSON text of a lazy value, appended to a vector.
+ghost use Rattle.std.specs.Prelude.{◌≡◌, ◌++◌, OnOk, OnErr};
+ghost use Rattle.sj_base.specs.Text.{text, pretty};
+
+use crate::value::Value;
+use std::alloc::AllocError;
+
+impl Value<'_, '_, '_> {
+    ghost use Rattle.sj_lazy.specs.Views.{lazy_tree};
+
+    /// Appends the compact text of the value to `out` (`value_trait::Writable::encode`). A tape's repeated keys are in it.
+    ///
+    /// The recursion is as deep as the value nests.
+    ///
+    /// # Errors
+    ///
+    /// `AllocError` if there is no memory for the text. Nothing is then appended.
+    pub fn encode(&self, out: &mut Vec<u8>) -> Result<(), AllocError>
+        ensures ok { OnOk result (out.new.items ≡ out.old.items ++ text (lazy_tree self.now)) }
+        ensures err { OnErr result (out.new.items ≡ out.old.items) }
+    {
+        match self {
+            Value::Tape(view) => view.encode(out),
+            Value::Value(held) => held.as_document().encode(out),
+        }
+    }
+
+    /// Appends the text of the value to `out`, with each item and member on a line of its own, indented by two spaces a
+    /// level (`value_trait::Writable::encode_pp`). A tape's repeated keys are in it.
+    ///
+    /// The recursion is as deep as the value nests.
+    ///
+    /// # Errors
+    ///
+    /// `AllocError` if there is no memory for the text. Nothing is then appended.
+    pub fn encode_pp(&self, out: &mut Vec<u8>) -> Result<(), AllocError>
+        ensures ok { OnOk result (out.new.items ≡ out.old.items ++ pretty (lazy_tree self.now)) }
+        ensures err { OnErr result (out.new.items ≡ out.old.items) }
+    {
+        match self {
+            Value::Tape(view) => view.encode_pp(out),
+            Value::Value(held) => held.as_document().encode_pp(out),
+        }
+    }
+}

@@ -1,0 +1,99 @@
+//! Lazy values turned into documents, strings and copies.
+ghost use Rattle.std.specs.Prelude.{◌≡◌, true, false, IfOk, IfErr, OnErr, option_map};
+ghost use Rattle.std.specs.Cow.{cow_str_bytes};
+ghost use Rattle.sj_base.specs.Containers.{scalar_in};
+ghost use Rattle.sj_reads.specs.Reads.{str_read};
+
+use crate::held::Held;
+use crate::value::Value;
+use sj_base::TryCopy;
+use sj_values::BorrowedValue;
+use std::alloc::{AllocError, Global};
+use std::borrow::CowStr;
+
+impl<'t, 'i> Value<'_, 't, 'i> {
+    ghost use Rattle.sj_lazy.specs.Upgrade.{Upgrades, IsOwnedOf, owns, borrows};
+    ghost use Rattle.sj_lazy.specs.Views.{lazy_tree};
+
+    /// Turns the value into a document. One is built of a tape, and what is only borrowed is copied.
+    ///
+    /// # Errors
+    ///
+    /// The value comes back if there is no memory for the document.
+    pub fn into_value(self, alloc: Global) -> Result<BorrowedValue<'i>, Self>
+        ensures ok { IfOk result (Upgrades self.entry) }
+        ensures err { IfErr result (λ v. v ≡ self.entry) }
+        ensures succeeds { OnErr result (owns self.entry ≡ false) }
+    {
+        match self {
+            Value::Value(Held::Owned(document)) => Ok(document),
+            other => match other.document(alloc) {
+                Ok(document) => Ok(document),
+                Err(_) => Err(other),
+            },
+        }
+    }
+
+    /// Turns the value into one that borrows no document: what is only borrowed is copied. A tape stays a tape.
+    ///
+    /// # Errors
+    ///
+    /// The value comes back if there is no memory for the copy.
+    pub fn into_owned<'n>(self, alloc: Global) -> Result<Value<'n, 't, 'i>, Self>
+        ensures ok { IfOk result (IsOwnedOf self.entry) }
+        ensures err { IfErr result (λ v. v ≡ self.entry) }
+        ensures succeeds { OnErr result (borrows self.entry ≡ true) }
+    {
+        match self {
+            Value::Tape(view) => Ok(Value::Tape(view)),
+            other => match other.into_value(alloc) {
+                Ok(document) => Ok(Value::Value(Held::Owned(document))),
+                Err(value) => Err(value),
+            },
+        }
+    }
+
+    /// Returns the string, or `None` if the value isn't a string. A string of a document that is only borrowed is copied.
+    ///
+    /// # Errors
+    ///
+    /// `AllocError` if there is no memory for the copy.
+    pub fn into_string(self) -> Result<Option<CowStr<'i>>, AllocError>
+        ensures ok { IfOk result (λ s. option_map cow_str_bytes s ≡ str_read (scalar_in (lazy_tree self.entry))) }
+        ensures succeeds { OnErr result (borrows self.entry ≡ true) }
+    {
+        match self {
+            Value::Tape(view) => match view.into_string() {
+                Some(text) => Ok(Some(CowStr::Borrowed(text))),
+                None => Ok(None),
+            },
+            Value::Value(Held::Owned(document)) => Ok(document.into_string()),
+            Value::Value(Held::Borrowed(document)) => match document {
+                BorrowedValue::String(text) => Ok(Some(text.try_clone()?)),
+                _ => Ok(None),
+            },
+        }
+    }
+}
+
+/// A copy of a part of a tape, or of a document that is only borrowed, is that part or that document. An owned document is
+/// copied.
+impl TryCopy for Value<'_, '_, '_> {
+    ghost use Rattle.sj_lazy.specs.Copies.{Copied, copied, copied_tree};
+
+    ghost Copied = { Copied };
+
+    ghost copied = { copied };
+
+    ghost tree = { copied_tree };
+
+    fn try_clone(&self) -> Result<Self, AllocError> {
+        match self {
+            Value::Tape(view) => Ok(Value::Tape(*view)),
+            Value::Value(Held::Borrowed(document)) => Ok(Value::Value(Held::Borrowed(document))),
+            Value::Value(Held::Owned(document)) => Ok(Value::Value(Held::Owned(
+                document.try_clone()?,
+            ))),
+        }
+    }
+}

@@ -1,0 +1,21 @@
+//! JSON documents that stay a tape until they are first written to.
+//!
+//! A [`Value`] starts as a view of a tape, and is read in place, repeated keys included. The first write call builds a
+//! document of it, which keeps the first member of each key. Parts of a value are lazy values too.
+#![tactic(auto)]
+
+mod access;
+pub mod array;
+mod compare;
+mod edit;
+mod encode;
+mod from;
+mod held;
+mod into;
+pub mod object;
+mod value;
+
+pub use array::Array;
+pub use held::Held;
+pub use object::Object;
+pub use value::Value;

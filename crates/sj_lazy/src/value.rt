@@ -1,0 +1,127 @@
+//! The type of lazy values, and how new ones are made.
+ghost use Rattle.std.specs.Prelude.{◌≡◌, [], Some, IfOk, true};
+ghost use Rattle.sj_base.specs.Tree.{null};
+ghost use Rattle.sj_owned.specs.Views.{items_inside, members_inside};
+
+use crate::held::Held;
+use sj_base::ValueType;
+use sj_tape::Value as TapeValue;
+use sj_values::BorrowedValue;
+use std::alloc::{AllocError, Global};
+
+/// A JSON value that is a part of a tape until the first write call, and a document from then on. Port of
+/// `simd_json::value::lazy::Value`.
+///
+/// The document of a tape has the first of members with equal keys.
+#[derive(Debug, Drop)]
+pub enum Value<'b, 't, 'i> {
+    /// A value of a tape.
+    Tape(TapeValue<'t, 'i>),
+    /// A document.
+    Value(Held<'b, 'i>),
+}
+
+impl<'b, 't, 'i> Value<'b, 't, 'i> {
+    ghost use Rattle.sj_lazy.specs.Contents.{contents, document as of_document, is_tape, is_document};
+    ghost use Rattle.sj_lazy.specs.Views.{lazy_tree, lazy_kind};
+    ghost use Rattle.sj_lazy.specs.Upgrade.{OwnsSuch};
+
+    /// Creates a lazy value of a value of a tape. Builds nothing.
+    pub fn from_tape(tape: TapeValue<'t, 'i>) -> Self
+        ensures { result ≡ Value.Tape tape.entry }
+    {
+        Value::Tape(tape)
+    }
+
+    // A lazy value of a part of a document.
+    pub(crate) fn borrowed(document: &'b BorrowedValue<'i>) -> Self
+        ensures { contents result ≡ of_document document.now }
+    {
+        Value::Value(Held::Borrowed(document))
+    }
+
+    /// Creates a null. It counts as a tape.
+    pub fn null() -> Self
+        ensures tree { lazy_tree result ≡ null }
+        ensures kind { lazy_kind result ≡ ValueType.Null }
+        ensures tape { is_tape (contents result) ≡ true }
+    {
+        Value::Tape(TapeValue::null())
+    }
+
+    /// Creates an array without items, as a document. Allocates nothing.
+    pub fn array(alloc: Global) -> Self
+        ensures { OwnsSuch (λ d. items_inside d ≡ Some []) result }
+    {
+        Value::from(BorrowedValue::array(alloc))
+    }
+
+    /// Creates an object without members, as a document. Allocates nothing.
+    pub fn object(alloc: Global) -> Self
+        ensures { OwnsSuch (λ d. members_inside d ≡ Some []) result }
+    {
+        Value::from(BorrowedValue::object(alloc))
+    }
+
+    /// Creates an array without items, as a document that has room for this many.
+    ///
+    /// # Errors
+    ///
+    /// `AllocError` if there is no memory for that room.
+    pub fn array_with_capacity(alloc: Global, capacity: usize) -> Result<Self, AllocError>
+        ensures { IfOk result (OwnsSuch (λ d. items_inside d ≡ Some [])) }
+    {
+        let document: BorrowedValue<'i> = BorrowedValue::array_with_capacity(alloc, capacity)?;
+        Ok(Value::from(document))
+    }
+
+    /// Creates an object without members, as a document that has room for this many.
+    ///
+    /// # Errors
+    ///
+    /// `AllocError` if there is no memory for that room.
+    pub fn object_with_capacity(alloc: Global, capacity: usize) -> Result<Self, AllocError>
+        ensures { IfOk result (OwnsSuch (λ d. members_inside d ≡ Some [])) }
+    {
+        let document: BorrowedValue<'i> = BorrowedValue::object_with_capacity(alloc, capacity)?;
+        Ok(Value::from(document))
+    }
+
+    /// Returns `true` if the value is a part of a tape.
+    pub fn is_tape(&self) -> bool
+        ensures { result ≡ is_tape (contents self.now) }
+    {
+        matches!(self, Value::Tape(_))
+    }
+
+    /// Returns `true` if the value is a document.
+    pub fn is_value(&self) -> bool
+        ensures { result ≡ is_document (contents self.now) }
+    {
+        matches!(self, Value::Value(_))
+    }
+
+    /// Returns the type, which tells an `I64` from a `U64`.
+    pub fn value_type(&self) -> ValueType
+        ensures { result ≡ lazy_kind self.now }
+    {
+        match self {
+            Value::Tape(view) => view.value_type(),
+            Value::Value(held) => held.as_document().value_type(),
+        }
+    }
+}
+
+/// The default is [`Value::null`].
+impl Default for Value<'_, '_, '_> {
+    ghost use Rattle.std.specs.Prelude.{true};
+    ghost use Rattle.sj_base.specs.Tree.{null};
+    ghost use Rattle.sj_lazy.specs.Contents.{contents, is_tape};
+    ghost use Rattle.sj_lazy.specs.Views.{lazy_tree};
+
+    ghost is_default = { λ v. (lazy_tree v ≡ null) × (is_tape (contents v) ≡ true) };
+
+    fn default() -> Self {
+        Self::null()
+    }
+}

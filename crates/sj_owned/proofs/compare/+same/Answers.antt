@@ -1,0 +1,104 @@
+use Rattle.std.proofs.Common.{◌≡◌, ◌+◌, ◌<◌, ◌≤◌, length, List, [], ◌∷◌, ◌++◌, drop, sym, ap, ◌∙◌, append_assoc, arith, rules}
+use Rattle.std.proofs.lemmas.List.{drop_all}
+use Rattle.sj_object.specs.Iterators.{entries_left}
+use Rattle.sj_object.specs.declared.entry.Entry.{Entry}
+use Rattle.sj_owned.specs.Views.{value_tree}
+use Rattle.sj_owned.specs.declared.value.Value.{Value}
+use Rattle.sj_owned.proofs.Comparing.{all_left, lists_of_other_lengths, lists_differ, lists_equal, items_passed, objects_of_other_lengths, objects_of_other_keys, objects_differ, objects_equal, members_passed}
+use Rattle.sj_owned.proofs.Pieces.{cut_at}
+use Rattle.sj_owned.proofs.compare.+same.Goals as goal
+
+pub same_items-returns-then-items-others : goal.same_items-returns-then-items-others
+same_items-returns-then-items-others g t c =
+    lists_of_other_lengths (value_tree g.K.ObjectKey.text g.D.Literal.literal) (value_tree g.L.ObjectKey.text g.E.Literal.literal) c.args.items.now c.args.others.now c.if-items-others.true
+
+pub same_items-returns-then-not-same_values : goal.same_items-returns-then-not-same_values
+same_items-returns-then-not-same_values g t c =
+    let vs = c.args.items.now in
+    let ws = c.args.others.now in
+    let i = c.loop-i.i in
+    let v = c.index-items-i.result in
+    let w = c.index-others-i.result in
+    let in_items : i < length vs = omega (arith, c.loop-i-test.true) in
+    let in_others : i < length ws = omega (arith, c.loop-i-test.true, c.if-items-others.false) in
+    lists_differ (value_tree g.K.ObjectKey.text g.D.Literal.literal) (value_tree g.L.ObjectKey.text g.E.Literal.literal) vs ws (drop i vs) (drop (i + 1) vs) (drop i ws) (drop (i + 1) ws) v w c.loop-i.invariant
+    (cut_at vs i v in_items c.index-items-i.is) (cut_at ws i w in_others c.index-others-i.is) c.if-not-same_values.ensures
+
+pub same_items-loop-i-preserved : goal.same_items-loop-i-preserved
+same_items-loop-i-preserved g t c =
+    let vs = c.args.items.now in
+    let ws = c.args.others.now in
+    let i = c.loop-i.i in
+    let v = c.index-items-i.result in
+    let w = c.index-others-i.result in
+    let in_items : i < length vs = omega (arith, c.loop-i-test.true) in
+    let in_others : i < length ws = omega (arith, c.loop-i-test.true, c.if-items-others.false) in
+    items_passed (value_tree g.K.ObjectKey.text g.D.Literal.literal) (value_tree g.L.ObjectKey.text g.E.Literal.literal) vs ws (drop i vs) (drop (i + 1) vs) (drop i ws) (drop (i + 1) ws) v w c.loop-i.invariant
+    (cut_at vs i v in_items c.index-items-i.is) (cut_at ws i w in_others c.index-others-i.is) c.if-not-same_values.ensures
+
+pub same_items-returns : goal.same_items-returns
+same_items-returns g t c =
+    let vs = c.args.items.now in
+    let ws = c.args.others.now in
+    let i = c.loop-i.i in
+    let past : length vs ≤ i = omega (arith, c.loop-i-test.false) in
+    let past_others : length ws ≤ i = omega (arith, c.loop-i-test.false, c.if-items-others.false) in
+    lists_equal (value_tree g.K.ObjectKey.text g.D.Literal.literal) (value_tree g.L.ObjectKey.text g.E.Literal.literal) vs ws (drop i vs) (drop i ws) c.loop-i.invariant
+    (drop_all i vs past) (drop_all i ws past_others)
+
+pub same_members-returns-then-len : goal.same_members-returns-then-len
+same_members-returns-then-len g t c =
+    objects_of_other_lengths g.K.ObjectKey.text g.L.ObjectKey.text (value_tree g.K.ObjectKey.text g.D.Literal.literal) (value_tree g.L.ObjectKey.text g.E.Literal.literal) c.args.members.now c.args.others.now
+    c.len.ensures.distinct c.len-2.ensures.distinct
+    (λ e. c.if-len.true (c.len.ensures.len ∙ e ∙ sym c.len-2.ensures.len))
+
+pub same_members-loop-key-init : goal.same_members-loop-key-init
+same_members-loop-key-init g t c =
+    let whole : entries_left c.into_iter-key-iterator.result ≡ c.args.members.now = search rules in
+    let nothing : List (Entry g.row.K.Denot (Value g.row.K.Denot g.row.D.Denot)) = [] in (
+      tt,
+      tt,
+      (nothing, sym whole),
+      all_left g.K.ObjectKey.text g.L.ObjectKey.text (value_tree g.K.ObjectKey.text g.D.Literal.literal) (value_tree g.L.ObjectKey.text g.E.Literal.literal) c.args.members.now c.args.others.now (entries_left c.into_iter-key-iterator.result) whole,
+    )
+
+pub same_members-returns-in_default : goal.same_members-returns-in_default
+same_members-returns-in_default g t c =
+    let at = entries_left c.loop-key.key-iterator in
+    let more = entries_left c.next.new.self in
+    let e : Entry g.row.K.Denot (Value g.row.K.Denot g.row.D.Denot) = record { key = c.in-Some.key.now; value = c.in-Some.value.now } in
+    let first : at ≡ e ∷ more = search rules in
+    let none = sym (rw c.as_text.ensures at c.in_default.ensures) in
+    objects_of_other_keys g.K.ObjectKey.text g.L.ObjectKey.text (value_tree g.K.ObjectKey.text g.D.Literal.literal) (value_tree g.L.ObjectKey.text g.E.Literal.literal) c.args.members.now c.args.others.now
+    c.len.ensures.distinct c.len-2.ensures.distinct at more e c.loop-key.invariant.3 first none
+
+pub same_members-returns-then-not-same_values : goal.same_members-returns-then-not-same_values
+same_members-returns-then-not-same_values g t c =
+    let at = entries_left c.loop-key.key-iterator in
+    let more = entries_left c.next.new.self in
+    let e : Entry g.row.K.Denot (Value g.row.K.Denot g.row.D.Denot) = record { key = c.in-Some.key.now; value = c.in-Some.value.now } in
+    let first : at ≡ e ∷ more = search rules in
+    let found = sym (rw c.as_text.ensures at c.in-Some-get.ensures) in
+    objects_differ g.K.ObjectKey.text g.L.ObjectKey.text (value_tree g.K.ObjectKey.text g.D.Literal.literal) (value_tree g.L.ObjectKey.text g.E.Literal.literal) c.args.members.now c.args.others.now
+    c.len.ensures.distinct c.len-2.ensures.distinct at more e c.in-Some-get.other.now c.loop-key.invariant.3 first found c.if-not-same_values.ensures
+
+pub same_members-loop-key-preserved : goal.same_members-loop-key-preserved
+same_members-loop-key-preserved g t c =
+    let at = entries_left c.loop-key.key-iterator in
+    let more = entries_left c.next.new.self in
+    let e : Entry g.row.K.Denot (Value g.row.K.Denot g.row.D.Denot) = record { key = c.in-Some.key.now; value = c.in-Some.value.now } in
+    let first : at ≡ e ∷ more = search rules in
+    let found = sym (rw c.as_text.ensures at c.in-Some-get.ensures) in
+    let done = c.loop-key.invariant.2.0 in (
+      tt,
+      tt,
+      (done ++ e ∷ [], c.loop-key.invariant.2.1 ∙ ap (λ l. done ++ l) first ∙ sym (append_assoc done (e ∷ []) more)),
+      members_passed g.K.ObjectKey.text g.L.ObjectKey.text (value_tree g.K.ObjectKey.text g.D.Literal.literal) (value_tree g.L.ObjectKey.text g.E.Literal.literal) c.args.members.now c.args.others.now at more e c.in-Some-get.other.now c.loop-key.invariant.3 first found c.if-not-same_values.ensures,
+    )
+
+pub same_members-returns : goal.same_members-returns
+same_members-returns g t c =
+    let at = entries_left c.loop-key.key-iterator in
+    let none : at ≡ [] = search rules in
+    objects_equal g.K.ObjectKey.text g.L.ObjectKey.text (value_tree g.K.ObjectKey.text g.D.Literal.literal) (value_tree g.L.ObjectKey.text g.E.Literal.literal) c.args.members.now c.args.others.now
+    c.len.ensures.distinct c.len-2.ensures.distinct at c.loop-key.invariant.3 none (sym c.len.ensures.len ∙ c.if-len.false ∙ c.len-2.ensures.len)

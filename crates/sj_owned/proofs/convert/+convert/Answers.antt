@@ -1,0 +1,76 @@
+use Rattle.std.proofs.Common.{◌≡◌, ◌∷◌, [], ◌++◌, length, map, sym, ap, ap₂, subst, ◌∙◌, append_assoc, arith, rules}
+use Rattle.std.proofs.lemmas.List.{map_push}
+use Rattle.std.specs.Vec.Iter.{into_iter_items}
+use Rattle.sj_object.specs.Copies.{copied_pairs}
+use Rattle.sj_object.specs.Iterators.{owned_left}
+use Rattle.sj_object.specs.Pairs.{keys_of, AreDistinct}
+use Rattle.sj_object.specs.declared.entry.Entry.{Entry}
+use Rattle.sj_owned.specs.declared.value.Value.{Value}
+use Rattle.sj_owned.specs.inside.Copying.{Kept, kept_key, kept_value, converted}
+use Rattle.sj_owned.proofs.Copies.{array_converted, object_converted, next_copied}
+use Rattle.sj_owned.proofs.convert.+convert.Goals as goal
+
+pub convert-returns-in_ok-convert_items-in-Array :
+    goal.convert-returns-in_ok-convert_items-in-Array
+convert-returns-in_ok-convert_items-in-Array g t c =
+    let at = c.in_ok-convert_items-in-Array in
+    array_converted g.K.ObjectKey.text g.D.Literal.literal g.K.IntoKey.before g.D.IntoLiteral.before g.K.IntoKey.change g.D.IntoLiteral.change
+    g.L.ObjectKey.text g.E.Literal.literal g.K.IntoKey.after g.D.IntoLiteral.after c.args.value c.in-Array.items at.field-0 c.in-Array.is at.ensures
+
+pub convert-returns-in_ok-convert_members-in-Object :
+    goal.convert-returns-in_ok-convert_members-in-Object
+convert-returns-in_ok-convert_members-in-Object g t c =
+    let at = c.in_ok-convert_members-in-Object in
+    object_converted g.K.ObjectKey.text g.D.Literal.literal g.K.IntoKey.before g.D.IntoLiteral.before g.K.IntoKey.change g.D.IntoLiteral.change
+    g.L.ObjectKey.text g.E.Literal.literal g.K.IntoKey.after g.D.IntoLiteral.after c.args.value c.in-Object.members at.field-0 c.in-Object.is at.ensures
+
+pub convert_items-loop-item-preserved : goal.convert_items-loop-item-preserved
+convert_items-loop-item-preserved g t c =
+    let new = kept_value g.L.ObjectKey.text g.E.Literal.literal g.K.IntoKey.after g.D.IntoLiteral.after in
+    let old : Value g.row.K.Denot g.row.D.Denot → Kept g.K.IntoKey.After g.D.IntoLiteral.After =
+    λ v. converted g.K.IntoKey.change g.D.IntoLiteral.change (kept_value g.K.ObjectKey.text g.D.Literal.literal g.K.IntoKey.before g.D.IntoLiteral.before v) in
+    let at = c.loop-item in
+    let done = at.invariant.2 in
+    let item = c.in-Some.item in
+    let left = into_iter_items c.next.new.self in
+    let steps = c.in-Some.ensures.steps in (
+      tt,
+      tt,
+      done ++ item ∷ [],
+      at.invariant.3 ∙ ap (λ vs. done ++ vs) steps.0 ∙ sym (append_assoc done (item ∷ []) left),
+      omega (arith, at.invariant.4, steps.1, ap length steps.0),
+      ap (map new) c.in_ok-push.ensures.items
+          ∙ map_push new at.converted.items c.in_ok-convert.field-0
+          ∙ ap₂ (λ xs x. xs ++ x ∷ []) at.invariant.5 c.in_ok-convert.ensures
+          ∙ sym (map_push old done item),
+    )
+
+pub convert_members-loop-key-init : goal.convert_members-loop-key-init
+convert_members-loop-key-init g t c =
+    let new = kept_value g.L.ObjectKey.text g.E.Literal.literal g.K.IntoKey.after g.D.IntoLiteral.after in
+    (tt, tt, [], sym c.into_iter-key-iterator.ensures.into_iter_gives, ap (copied_pairs (kept_key g.L.ObjectKey.text g.K.IntoKey.after) new) c.in_ok-converted.ensures)
+
+pub convert_members-loop-key-preserved : goal.convert_members-loop-key-preserved
+convert_members-loop-key-preserved g t c =
+    let text = g.K.ObjectKey.text in
+    let new_text = g.L.ObjectKey.text in
+    let new_key = g.K.IntoKey.after in
+    let new = kept_value new_text g.E.Literal.literal new_key g.D.IntoLiteral.after in
+    let key : g.row.K.Denot → g.K.IntoKey.After = λ k. g.K.IntoKey.change (g.K.IntoKey.before k) in
+    let old : Value g.row.K.Denot g.row.D.Denot → Kept g.K.IntoKey.After g.D.IntoLiteral.After =
+    λ v. converted g.K.IntoKey.change g.D.IntoLiteral.change (kept_value text g.D.Literal.literal g.K.IntoKey.before g.D.IntoLiteral.before v) in
+    let at = c.loop-key in
+    let done = at.invariant.2 in
+    let e : Entry g.row.K.Denot (Value g.row.K.Denot g.row.D.Denot) = record { key = c.in-Some.key; value = c.in-Some.member } in
+    let left = owned_left c.next.new.self in
+    let first : owned_left at.key-iterator ≡ e ∷ left = search rules in
+    let all : c.args.members ≡ done ++ e ∷ left = at.invariant.3 ∙ ap (λ es. done ++ es) first in
+    let distinct = subst (λ es. AreDistinct (keys_of text es)) all c.len.ensures.distinct in
+    let name = ap₂ (λ s k. (s, k)) c.in_ok-name.ensures.text c.in_ok-name.ensures.changed in (
+      tt,
+      tt,
+      done ++ e ∷ [],
+      all ∙ sym (append_assoc done (e ∷ []) left),
+      ap (copied_pairs (kept_key new_text new_key) new) c.in_ok-insert.ensures
+          ∙ next_copied text key old new_text new_key new at.converted done left e c.in_ok-name.name c.in_ok-value.value distinct at.invariant.4 name c.in_ok-value.ensures,
+    )

@@ -1,0 +1,75 @@
+//! Documents as text to be shown.
+ghost use Rattle.std.specs.Prelude.{⊤};
+ghost use Rattle.sj_owned.specs.Display.{shown};
+ghost use Rattle.sj_owned.specs.Views.{value_tree};
+ghost use Rattle.sj_owned.specs.inside.Shown.{any_continue};
+
+use crate::encode::{Refuses, print_value};
+use crate::literal::Literal;
+use crate::value::Value;
+use sj_base::{Layout, Output};
+use sj_object::ObjectKey;
+use std::alloc::AllocError;
+use std::fmt;
+
+// The formatter that a container is shown by. A `fmt::Error` goes through the encoder as an `AllocError`, and `show` turns it
+// back.
+#[derive(Drop)]
+struct Shown<'f, W: fmt::Write> {
+    f: &'f mut fmt::Formatter<W>,
+}
+
+impl<W: fmt::Write> Output for Shown<'_, W> {
+    type Fault = AllocError;
+
+    ghost appends = { λ old new bytes. ⊤ };
+
+    ghost begins = { λ old new bytes. ⊤ };
+
+    ghost laws = { any_continue };
+
+    fn put(&mut self, bytes: &[u8]) -> Result<(), AllocError> {
+        let Ok(text) = str::from_utf8(bytes) else {
+            return Err(AllocError);
+        };
+        match self.f.write_str(text) {
+            Ok(()) => Ok(()),
+            Err(_) => Err(AllocError),
+        }
+    }
+
+    fn put_plain(&mut self, _text: &[u8]) -> Result<bool, AllocError> {
+        Ok(false)
+    }
+}
+
+impl<W: fmt::Write> Refuses for Shown<'_, W> {
+    ghost refuses = { λ old bytes. tt };
+}
+
+/// A string is shown without quotes, and any other scalar as its JSON text. An array or an object is shown as its compact
+/// JSON text.
+///
+/// The recursion is as deep as the value nests.
+impl<K: ObjectKey, D: Literal> fmt::Display for Value<K, D> {
+    ghost output = { λ v. shown (value_tree K.text D.literal v) };
+
+    fn fmt<W: fmt::Write>(&self, f: &mut fmt::Formatter<W>) -> fmt::Result {
+        match self {
+            Value::Static(node) => write!(f, "{node}"),
+            Value::Decimal(literal) => f.write_str(literal.as_decimal().as_str()),
+            Value::String(string) => f.write_str(string.as_text()),
+            Value::Array(_) | Value::Object(_) => show(self, f),
+        }
+    }
+}
+
+fn show<K: ObjectKey, D: Literal, W: fmt::Write>(
+    value: &Value<K, D>,
+    f: &mut fmt::Formatter<W>,
+) -> fmt::Result {
+    match print_value(value, Layout::Compact, &mut Shown { f }) {
+        Ok(()) => Ok(()),
+        Err(_) => Err(fmt::Error),
+    }
+}

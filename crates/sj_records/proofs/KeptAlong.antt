@@ -1,0 +1,218 @@
+-- Trees without repeated keys along an accepted script, and what does not hang on how repeated keys are kept.
+use Rattle.std.proofs.Common.{◌≡◌, ℕ, zero, suc, Bool, true, false, List, [], ◌∷◌, take, Result, Ok, Err, refl, sym, ap, ap₂, subst, ◌∙◌, inl, inr}
+use Rattle.std.specs.Prelude.{◌||◌}
+use Rattle.std.specs.List.{AllByRecursion}
+use Rattle.sj_base.specs.Tree.{Tree, item}
+use Rattle.sj_base.specs.Keep.{IsKept}
+use Rattle.sj_base.specs.Path.{Part}
+use Rattle.sj_base.specs.Text.{text}
+use Rattle.sj_base.proofs.Keeping.{keeps_once}
+use Rattle.sj_base.proofs.Kept.{kept_part, kept_put, kept_with_member, kept_pushed, kept_dropped, kept_popped}
+use Rattle.sj_records.specs.Command.{Step, get, contains, type_of, len, keys, insert, remove, push, pop, set_at}
+use Rattle.sj_records.specs.Step.{Job, Keeping, from_start, from_write, State, Word, Change, start, begun, base, fits, fits_below, insertion, removal, pushing, popping, setting, write_at, settled, step, replies, after}
+use Rattle.sj_records.specs.Record.{record_of, outcome}
+use Rattle.sj_records.specs.Laws.{is_write, has_dropped, BasesAreKept, TreesAreKept, FormsAgree}
+use Rattle.sj_records.proofs.Along.{inserted, removed, pushed, popped, within, write_done}
+use Rattle.sj_records.proofs.Accepted.{Sound, accepted_sound}
+
+-- ---- a change of a kept part
+
+abbrev pub StaysKept : Change → Type 0
+StaysKept change = (part : Tree) (n : Tree × Tree) → change part ≡ Ok n → IsKept part → IsKept n.1
+
+second : (m n : Tree × Tree) → m ≡ n → IsKept m.1 → IsKept n.1
+second m n is h = subst (λ (p : Tree × Tree). IsKept p.1) is h
+
+pub insertion_kept : (test : Bool) (k : List ℕ) (v : Tree) → IsKept v → StaysKept (insertion test k v)
+insertion_kept test k v good part n e h =
+    let i = inserted test k v part n e in
+    second _ n i.3 (kept_with_member i.0 k v (subst IsKept i.1 h) good)
+
+pub removal_kept : (k : List ℕ) → StaysKept (removal k)
+removal_kept k part n e h = let i = removed k part n e in second _ n i.2 (kept_dropped i.0 k (subst IsKept i.1 h))
+
+pub pushing_kept : (test : Bool) (v : Tree) → IsKept v → StaysKept (pushing test v)
+pushing_kept test v good part n e h = let i = pushed test v part n e in second _ n i.3 (kept_pushed i.0 v (subst IsKept i.1 h) good)
+
+pub popping_kept : StaysKept popping
+popping_kept part n e h = let i = popped part n e in second _ n i.2 (kept_popped i.0 (subst IsKept i.1 h))
+
+pub setting_kept : (test : Bool) (v : Tree) → IsKept v → StaysKept (setting test v)
+setting_kept test v good part n e h = let i = within test _ n e in second _ n i.1 good
+
+-- ---- a write on a kept base
+
+abbrev pub BothKept : State → Type 0
+BothKept s = IsKept s.tree × AllByRecursion IsKept s.bases
+
+pub settled_kept : (t : Tree) (bases : List Tree) (path : List Part) (change : Change) (r : Result (Tree × Tree) Word) → write_at t path change ≡ r → StaysKept change → IsKept t → AllByRecursion IsKept bases
+    → BothKept (settled t bases r).1
+settled_kept t bases path change (Err word) e fine h hs = (h, hs)
+settled_kept t bases path change (Ok w) e fine h hs =
+    let d = write_done t path change w e in
+    (second _ w d.4 (kept_put t path d.2.1 h (fine d.0 d.2 d.3 (kept_part t path d.0 h d.1))), (h, hs))
+
+-- what each write command makes of its base
+abbrev write_of : ℕ → Tree → List Tree → Step → Tree × State → Tree × State
+write_of limit t bases (insert path k v) s = settled t bases (write_at t path (insertion (fits_below path v limit) k v))
+write_of limit t bases (remove path k) s = settled t bases (write_at t path (removal k))
+write_of limit t bases (push path v) s = settled t bases (write_at t path (pushing (fits_below path v limit) v))
+write_of limit t bases (pop path) s = settled t bases (write_at t path popping)
+write_of limit t bases (set_at path v) s = settled t bases (write_at t path (setting (fits path v limit) v))
+write_of limit t bases (get path) s = s
+write_of limit t bases (contains path k) s = s
+write_of limit t bases (type_of path) s = s
+write_of limit t bases (len path) s = s
+write_of limit t bases (keys path) s = s
+
+step-write : (job : Job) (s : State) (c : Step) → step job s c ≡ write_of job.limit (base s.tree job.keeping) s.bases c (step job s c)
+step-write job s (insert path k v) = refl
+step-write job s (remove path k) = refl
+step-write job s (push path v) = refl
+step-write job s (pop path) = refl
+step-write job s (set_at path v) = refl
+step-write job s (get path) = refl
+step-write job s (contains path k) = refl
+step-write job s (type_of path) = refl
+step-write job s (len path) = refl
+step-write job s (keys path) = refl
+
+write_kept : (limit : ℕ) (t : Tree) (bases : List Tree) (c : Step) (s : Tree × State) → Sound c → IsKept t → AllByRecursion IsKept bases → (is_write c ≡ false → BothKept s.1) → BothKept (write_of limit t bases c s).1
+write_kept limit t bases (insert path k v) s sound h hs read = settled_kept t bases path _ _ refl (insertion_kept (fits_below path v limit) k v sound.1.0) h hs
+write_kept limit t bases (remove path k) s sound h hs read = settled_kept t bases path _ _ refl (removal_kept k) h hs
+write_kept limit t bases (push path v) s sound h hs read = settled_kept t bases path _ _ refl (pushing_kept (fits_below path v limit) v sound.0) h hs
+write_kept limit t bases (pop path) s sound h hs read = settled_kept t bases path _ _ refl popping_kept h hs
+write_kept limit t bases (set_at path v) s sound h hs read = settled_kept t bases path _ _ refl (setting_kept (fits path v limit) v sound.0) h hs
+write_kept limit t bases (get path) s sound h hs read = read refl
+write_kept limit t bases (contains path k) s sound h hs read = read refl
+write_kept limit t bases (type_of path) s sound h hs read = read refl
+write_kept limit t bases (len path) s sound h hs read = read refl
+write_kept limit t bases (keys path) s sound h hs read = read refl
+
+-- a read leaves the state
+read_leaves : (job : Job) (s : State) (c : Step) → is_write c ≡ false → (step job s c).1 ≡ s
+read_leaves job s (get path) e = refl
+read_leaves job s (contains path k) e = refl
+read_leaves job s (type_of path) e = refl
+read_leaves job s (len path) e = refl
+read_leaves job s (keys path) e = refl
+read_leaves job s (insert path k v) e = absurd cc
+read_leaves job s (remove path k) e = absurd cc
+read_leaves job s (push path v) e = absurd cc
+read_leaves job s (pop path) e = absurd cc
+read_leaves job s (set_at path v) e = absurd cc
+
+base_kept : (t : Tree) (keeping : Keeping) → IsKept t → IsKept (base t keeping)
+base_kept t from_start h = h
+base_kept t from_write h = keeps_once t
+
+-- from a kept tree on, all trees are kept
+step_kept : (job : Job) (s : State) (c : Step) → Sound c → BothKept s → BothKept (step job s c).1
+step_kept job s c sound h =
+    subst (λ (p : Tree × State). BothKept p.1) (sym (step-write job s c))
+    (write_kept job.limit (base s.tree job.keeping) s.bases c (step job s c) sound (base_kept s.tree job.keeping h.0) h.1 (λ e. subst BothKept (sym (read_leaves job s c e)) h))
+
+after_kept : (job : Job) (s : State) (cs : List Step) → AllByRecursion Sound cs → BothKept s → BothKept (after job s cs)
+after_kept job s [] sound h = h
+after_kept job s (c ∷ cs) sound h = after_kept job (step job s c).1 cs sound.1 (step_kept job s c sound.0 h)
+
+-- ---- how repeated keys are kept makes no difference to a kept tree
+
+abbrev job_with : List Step → ℕ → Keeping → Job
+job_with script limit keeping = record { script = script; limit = limit; keeping = keeping }
+
+same_base : (t : Tree) (a b : Keeping) → IsKept t → base t a ≡ base t b
+same_base t from_start from_start h = refl
+same_base t from_start from_write h = sym h
+same_base t from_write from_start h = h
+same_base t from_write from_write h = refl
+
+same_start : (t : Tree) (a b : Keeping) → IsKept t → start t a ≡ start t b
+same_start t from_start from_start h = refl
+same_start t from_start from_write h = h
+same_start t from_write from_start h = sym h
+same_start t from_write from_write h = refl
+
+module _ (script : List Step) (limit : ℕ) (a b : Keeping) where
+  same_step : (s : State) (c : Step) → IsKept s.tree → step (job_with script limit a) s c ≡ step (job_with script limit b) s c
+  same_step s (get path) h = refl
+  same_step s (contains path k) h = refl
+  same_step s (type_of path) h = refl
+  same_step s (len path) h = refl
+  same_step s (keys path) h = refl
+  same_step s (insert path k v) h = ap (λ t. settled t s.bases (write_at t path (insertion (fits_below path v limit) k v))) (same_base s.tree a b h)
+  same_step s (remove path k) h = ap (λ t. settled t s.bases (write_at t path (removal k))) (same_base s.tree a b h)
+  same_step s (push path v) h = ap (λ t. settled t s.bases (write_at t path (pushing (fits_below path v limit) v))) (same_base s.tree a b h)
+  same_step s (pop path) h = ap (λ t. settled t s.bases (write_at t path popping)) (same_base s.tree a b h)
+  same_step s (set_at path v) h = ap (λ t. settled t s.bases (write_at t path (setting (fits path v limit) v))) (same_base s.tree a b h)
+
+  same_replies : (s : State) (cs : List Step) → AllByRecursion Sound cs → BothKept s → replies (job_with script limit a) s cs ≡ replies (job_with script limit b) s cs
+  same_replies s [] sound h = refl
+  same_replies s (c ∷ cs) sound h =
+      ap (λ (p : Tree × State). item p.0 (replies (job_with script limit a) p.1 cs)) (same_step s c h.0)
+      ∙ ap (item (step (job_with script limit b) s c).0) (same_replies (step (job_with script limit b) s c).1 cs sound.1 (step_kept (job_with script limit b) s c sound.0 h))
+
+  same_after : (s : State) (cs : List Step) → AllByRecursion Sound cs → BothKept s → after (job_with script limit a) s cs ≡ after (job_with script limit b) s cs
+  same_after s [] sound h = refl
+  same_after s (c ∷ cs) sound h =
+      ap (λ (p : Tree × State). after (job_with script limit a) p.1 cs) (same_step s c h.0)
+      ∙ same_after (step (job_with script limit b) s c).1 cs sound.1 (step_kept (job_with script limit b) s c sound.0 h)
+
+  start_kept : (t : Tree) (keeping : Keeping) → IsKept t → IsKept (start t keeping)
+  start_kept t from_start h = keeps_once t
+  start_kept t from_write h = h
+
+  same_outcome : (t : Tree) → AllByRecursion Sound script → IsKept t → outcome (job_with script limit a) t ≡ outcome (job_with script limit b) t
+  same_outcome t sound h =
+      let s = begun (job_with script limit b) t in
+      let first : begun (job_with script limit a) t ≡ s = ap (λ (u : Tree). record { tree = u; bases = [] }) (same_start t a b h) in
+      let good : BothKept s = (start_kept t b h, tt) in
+      ap (λ (s : State). record_of (replies (job_with script limit a) s script) (after (job_with script limit a) s script).tree) first
+      ∙ ap₂ (λ rs (s : State). record_of rs s.tree) (same_replies s script sound good) (same_after s script sound good)
+
+pub forms_agree : FormsAgree
+forms_agree script limit a b line bytes accepted kept (inl (t, document, is)) =
+    inl (t, document, is ∙ ap text (same_outcome script limit a b t (accepted_sound script accepted) (kept t document)))
+forms_agree script limit a b line bytes accepted kept (inr faulty) = inr faulty
+
+-- ---- trees and bases along a script
+
+take_sound : (n : ℕ) (cs : List Step) → AllByRecursion Sound cs → AllByRecursion Sound (take n cs)
+take_sound zero cs h = tt
+take_sound (suc n) [] h = tt
+take_sound (suc n) (c ∷ cs) h = (h.0, take_sound n cs h.1)
+
+-- from the first write command on
+abbrev KeptOnce : Bool → State → Type 0
+KeptOnce b s = (b ≡ true → IsKept s.tree) × AllByRecursion IsKept s.bases
+
+write_keeps : (job : Job) (s : State) (c : Step) → Sound c → is_write c ≡ true → IsKept (base s.tree job.keeping) → AllByRecursion IsKept s.bases → BothKept (step job s c).1
+write_keeps job s c sound writes h hs =
+    subst (λ (p : Tree × State). BothKept p.1) (sym (step-write job s c)) (write_kept job.limit (base s.tree job.keeping) s.bases c (step job s c) sound h hs (λ e. let f = sym writes ∙ e in absurd cc))
+
+once_step : (job : Job) (s : State) (c : Step) (cs : List Step) (b : Bool) → is_write c ≡ b → Sound c → AllByRecursion Sound cs → IsKept (base s.tree job.keeping) → AllByRecursion IsKept s.bases
+    → ((u : State) → u ≡ s → KeptOnce (has_dropped from_write cs) (after job u cs)) → KeptOnce (b || has_dropped from_write cs) (after job (step job s c).1 cs)
+once_step job s c cs true writes sound sounds h hs rest =
+    let kept = after_kept job (step job s c).1 cs sounds (write_keeps job s c sound writes h hs) in
+    (λ e. kept.0, kept.1)
+once_step job s c cs false reads sound sounds h hs rest = rest (step job s c).1 (read_leaves job s c reads)
+
+once : (limit : ℕ) (script : List Step) (s : State) (cs : List Step) → AllByRecursion Sound cs → AllByRecursion IsKept s.bases
+    → KeptOnce (has_dropped from_write cs) (after (job_with script limit from_write) s cs)
+once limit script s [] sound hs = (λ e. absurd cc, hs)
+once limit script s (c ∷ cs) sound hs =
+    once_step (job_with script limit from_write) s c cs (is_write c) refl sound.0 sound.1 (keeps_once s.tree) hs
+    (λ u same. once limit script u cs sound.1 (subst (λ (v : State). AllByRecursion IsKept v.bases) (sym same) hs))
+
+along : (script : List Step) (limit : ℕ) (keeping : Keeping) (t : Tree) (n : ℕ) → AllByRecursion Sound script
+    → KeptOnce (has_dropped keeping (take n script)) (after (job_with script limit keeping) (begun (job_with script limit keeping) t) (take n script))
+along script limit from_start t n sound =
+    let kept = after_kept (job_with script limit from_start) (begun (job_with script limit from_start) t) (take n script) (take_sound n script sound) (keeps_once t, tt) in
+    (λ e. kept.0, kept.1)
+along script limit from_write t n sound = once limit script (begun (job_with script limit from_write) t) (take n script) (take_sound n script sound) tt
+
+pub bases_are_kept : BasesAreKept
+bases_are_kept job t n accepted = (along job.script job.limit job.keeping t n (accepted_sound job.script accepted)).1
+
+pub trees_are_kept : TreesAreKept
+trees_are_kept job t n accepted dropped = (along job.script job.limit job.keeping t n (accepted_sound job.script accepted)).0 dropped

@@ -1,0 +1,222 @@
+//! Of `sj_keys`: worked rows, look-ups and writes by known keys. Under `rt try --test --fail-alloc N` they show what stands
+//! after a refusal of memory.
+ghost use Rattle.std.specs.Prelude.{◌≡◌, [], ◌∷◌, IsSome};
+ghost use Rattle.std.specs.Cow.{cow_str_bytes};
+ghost use Rattle.sj_base.specs.Path.{key as name, put};
+ghost use Rattle.sj_owned.specs.Parts.{member_of};
+ghost use Rattle.sj_owned.specs.Views.{value_tree};
+
+use sj_base::{StaticNode, TryCopy, ValueType};
+use sj_keys::{KnownKey, KnownKeyError, KnownKeyTarget, KnownKeyTargetMut};
+use sj_object::Object;
+use sj_owned::{FromString, Literal, OwnedValue, Value as Document, to_owned_value};
+use sj_reads::{ValueAsScalar, ValueGetScalar};
+use sj_values::{BorrowedValue, to_borrowed_value};
+use std::alloc::Global;
+use std::borrow::CowStr;
+use std::test::Fail;
+
+// A write to a member, of which a caller knows what it leaves of any target.
+fn write<T: KnownKeyTargetMut>(target: &mut T, key: &KnownKey<'_>, value: T::Output)
+where
+    T::Output: Drop,
+    requires { IsSome (T.member target.old (cow_str_bytes key.now)) }
+    ensures { target.new ≡ T.with_value target.old (cow_str_bytes key.now) value }
+{
+    if let Some(found) = target.get_known_mut(key) {
+        *found = value;
+    }
+}
+
+// The same of the tree of a document.
+fn write_document<K: FromString + Drop, D: Literal + Drop>(
+    document: &mut Document<K, D>,
+    key: &KnownKey<'_>,
+    value: Document<K, D>,
+)
+    requires { IsSome (member_of K.text document.old (cow_str_bytes key.now)) }
+    ensures { value_tree K.text D.literal document.new
+        ≡ put (value_tree K.text D.literal document.old) (name (cow_str_bytes key.now) ∷ []) (value_tree K.text D.literal value) }
+{
+    write(document, key, value);
+}
+
+// The number at a key, which the value is put at if it is new.
+fn number_at<'v>(
+    alloc: Global,
+    document: &mut BorrowedValue<'v>,
+    key: &str,
+    value: BorrowedValue<'v>,
+) -> Result<Option<u64>, KnownKeyError> {
+    let found = KnownKey::from(key).lookup_or_insert_mut(alloc, document, move || value)?;
+    Ok(found.as_u64())
+}
+
+#[test]
+fn lookup_or_insert(rt: HostRuntime) -> Result<(), Fail> {
+    let alloc = rt.alloc();
+    let mut text = br#"{"key":1}"#.to_vec(alloc)?;
+    let mut document = to_borrowed_value(alloc, &mut text)?;
+    for (key, value, wanted) in [("key", 2u64, 1), ("cake", 3, 3), ("cake", 4, 3)] {
+        let found = number_at(alloc, &mut document, key, BorrowedValue::from(value))?;
+        assert_eq!(rt; found, Some(wanted));
+    }
+    let mut out = Vec::new(alloc);
+    document.encode(&mut out)?;
+    assert_eq!(rt; out.as_slice(), br#"{"key":1,"cake":3}"#.as_slice());
+    let mut null = BorrowedValue::null();
+    let refused = number_at(alloc, &mut null, "key", BorrowedValue::from(true));
+    assert_eq!(rt;
+        refused.err(),
+        Some(KnownKeyError::NotAnObject(ValueType::Null))
+    );
+    Ok(())
+}
+
+#[test]
+fn keys(rt: HostRuntime) -> Result<(), Fail> {
+    let alloc = rt.alloc();
+    let key = KnownKey::from("Aa");
+    let owned = KnownKey::from(String::from_str(alloc, "Aa")?);
+    assert!(rt; key == owned && KnownKey::from(CowStr::Borrowed("Aa")) == owned);
+    assert!(rt; key.try_clone()? == key && owned.try_clone()? == key);
+    // "Aa" and "BB" have the same hash.
+    assert!(rt; key != KnownKey::from("BB") && key != KnownKey::from(""));
+    let (CowStr::Borrowed("Aa"), CowStr::Owned(text)) = (key.key(), owned.key()) else {
+        return Err(Fail::new("another text"));
+    };
+    assert_eq!(rt; text.as_str(), "Aa");
+    Ok(())
+}
+
+#[test]
+fn found_in_any_target(rt: HostRuntime) -> Result<(), Fail> {
+    let alloc = rt.alloc();
+    let mut text = br#"{"BB":2,"Aa":1,"c":{"Aa":[]}}"#.to_vec(alloc)?;
+    let document = to_owned_value(alloc, &mut text)?;
+    let key = KnownKey::from("Aa");
+    let missing = KnownKey::from("a");
+    let members = document.as_object().ok_or("no object")?;
+    assert_eq!(rt; key.lookup(&document).ok_or("no member")?.as_u64(), Some(1));
+    assert_eq!(rt; key.lookup(members).ok_or("no member")?.as_u64(), Some(1));
+    assert_eq!(rt;
+        key.map_lookup(members).ok_or("no member")?.as_u64(),
+        Some(1)
+    );
+    assert!(rt; missing.lookup(&document).is_none() && missing.map_lookup(members).is_none());
+    let inner = KnownKey::from("c").lookup(&document).ok_or("no member")?;
+    let list = key.lookup(inner).ok_or("no member")?;
+    assert!(rt; list.is_array() && key.lookup(list).is_none());
+    Ok(())
+}
+
+#[test]
+fn written_members(rt: HostRuntime) -> Result<(), Fail> {
+    let alloc = rt.alloc();
+    let mut text = br#"{"a":1,"b":2}"#.to_vec(alloc)?;
+    let mut document = to_borrowed_value(alloc, &mut text)?;
+    let key = KnownKey::from("b");
+    key.lookup(&document).ok_or("no member")?;
+    write_document(&mut document, &key, BorrowedValue::from(3u8));
+    assert_eq!(rt; document.get_u64("b"), Some(3));
+    *key.lookup_mut(&mut document).ok_or("no member")? = BorrowedValue::from(4u8);
+    assert_eq!(rt; document.get_u64("b"), Some(4));
+    let members = document.as_object_mut().ok_or("no object")?;
+    *key.map_lookup_mut(members).ok_or("no member")? = BorrowedValue::from(5u8);
+    assert!(rt; KnownKey::from("c").map_lookup_mut(members).is_none());
+    assert_eq!(rt; document.get_u64("b"), Some(5));
+    assert!(rt; key.lookup_mut(&mut BorrowedValue::from(true)).is_none());
+    Ok(())
+}
+
+#[test]
+fn inserted_members(rt: HostRuntime) -> Result<(), Fail> {
+    let alloc = rt.alloc();
+    let mut document = OwnedValue::object(alloc);
+    let key = KnownKey::from("b");
+    assert!(rt;
+        key.insert(alloc, &mut document, OwnedValue::from(1u8))?
+            .is_none()
+    );
+    let first = KnownKey::from("a");
+    assert!(rt;
+        first
+            .insert(alloc, &mut document, OwnedValue::null())?
+            .is_none()
+    );
+    let old = key.insert(alloc, &mut document, OwnedValue::from(2u8))?;
+    assert_eq!(rt; old.ok_or("no old value")?.as_u64(), Some(1));
+    let members = document.as_object_mut().ok_or("no object")?;
+    let old = key.map_insert(alloc, members, OwnedValue::from(3u8))?;
+    assert_eq!(rt; old.ok_or("no old value")?.as_u64(), Some(2));
+    let mut out = Vec::new(alloc);
+    document.encode(&mut out)?;
+    assert_eq!(rt; out.as_slice(), br#"{"b":3,"a":null}"#.as_slice());
+    let mut number = OwnedValue::from(7u8);
+    let refused = key.insert(alloc, &mut number, OwnedValue::null());
+    assert_eq!(rt;
+        refused.err(),
+        Some(KnownKeyError::NotAnObject(ValueType::U64))
+    );
+    assert_eq!(rt; number.as_u64(), Some(7));
+    Ok(())
+}
+
+// A closure is called for a new key alone, and not where there is no memory.
+#[test]
+fn made_for_new_keys(rt: HostRuntime) -> Result<(), Fail> {
+    let alloc = rt.alloc();
+    let mut object: Object<String, u64> = Object::new(alloc);
+    let mut calls = 0u64;
+    for text in ["key", "cake", "key"] {
+        let before = (calls, object.len());
+        let with = || {
+            calls = calls.wrapping_add(1);
+            calls
+        };
+        match KnownKey::from(text).map_lookup_or_insert_mut(alloc, &mut object, with) {
+            Ok(found) => {
+                let wanted = if text == "key" { 1 } else { 2 };
+                assert_eq!(rt; *found, wanted);
+            }
+            Err(error) => {
+                assert_eq!(rt; error, KnownKeyError::Memory);
+                assert_eq!(rt; (calls, object.len()), before);
+                return Err(Fail::new("no memory"));
+            }
+        }
+    }
+    assert_eq!(rt; (calls, object.len()), (2, 2));
+    Ok(())
+}
+
+// A refused write leaves the object as it was.
+#[test]
+fn refused_writes(rt: HostRuntime) -> Result<(), Fail> {
+    let alloc = rt.alloc();
+    let mut object: Object<String, StaticNode> = Object::new(alloc);
+    for (text, len) in [("a", 1), ("b", 2), ("a", 2), ("c", 3)] {
+        let before = object.try_clone()?;
+        match KnownKey::from(text).map_insert(alloc, &mut object, StaticNode::Null) {
+            Ok(_) => assert_eq!(rt; object.len(), len),
+            Err(error) => {
+                assert!(rt;
+                    error == KnownKeyError::Memory && object == before && text != "a" || len == 1
+                );
+                return Err(Fail::new("no memory"));
+            }
+        }
+    }
+    Ok(())
+}
+
+#[test]
+fn shown_errors(rt: HostRuntime) -> Result<(), Fail> {
+    for (error, text) in [
+        (KnownKeyError::NotAnObject(ValueType::Array), "NotAnObject"),
+        (KnownKeyError::Memory, "Memory"),
+    ] {
+        assert_eq!(rt; error.to_string(rt.alloc())?.as_str(), text);
+    }
+    Ok(())
+}

@@ -1,0 +1,304 @@
+//! Of `sj_lazy`: worked rows, and each call with ample memory.
+use sj_base::{AccessError, StaticNode, TryCopy, TryTypeError, ValueType};
+use sj_lazy::{Held, Value};
+use sj_owned::OwnedValue;
+use sj_parse::to_tape;
+use sj_reads::{ValueAsScalar, ValueGetScalar};
+use sj_tape::Tape;
+use sj_values::{BorrowedValue, to_borrowed_value};
+use std::alloc::{AllocError, Global};
+use std::borrow::CowStr;
+use std::collections::HashMap;
+use std::process::Abort;
+use std::test::Fail;
+
+fn bytes(alloc: Global, text: &str) -> Result<Vec<u8>, AllocError> {
+    text.as_bytes().to_vec(alloc)
+}
+
+// The lazy value of a tape that isn't empty.
+fn lazy<'t, 'i>(tape: &'t Tape<'i>) -> Result<Value<'t, 't, 'i>, Fail> {
+    if tape.is_empty() {
+        return Err(Fail::new("no document"));
+    }
+    Ok(Value::from_tape(tape.as_value()))
+}
+
+fn expect_text(
+    rt: &impl Abort,
+    alloc: Global,
+    value: &Value<'_, '_, '_>,
+    text: &str,
+) -> Result<(), AllocError> {
+    let mut out = Vec::new(alloc);
+    value.encode(&mut out)?;
+    let shown = std::str::from_utf8(&out);
+    assert_eq!(rt; shown, Ok(text));
+    Ok(())
+}
+
+#[test]
+fn upgrade_on_insert(rt: HostRuntime) -> Result<(), Fail> {
+    let alloc = rt.alloc();
+    let mut text = bytes(alloc, r#"{"key": "value", "snot": 42}"#)?;
+    let tape = to_tape(alloc, &mut text)?;
+    let mut value = lazy(&tape)?;
+    assert_eq!(rt; value.get_str("key"), Some("value"));
+    assert!(rt; value.is_tape() && !value.is_value());
+    value.insert(alloc, CowStr::Borrowed("new"), BorrowedValue::from(42u64))?;
+    assert!(rt; value.is_value() && !value.is_tape());
+    assert_eq!(rt; value.get_str("key"), Some("value"));
+    assert_eq!(rt; value.get_u64("new"), Some(42));
+    expect_text(&rt, alloc, &value, r#"{"key":"value","snot":42,"new":42}"#)?;
+    Ok(())
+}
+
+#[test]
+fn typed_reads(rt: HostRuntime) -> Result<(), Fail> {
+    let alloc = rt.alloc();
+    let mut text = bytes(alloc, r#"{"snot": 1, "badger":[2, 2.5]}"#)?;
+    let tape = to_tape(alloc, &mut text)?;
+    let value = lazy(&tape)?;
+    assert_eq!(rt; value.get_u64("snot"), Some(1));
+    assert_eq!(rt; value.get_i8("badger"), None);
+    let number_met = TryTypeError {
+        expected: ValueType::String,
+        got: ValueType::U64,
+    };
+    assert_eq!(rt; value.try_get_str("snot"), Err(number_met));
+    assert_eq!(rt; value.try_get_bool("x"), Ok(None));
+    let mut text = bytes(alloc, "[]")?;
+    let tape = to_tape(alloc, &mut text)?;
+    let array_met = TryTypeError {
+        expected: ValueType::Object,
+        got: ValueType::Array,
+    };
+    assert_eq!(rt; lazy(&tape)?.try_get_bool("x"), Err(array_met));
+    Ok(())
+}
+
+#[test]
+fn refused_writes(rt: HostRuntime) -> Result<(), Fail> {
+    let alloc = rt.alloc();
+    let mut text = bytes(alloc, "7")?;
+    let tape = to_tape(alloc, &mut text)?;
+    let mut value = lazy(&tape)?;
+    assert!(rt; value.as_array_mut(alloc)?.is_none());
+    assert!(rt; value.is_value());
+    assert!(rt; value.as_object_mut(alloc)?.is_none());
+    assert!(rt; value.get_mut(alloc, "a")?.is_none() && value.get_idx_mut(alloc, 0)?.is_none());
+    assert_eq!(rt;
+        value.remove(alloc, "a").err(),
+        Some(AccessError::NotAnObject)
+    );
+    assert_eq!(rt; value.pop(alloc).err(), Some(AccessError::NotAnArray));
+    let mut text = bytes(alloc, r#"{"a":1,"a":2}"#)?;
+    let tape = to_tape(alloc, &mut text)?;
+    let mut value = lazy(&tape)?;
+    expect_text(&rt, alloc, &value, r#"{"a":1,"a":2}"#)?;
+    let pushed = value.push(alloc, BorrowedValue::from(0u64));
+    assert_eq!(rt; pushed, Err(AccessError::NotAnArray));
+    expect_text(&rt, alloc, &value, r#"{"a":1}"#)?;
+    Ok(())
+}
+
+// What stands where the upgrade lacks memory, as `rt try --fail-alloc` has it.
+#[test]
+fn refused_upgrade(rt: HostRuntime) -> Result<(), Fail> {
+    let alloc = rt.alloc();
+    let mut text = bytes(alloc, r#"{"a":[1]}"#)?;
+    let tape = to_tape(alloc, &mut text)?;
+    let mut value = lazy(&tape)?;
+    let is_made = value.value_mut(alloc).is_ok();
+    assert!(rt; value.is_value() == is_made && value.is_tape() != is_made);
+    expect_text(&rt, alloc, &value, r#"{"a":[1]}"#)?;
+    Ok(())
+}
+
+// The original of a document that is only borrowed stays as it is.
+#[test]
+fn borrowed_document(rt: HostRuntime) -> Result<(), Fail> {
+    let alloc = rt.alloc();
+    let mut text = bytes(alloc, r#"{"a":[1,2],"s":"x"}"#)?;
+    let document = to_borrowed_value(alloc, &mut text)?;
+    let mut value = Value::Value(Held::Borrowed(&document));
+    let inside = value.get_array("a").ok_or("no array")?;
+    assert_eq!(rt; inside.len(), 2);
+    let string = value.get("s").ok_or("no member")?;
+    let copied = string.into_string()?.ok_or("no string")?;
+    assert_eq!(rt; copied.as_str(), "x");
+    value.remove(alloc, "a")?;
+    expect_text(&rt, alloc, &value, r#"{"s":"x"}"#)?;
+    let whole = Value::Value(Held::Borrowed(&document));
+    expect_text(&rt, alloc, &whole, r#"{"a":[1,2],"s":"x"}"#)?;
+    let Ok(Value::Value(Held::Owned(_))) = whole.into_owned(alloc) else {
+        return Err(Fail::new("not owned"));
+    };
+    Ok(())
+}
+
+#[test]
+fn writes_to_items(rt: HostRuntime) -> Result<(), Fail> {
+    let alloc = rt.alloc();
+    let mut text = bytes(alloc, r#"[1,{"b":2}]"#)?;
+    let tape = to_tape(alloc, &mut text)?;
+    let mut value = lazy(&tape)?;
+    value.push(alloc, BorrowedValue::null())?;
+    assert!(rt; value.pop(alloc)?.ok_or("no item")?.is_null());
+    let item = value.get_idx_mut(alloc, 1)?.ok_or("no item")?;
+    assert_eq!(rt; item.remove("b")?.ok_or("no member")?.as_u64(), Some(2));
+    value.as_array_mut(alloc)?.ok_or("no array")?.clear();
+    expect_text(&rt, alloc, &value, "[]")?;
+    Ok(())
+}
+
+#[test]
+fn writes_to_members(rt: HostRuntime) -> Result<(), Fail> {
+    let alloc = rt.alloc();
+    let mut value = Value::null();
+    *value.value_mut(alloc)? = BorrowedValue::object(alloc);
+    let members = value.as_object_mut(alloc)?.ok_or("no object")?;
+    let Ok(None) = members.insert(CowStr::Borrowed("k"), BorrowedValue::null()) else {
+        return Err(Fail::new("not inserted"));
+    };
+    *value.get_mut(alloc, "k")?.ok_or("no member")? = BorrowedValue::from(true);
+    expect_text(&rt, alloc, &value, r#"{"k":true}"#)?;
+    let Ok(document) = value.into_value(alloc) else {
+        return Err(Fail::new("no document"));
+    };
+    assert_eq!(rt; document.get_bool("k"), Some(true));
+    Ok(())
+}
+
+// Reads the items of [1,2.5].
+fn read_items(rt: &impl Abort, array: &Value<'_, '_, '_>) -> Result<(), Fail> {
+    assert_eq!(rt; array.get_idx(0).ok_or("no item")?.as_u64(), Some(1));
+    assert!(rt; array.try_get_idx(2)?.is_none());
+    let items = array.try_as_array()?;
+    assert!(rt; items.len() == 2 && !items.is_empty());
+    assert_eq!(rt; items.get(0).ok_or("no item")?.as_u64(), Some(1));
+    let mut kinds = items.iter();
+    assert_eq!(rt; kinds.len(), 2);
+    assert_eq!(rt; kinds.next().ok_or("no item")?.value_type(), ValueType::U64);
+    assert!(rt; kinds.next().is_some() && kinds.next().is_none());
+    Ok(())
+}
+
+// Reads the members of {"a":[1,2.5],"o":{"k":null}}.
+fn read_members(rt: &impl Abort, value: &Value<'_, '_, '_>) -> Result<(), Fail> {
+    let members = value.try_as_object()?;
+    assert!(rt; members.len() == 2 && !members.is_empty());
+    assert!(rt; members.get("o").ok_or("no member")?.is_object());
+    let mut keys = members.keys();
+    assert_eq!(rt; (keys.len(), members.values().len()), (2, 2));
+    assert_eq!(rt;
+        (keys.next(), keys.next(), keys.next()),
+        (Some("a"), Some("o"), None)
+    );
+    let (key, member) = members.iter().next().ok_or("no member")?;
+    assert!(rt; key == "a" && member.is_array());
+    assert!(rt; members.values().next().ok_or("no value")?.is_array());
+    Ok(())
+}
+
+// Reads the same members by their keys.
+fn read_by_key(rt: &impl Abort, value: &Value<'_, '_, '_>) -> Result<(), Fail> {
+    assert!(rt; value.is_object() && !value.is_array() && value.contains_key("a"));
+    assert_eq!(rt; value.value_type(), ValueType::Object);
+    assert!(rt; value.try_get("x")?.is_none());
+    assert_eq!(rt; value.get_object("o").ok_or("no object")?.len(), 1);
+    assert_eq!(rt; value.try_get_array("a")?.ok_or("no array")?.len(), 2);
+    assert_eq!(rt; value.try_get_object("o")?.ok_or("no object")?.len(), 1);
+    assert!(rt; value.try_get_object("a").is_err() && value.try_get_array("x")?.is_none());
+    Ok(())
+}
+
+fn read_parts(rt: &impl Abort, value: &Value<'_, '_, '_>) -> Result<(), Fail> {
+    read_items(rt, &value.get("a").ok_or("no member")?)?;
+    read_members(rt, value)?;
+    read_by_key(rt, value)
+}
+
+#[test]
+fn reads_of_parts(rt: HostRuntime) -> Result<(), Fail> {
+    let alloc = rt.alloc();
+    let mut text = bytes(alloc, r#"{"a":[1,2.5],"o":{"k":null}}"#)?;
+    let tape = to_tape(alloc, &mut text)?;
+    let mut value = lazy(&tape)?;
+    read_parts(&rt, &value)?;
+    assert!(rt; value.is_tape());
+    let copy = value.try_clone()?;
+    value.value_mut(alloc)?;
+    read_parts(&rt, &value)?;
+    read_parts(&rt, &value.try_clone()?)?;
+    let Ok(kept) = copy.into_owned(alloc) else {
+        return Err(Fail::new("no value"));
+    };
+    assert!(rt; kept.is_tape());
+    let mut out = Vec::new(alloc);
+    kept.get("o").ok_or("no member")?.encode_pp(&mut out)?;
+    assert_eq!(rt; out.as_slice(), b"{\n  \"k\": null\n}".as_slice());
+    Ok(())
+}
+
+// Compares the two items of an array, as parts of its tape and as documents.
+fn compare(rt: &impl Abort, alloc: Global, pair: &str, is_equal: bool) -> Result<(), Fail> {
+    let mut text = bytes(alloc, pair)?;
+    let tape = to_tape(alloc, &mut text)?;
+    let both = lazy(&tape)?;
+    let first = both.get_idx(0).ok_or("no item")?;
+    let second = both.get_idx(1).ok_or("no item")?;
+    assert!(rt; (first == second) == is_equal, "{pair}");
+    let mut document = both.get_idx(1).ok_or("no item")?;
+    document.value_mut(alloc)?;
+    assert!(rt; document.is_value() && first.is_tape());
+    assert!(rt; (first == document) == is_equal, "{pair}");
+    assert!(rt; (document == first) == is_equal, "{pair}");
+    Ok(())
+}
+
+// The first member of each key counts, in a tape too.
+#[test]
+fn equal_values(rt: HostRuntime) -> Result<(), Fail> {
+    for (pair, is_equal) in [
+        (r#"[{"a":1,"a":2},{"a":1,"a":2}]"#, true),
+        (r#"[{"a":1,"a":2},{"a":1}]"#, true),
+        (r#"[{"a":1,"a":2},{"a":2}]"#, false),
+        (r#"[{"a":1,"b":[2.5]},{"b":[2.5],"a":1}]"#, true),
+        (r#"[{"a":1,"b":[2.5]},{"b":[2.50],"a":1}]"#, false),
+        (r#"[[1,"x",{}],[1,"x",{}]]"#, true),
+        ("[[1],[1,2]]", false),
+        ("[[],{}]", false),
+        ("[-0,0]", true),
+        ("[null,false]", false),
+    ] {
+        compare(&rt, rt.alloc(), pair, is_equal)?;
+    }
+    Ok(())
+}
+
+#[test]
+fn made_of_others(rt: HostRuntime) -> Result<(), Fail> {
+    let alloc = rt.alloc();
+    assert!(rt; Value::null().is_tape() && Value::default().is_null());
+    expect_text(&rt, alloc, &Value::array(alloc), "[]")?;
+    expect_text(&rt, alloc, &Value::object(alloc), "{}")?;
+    expect_text(&rt, alloc, &Value::array_with_capacity(alloc, 1)?, "[]")?;
+    expect_text(&rt, alloc, &Value::object_with_capacity(alloc, 1)?, "{}")?;
+    expect_text(&rt, alloc, &Value::from(StaticNode::I64(-1)), "-1")?;
+    expect_text(&rt, alloc, &Value::from("x"), "\"x\"")?;
+    expect_text(&rt, alloc, &Value::from(Some(true)), "true")?;
+    expect_text(&rt, alloc, &Value::from_text(alloc, "y")?, "\"y\"")?;
+    let list = Vec::from_slice(alloc, &[1u8, 2])?;
+    expect_text(&rt, alloc, &Value::from_list(alloc, list)?, "[1,2]")?;
+    expect_text(&rt, alloc, &Value::from_values(alloc, 0u8..2)?, "[0,1]")?;
+    let mut pairs = Vec::new(alloc);
+    pairs.push((CowStr::Borrowed("a"), 1u8))?;
+    expect_text(&rt, alloc, &Value::from_pairs(alloc, pairs)?, r#"{"a":1}"#)?;
+    let mut map = HashMap::new(alloc);
+    map.insert(String::from_str(alloc, "k")?, BorrowedValue::null())?;
+    expect_text(&rt, alloc, &Value::from_map(alloc, map)?, r#"{"k":null}"#)?;
+    let owned = OwnedValue::from(3u8);
+    expect_text(&rt, alloc, &Value::from_owned(alloc, owned)?, "3")?;
+    Ok(())
+}

@@ -1,0 +1,194 @@
+//! Of `sj_object`: worked rows, and calls with ample memory.
+use sj_base::{StaticNode, TryCopy};
+use sj_object::{
+    CopyKey, MakeKey, NotSoRandomState, Object, ObjectHasher, ObjectKey, Refused, hash_key,
+};
+use std::alloc::{AllocError, Global};
+use std::borrow::CowStr;
+use std::fmt::Debug;
+use std::test::Fail;
+
+fn object_of<'de, K: MakeKey<'de> + Debug + Drop>(
+    alloc: Global,
+    pairs: &[(&'de str, u64)],
+) -> Result<Object<K, u64>, Fail> {
+    let mut object = Object::new(alloc);
+    for (text, value) in pairs {
+        object.insert(K::from_text(alloc, text)?, *value)?;
+    }
+    Ok(object)
+}
+
+fn copy_of<K: CopyKey + Drop, V: TryCopy + Drop>(
+    object: &Object<K, V>,
+) -> Result<Object<K, V>, AllocError> {
+    object.try_clone()
+}
+
+#[test]
+fn replaced_in_place(rt: HostRuntime) -> Result<(), Fail> {
+    let mut object: Object<String, u64> = Object::with_capacity(rt.alloc(), 2)?;
+    assert!(rt; object.is_empty());
+    for (text, value, old) in [("a", 1, None), ("b", 2, None), ("a", 3, Some(1))] {
+        assert_eq!(rt;
+            object.insert(String::from_str(rt.alloc(), text)?, value)?,
+            old
+        );
+    }
+    assert_eq!(rt;
+        (object.len(), object.get("a"), object.get("b")),
+        (2, Some(&3), Some(&2))
+    );
+    assert!(rt; object.contains_key("a") && !object.contains_key(""));
+    assert_eq!(rt; (object.remove("a"), object.remove("a")), (Some(3), None));
+    assert_eq!(rt;
+        (object.len(), object.get("a"), object.get("b")),
+        (1, None, Some(&2))
+    );
+    Ok(())
+}
+
+#[test]
+fn pairs_in_order(rt: HostRuntime) -> Result<(), Fail> {
+    let mut object: Object<String, u64> = object_of(rt.alloc(), &[("b", 2), ("a", 1)])?;
+    if let Some(value) = object.get_mut("a") {
+        *value = 5;
+    }
+    assert_eq!(rt; object.get_mut("d"), None);
+    let mut shown = String::new(rt.alloc());
+    for (key, value) in object.iter() {
+        write!(shown, "{key}{value} ")?;
+    }
+    for (key, value) in &object {
+        write!(shown, "{key}{value} ")?;
+    }
+    for key in object.keys() {
+        write!(shown, "{key} ")?;
+    }
+    for value in object.values() {
+        write!(shown, "{value} ")?;
+    }
+    for (key, value) in object {
+        write!(shown, "{key}{value} ")?;
+    }
+    assert_eq!(rt; shown.as_str(), "b2 a5 b2 a5 b a 2 5 b2 a5 ");
+    Ok(())
+}
+
+#[test]
+fn refused(rt: HostRuntime) -> Result<(), Fail> {
+    let pair = Refused { key: "a", value: 1 };
+    assert_eq!(rt; pair.to_string(rt.alloc())?.as_str(), "Refused");
+    Ok(())
+}
+
+#[test]
+fn ended_iterators(rt: HostRuntime) -> Result<(), Fail> {
+    let object: Object<String, u64> = object_of(rt.alloc(), &[("a", 1)])?;
+    let mut pairs = object.iter();
+    assert_eq!(rt; (pairs.len(), pairs.size_hint()), (1, (1, Some(1))));
+    assert!(rt; pairs.next().is_some());
+    assert!(rt; pairs.next().is_none() && pairs.next().is_none());
+    assert_eq!(rt; (object.keys().len(), object.values().len()), (1, 1));
+    let mut pairs = object.into_iter();
+    assert_eq!(rt; (pairs.len(), pairs.size_hint()), (1, (1, Some(1))));
+    assert!(rt; pairs.next().is_some());
+    assert!(rt; pairs.next().is_none() && pairs.next().is_none());
+    Ok(())
+}
+
+#[test]
+fn equal_as_maps(rt: HostRuntime) -> Result<(), Fail> {
+    let object: Object<String, u64> = object_of(rt.alloc(), &[("a", 1), ("b", 2)])?;
+    let turned = object_of(rt.alloc(), &[("b", 2), ("a", 1)])?;
+    assert!(rt; object == turned);
+    for pairs in [
+        [("a", 1), ("b", 3)].as_slice(),
+        [("a", 1), ("c", 2)].as_slice(),
+        [("a", 1)].as_slice(),
+        [("a", 1), ("b", 2), ("c", 3)].as_slice(),
+    ] {
+        assert!(rt; object != object_of(rt.alloc(), pairs)?);
+    }
+    Ok(())
+}
+
+#[test]
+fn copies(rt: HostRuntime) -> Result<(), Fail> {
+    let mut object: Object<CowStr, StaticNode> = Object::new(rt.alloc());
+    for (text, value) in [("b", StaticNode::Null), ("a", StaticNode::I64(-1))] {
+        object.insert(CowStr::from_text(rt.alloc(), text)?, value)?;
+    }
+    let mut copy = copy_of(&object)?;
+    assert!(rt; copy == object);
+    let Some((CowStr::Borrowed("b"), StaticNode::Null)) = copy.iter().next() else {
+        return Err(Fail::new("another first pair"));
+    };
+    assert_eq!(rt; copy.remove("a"), Some(StaticNode::I64(-1)));
+    assert_eq!(rt; (copy.len(), object.len()), (1, 2));
+    Ok(())
+}
+
+#[test]
+fn hashes(rt: HostRuntime) {
+    for (text, hash) in [("", 0), ("a", 97), ("Aa", 2112), ("BB", 2112)] {
+        assert_eq!(rt; hash_key(text), hash, "at {text}");
+        let hasher: ObjectHasher = NotSoRandomState::default();
+        assert_eq!(rt; hasher.hash_text(text), hash, "at {text}");
+    }
+    let text = "a longer key, so that the hash wraps";
+    assert_eq!(rt; hash_key(text), 16192448537463894838);
+}
+
+// Six blocks, one for each binary digit of `number`, highest first.
+fn colliding_key(alloc: Global, number: u64) -> Result<String, AllocError> {
+    let mut key = String::new(alloc);
+    for place in 0..6u32 {
+        let digit = number >> (5 - place) & 1;
+        key.push_str(if digit == 0 { "Aa" } else { "BB" })?;
+    }
+    Ok(key)
+}
+
+#[test]
+fn forty_equal_hashes(rt: HostRuntime) -> Result<(), Fail> {
+    let mut object = Object::new(rt.alloc());
+    let hash = hash_key("AaAaAaAaAaAa");
+    for number in 0..40 {
+        let key = colliding_key(rt.alloc(), number)?;
+        assert_eq!(rt; hash_key(key.as_str()), hash);
+        let hash = hash_key(key.as_str());
+        assert_eq!(rt; object.insert_hashed(hash, key, number)?, None);
+    }
+    let key = "BBAaAaBBBBBB";
+    assert_eq!(rt; object.get_hashed(hash_key(key), key), Some(&39));
+    assert_eq!(rt; object.remove("AaAaAaAaAaAa"), Some(0));
+    assert_eq!(rt; object.len(), 39);
+    for (number, value) in (1..40).zip(object.values()) {
+        assert_eq!(rt; number, *value);
+    }
+    if let Some(value) = object.get_hashed_mut(hash_key(key), key) {
+        *value = 0;
+    }
+    assert_eq!(rt; object.get(key), Some(&0));
+    Ok(())
+}
+
+#[test]
+fn made_once(rt: HostRuntime) -> Result<(), Fail> {
+    let mut object: Object<CowStr, u64> = Object::new(rt.alloc());
+    let mut calls = 0u64;
+    for (text, value) in [("key", 1), ("cake", 2), ("key", 1)] {
+        let hash = hash_key(text);
+        let with = || {
+            calls = calls.wrapping_add(1);
+            calls
+        };
+        let Ok(found) = object.get_or_insert_hashed(hash, CowStr::Borrowed(text), with) else {
+            return Err(Fail::new("refused"));
+        };
+        assert_eq!(rt; *found, value);
+    }
+    assert_eq!(rt; (calls, object.len()), (2, 2));
+    Ok(())
+}

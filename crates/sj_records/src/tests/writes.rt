@@ -1,0 +1,218 @@
+//! Worked rows of scripts that read and write, in each form.
+use super::{LIMIT, expect, expect_in, script_of};
+use crate::{Command, Document, Form};
+use sj_owned::to_owned_value;
+use std::alloc::{AllocError, Global};
+use std::process::Abort;
+use std::test::Fail;
+
+// Looks for the record of one line under a script.
+fn check(
+    rt: &impl Abort,
+    alloc: Global,
+    script: &str,
+    line: &str,
+    depth: usize,
+    record: &str,
+) -> Result<(), Fail> {
+    let stream = format!(in alloc; "{line}\n")?;
+    let records = format!(in alloc; "{record}\n")?;
+    for step in [1, 65536] {
+        expect(rt, alloc, script, &stream, depth, step, &records);
+    }
+    Ok(())
+}
+
+#[test]
+fn worked_scripts(rt: HostRuntime) -> Result<(), Fail> {
+    for (script, line, record) in [
+        (
+            r#"[["get",["key"]],["insert",[],"new",42],["get",["new"]]]"#,
+            r#"{"key": "value", "snot": 42}"#,
+            r#"{"replies":[["value"],[],[42]],"document":{"key":"value","snot":42,"new":42}}"#,
+        ),
+        (
+            r#"[["type",[]]]"#,
+            "null",
+            r#"{"replies":["null"],"document":null}"#,
+        ),
+        (
+            r#"[["insert",[],"x",{"a":1,"a":2}]]"#,
+            "{}",
+            r#"{"replies":[[]],"document":{"x":{"a":1}}}"#,
+        ),
+        (
+            r#"[["contains",[],"b"],["contains",["a"],"b"],["type",["a",1]],["keys",[]],["keys",["a"]],["len",["b"]],["pop",["a"]],["remove",[],"b"],["remove",[],"b"],["set",["a",0],2.50],["type",["a",0]],["get",["z"]],["len",["z"]]]"#,
+            r#"{"a":[1,"x"],"b":null}"#,
+            r#"{"replies":[true,false,"string",["a","b"],"NotAnObject","NotAContainer",["x"],[null],[],[1],"decimal",[],"NoSuchPath"],"document":{"a":[2.50]}}"#,
+        ),
+        (
+            r#"[["set",[],[1,2]],["type",[]],["set",[5],0],["pop",[]]]"#,
+            "{}",
+            r#"{"replies":[[{}],"array","NoSuchPath",[2]],"document":[1]}"#,
+        ),
+        (
+            r#"[["insert",["o","i",1],"s","t\u0001"],["set",["o","i",1,"s"],"é"],["push",["o","i"],[{"k":1.50}]],["get",["o"]],["remove",["o"],"i"]]"#,
+            r#"{"o":{"i":[0,{}]}}"#,
+            r#"{"replies":[[],["t\u0001"],[],[{"i":[0,{"s":"é"},[{"k":1.50}]]}],[[0,{"s":"é"},[{"k":1.50}]]]],"document":{"o":{}}}"#,
+        ),
+        (
+            r#"[["type",[0]],["type",[1]],["type",[2]],["type",[3]],["type",[4]],["type",[5]],["type",[6]],["type",[7]],["type",[8]]]"#,
+            r#"[null,true,-1,1,1.0,"",[],{}]"#,
+            r#"{"replies":["null","bool","integer","integer","decimal","string","array","object","NoSuchPath"],"document":[null,true,-1,1,1.0,"",[],{}]}"#,
+        ),
+    ] {
+        check(&rt, rt.alloc(), script, line, LIMIT, record)?;
+    }
+    Ok(())
+}
+
+// A script, a line in which a key stands twice, its record where only the first member is kept, and that of the form `Lazy`.
+const REPEATED_KEYS: [(&str, &str, &str, &str); 5] = [
+    (
+        "[]",
+        r#"{"a":1,"\u0061":2}"#,
+        r#"{"replies":[],"document":{"a":1}}"#,
+        r#"{"replies":[],"document":{"a":1,"a":2}}"#,
+    ),
+    (
+        "[]",
+        r#"[{"\u0061":{"b":1,"\u0062":2},"c":3,"a":4}]"#,
+        r#"{"replies":[],"document":[{"a":{"b":1},"c":3}]}"#,
+        r#"{"replies":[],"document":[{"a":{"b":1,"b":2},"c":3,"a":4}]}"#,
+    ),
+    (
+        r#"[["get",["a"]],["get",["b"]]]"#,
+        r#"{"a":1,"a":2}"#,
+        r#"{"replies":[[1],[]],"document":{"a":1}}"#,
+        r#"{"replies":[[1],[]],"document":{"a":1,"a":2}}"#,
+    ),
+    (
+        r#"[["len",[]],["push",[],0],["len",[]]]"#,
+        r#"{"a":1,"a":2}"#,
+        r#"{"replies":[1,"NotAnArray",1],"document":{"a":1}}"#,
+        r#"{"replies":[2,"NotAnArray",1],"document":{"a":1}}"#,
+    ),
+    (
+        r#"[["keys",[]],["remove",[],"a"],["keys",[]]]"#,
+        r#"{"a":1,"a":2}"#,
+        r#"{"replies":[["a"],[1],[]],"document":{}}"#,
+        r#"{"replies":[["a","a"],[1],[]],"document":{}}"#,
+    ),
+];
+
+#[test]
+fn repeated_keys(rt: HostRuntime) -> Result<(), Fail> {
+    let alloc = rt.alloc();
+    for (script, line, kept, lazy) in &REPEATED_KEYS {
+        let stream = format!(in alloc; "{line}\n")?;
+        for (form, record) in [
+            (Form::Owned, *kept),
+            (Form::Borrowed, *kept),
+            (Form::Lazy, *lazy),
+        ] {
+            let records = format!(in alloc; "{record}\n")?;
+            expect_in(form, &rt, alloc, script, &stream, LIMIT, 65536, &records);
+        }
+    }
+    Ok(())
+}
+
+// Path, kind and depth are tested in this order, and the value's levels count.
+#[test]
+fn depth_limits(rt: HostRuntime) -> Result<(), Fail> {
+    for (script, line, depth, record) in [
+        (
+            r#"[["push",[],[]]]"#,
+            "[]",
+            1,
+            r#"{"replies":["TooDeep"],"document":[]}"#,
+        ),
+        (
+            r#"[["push",[],[]],["push",[0],[]],["push",[0],7]]"#,
+            "[]",
+            2,
+            r#"{"replies":[[],"TooDeep",[]],"document":[[7]]}"#,
+        ),
+        (
+            r#"[["insert",["a"],"k",[[]]],["insert",["x"],"k",1],["set",["a"],[]],["insert",[],"k",[]],["push",["a"],[]]]"#,
+            r#"{"a":1}"#,
+            1,
+            r#"{"replies":["NotAnObject","NoSuchPath","TooDeep","TooDeep","NotAnArray"],"document":{"a":1}}"#,
+        ),
+        (
+            r#"[["set",[],[]],["set",[],8],["push",[],1]]"#,
+            "7",
+            0,
+            r#"{"replies":["TooDeep",[7],"NotAnArray"],"document":8}"#,
+        ),
+    ] {
+        check(&rt, rt.alloc(), script, line, depth, record)?;
+    }
+    Ok(())
+}
+
+// Appends a member whose key has six blocks, one for each binary digit of `number`, highest first.
+fn put_member(alloc: Global, out: &mut String, number: u8) -> Result<(), AllocError> {
+    out.push('"')?;
+    for place in 0..6u8 {
+        let is_one = number >> (5 - place) & 1 == 1;
+        out.push_str(if is_one { "BB" } else { "Aa" })?;
+    }
+    let value = format!(in alloc; "\":{number}")?;
+    out.push_str(&value)
+}
+
+// An object of the members from `first` to 39.
+fn forty(alloc: Global, first: u8) -> Result<String, AllocError> {
+    let mut text = String::from_str(alloc, "{")?;
+    for number in first..40u8 {
+        if number > first {
+            text.push(',')?;
+        }
+        put_member(alloc, &mut text, number)?;
+    }
+    text.push('}')?;
+    Ok(text)
+}
+
+#[test]
+fn forty_equal_hashes(rt: HostRuntime) -> Result<(), Fail> {
+    let alloc = rt.alloc();
+    let line = forty(alloc, 0)?;
+    let left = forty(alloc, 1)?;
+    let record = format!(in alloc; "{{\"replies\":[[39],[0],39],\"document\":{left}}}")?;
+    let script = r#"[["get",["BBAaAaBBBBBB"]],["remove",[],"AaAaAaAaAaAa"],["len",[]]]"#;
+    check(&rt, alloc, script, &line, LIMIT, &record)
+}
+
+// A write call appends its reply, or on want of memory nothing. Then the document is as it was or as the write leaves it.
+#[test]
+fn write_call(rt: HostRuntime) -> Result<(), Fail> {
+    let alloc = rt.alloc();
+    let script = script_of(alloc, r#"[["insert",["a"],"k",["new"]]]"#)
+        .ok()
+        .ok_or("no script")?;
+    assert_eq!(rt; script.len(), 1);
+    let Command::Insert(path, key, value) = script.command(0) else {
+        return Err(Fail::new("another command"));
+    };
+    let mut text = br#"{"a":{"k":"old"}}"#.to_vec(alloc)?;
+    let mut document = to_owned_value(alloc, &mut text)?;
+    let mut out = b"> ".to_vec(alloc)?;
+    let done = Document::insert(&mut document, path, key, value, LIMIT, &mut out);
+    let mut shown = Vec::new(alloc);
+    Document::text(&document, &mut shown)?;
+    let is_new = shown.as_slice() == br#"{"a":{"k":["new"]}}"#.as_slice();
+    match done {
+        Ok(()) => {
+            assert!(rt; is_new);
+            assert_eq!(rt; out.as_slice(), br#"> ["old"]"#.as_slice());
+        }
+        Err(AllocError) => {
+            assert!(rt; is_new || shown.as_slice() == br#"{"a":{"k":"old"}}"#.as_slice());
+            assert_eq!(rt; out.as_slice(), b"> ".as_slice());
+        }
+    }
+    Ok(())
+}

@@ -1,0 +1,15 @@
+//! JSON documents that may borrow their texts from the bytes that they were read from.
+//!
+//! A borrowed document is the same tree as an owned one of `sj_owned`, and is read, edited and printed by the same calls.
+//! Its strings, keys and decimal literals are borrowed or owned.
+#![tactic(auto)]
+
+pub mod borrowed;
+mod slice;
+
+pub use borrowed::{
+    BorrowDeserializer, Value as BorrowedValue, to_value as to_borrowed_value,
+    to_value_with_buffers as to_borrowed_value_with_buffers,
+};
+pub use sj_owned::from_borrowed;
+pub use slice::BorrowSliceDeserializer;
