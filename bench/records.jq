@@ -1,5 +1,8 @@
-# The work of `records` on the script [["get",["package"]],["get",["depends",0]]], done by jq:
-#     jq -c -f bench/records.jq < big.jsonl > expected.jsonl
-def member($key): if type == "object" and has($key) then .[$key] else empty end;
-def item($index): if type == "array" and length > $index then .[$index] else empty end;
-{replies: [[member("package")], [member("depends") | item(0)]], document: .}
+# The work of `records` on the script [] or, for a path of keys, [["get",[KEY,..]]], done by jq:
+#     jq -c -f bench/records.jq --args KEY < big.jsonl > expected.jsonl
+def find($path):
+  if $path == [] then .
+  elif type == "object" and has($path[0]) then .[$path[0]] | find($path[1:])
+  else empty end;
+$ARGS.positional as $path
+| {replies: (if $path == [] then [] else [[find($path)]] end), document: .}

@@ -1,5 +1,5 @@
-// The work of `records` on the script [["get",["package"]],["get",["depends",0]]], done with simdjson's DOM:
-//     g++ -O3 -march=native bench/simdjson.cpp -lsimdjson -o simdjson && ./simdjson < big.jsonl > expected.jsonl
+// The work of `records` on the script [] or, for a path of keys, [["get",[KEY,..]]], done with simdjson's DOM:
+//     g++ -O3 -march=native bench/simdjson.cpp -lsimdjson -o simdjson && ./simdjson KEY < big.jsonl > expected.jsonl
 //
 // Lines are parsed where they were read, and all that is made is kept from line to line: the input, the parser, the
 // printer and the output. A line that is no document gives {"error":true}, since simdjson says no place of a fault.
@@ -41,6 +41,9 @@ private:
 
 class Records {
 public:
+    // With no keys the script has no command.
+    explicit Records(std::vector<std::string_view> path) : path(std::move(path)) {}
+
     // Appends the record of a line. SIMDJSON_PADDING bytes behind the line have to be readable.
     void put(const char *line, size_t len, Output &out) {
         dom::element document;
@@ -48,16 +51,17 @@ public:
             out.put("{\"error\":true}\n");
             return;
         }
-        out.put("{\"replies\":[[");
-        put_found(document.at_key("package"), out);
-        out.put("],[");
-        put_found(document.at_key("depends").at(0), out);
-        out.put("]],\"document\":");
+        out.put("{\"replies\":[");
+        if (!path.empty()) {
+            put_reply(document, out);
+        }
+        out.put("],\"document\":");
         put_value(document, out);
         out.put("}\n");
     }
 
 private:
+    std::vector<std::string_view> path;
     dom::parser parser;
     internal::string_builder<> printer;
 
@@ -67,19 +71,25 @@ private:
         out.put(printer.str());
     }
 
-    void put_found(simdjson_result<dom::element> found, Output &out) {
+    void put_reply(dom::element document, Output &out) {
+        simdjson_result<dom::element> found(std::move(document));
+        for (std::string_view key : path) {
+            found = found.at_key(key);
+        }
+        out.put("[");
         dom::element value;
         if (!found.get(value)) {
             put_value(value, out);
         }
+        out.put("]");
     }
 };
 
-int main() {
+int main(int argc, char **argv) {
     constexpr size_t PIECE = 65536;
     std::vector<char> input(PIECE + SIMDJSON_PADDING);
     size_t kept = 0; // the bytes of a line whose end wasn't read yet
-    Records records;
+    Records records({argv + 1, argv + argc});
     Output out;
     for (;;) {
         size_t room = input.size() - SIMDJSON_PADDING;

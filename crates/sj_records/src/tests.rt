@@ -1,5 +1,5 @@
 //! Worked lines and scripts, the display texts of errors, and readers and writers that fail. The tests of the crates below
-//! stand here too, but for those of `sj_tape`, since a crate with tests is proved once more with them.
+//! stand here too, since a crate with tests is proved once more with them.
 ghost use Rattle.std.specs.Prelude.{◌≡◌};
 
 mod copies;
@@ -7,6 +7,7 @@ mod documents;
 mod faults;
 mod keys;
 mod lazy;
+mod nodes;
 mod objects;
 mod owned;
 mod rows;

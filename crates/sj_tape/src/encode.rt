@@ -7,9 +7,6 @@ ghost use Rattle.sj_base.specs.Output.{WritesAll, WritesPrefix};
 ghost use Rattle.sj_tape.specs.Listing.{listing};
 ghost use Rattle.sj_tape.specs.Views.{value_tree, array_items, object_members};
 
-#[cfg(test)]
-mod tests;
-
 use crate::array::Array;
 use crate::object::Object;
 use crate::value::Value;

@@ -13,8 +13,6 @@ pub mod laws;
 mod node;
 pub mod object;
 mod tape;
-#[cfg(test)]
-mod tests;
 mod value;
 
 pub use array::Array;

@@ -1,12 +1,15 @@
-//! What no clause says of tapes and views: which worked lists of nodes are a document, worked reads, that there is memory
-//! for what is asked, and that a tape keeps its vector. `tape` is for the tests of printing too.
-ghost use Rattle.std.specs.Prelude.{◌≢◌, [], IfOk};
+//! Of `sj_tape`: which worked lists of nodes are a document, that a tape keeps its vector, the worked indented text, and
+//! sinks that refuse.
+ghost use Rattle.std.specs.Prelude.{◌≡◌, ◌≢◌, [], IfOk};
 ghost use Rattle.sj_tape.specs.Views.{tape_nodes};
 
-use super::*;
-use sj_base::{StaticNode, TryTypeError, ValueType};
+use super::{Narrow, Refusal};
+use sj_base::{Counted, StaticNode, WriteFault};
 use sj_reads::ValueAsScalar;
+use sj_tape::{Node, Tape, Value};
 use std::alloc::Global;
+use std::marker::Brand;
+use std::sync::ledger::{Blank, Ledger};
 use std::test::Fail;
 
 // The nodes that the words stand for: `[len,count` an array, `{len,count` an object, `null` and numbers themselves, and
@@ -50,25 +53,19 @@ fn scalar_of(word: &str) -> Node<'_> {
 }
 
 // Creates a tape that must be accepted.
-pub(crate) fn tape<'i>(alloc: Global, words: &'i str) -> Result<Tape<'i>, Fail>
+fn tape_of<'i>(alloc: Global, words: &'i str) -> Result<Tape<'i>, Fail>
     ensures { IfOk result (λ tape. tape_nodes tape ≢ []) }
 {
     Ok(Tape::new(nodes_of(alloc, words)?).ok_or("no tape")?)
 }
 
-// The compact text of a value.
-fn text_of(alloc: Global, value: Value<'_, '_>) -> Result<Vec<u8>, Fail> {
-    let mut out = Vec::new(alloc);
-    value.encode(&mut out)?;
-    Ok(out)
-}
-
 // The compact text of the document, or nothing if the nodes are none.
 fn document_of(alloc: Global, words: &str) -> Result<Vec<u8>, Fail> {
-    match Tape::new(nodes_of(alloc, words)?) {
-        Some(tape) => text_of(alloc, tape.as_value()),
-        None => Ok(Vec::new(alloc)),
+    let mut out = Vec::new(alloc);
+    if let Some(tape) = Tape::new(nodes_of(alloc, words)?) {
+        tape.as_value().encode(&mut out)?;
     }
+    Ok(out)
 }
 
 #[test]
@@ -107,29 +104,45 @@ fn nodes_keep_their_vector(rt: HostRuntime) -> Result<(), Fail> {
 }
 
 #[test]
-fn items_by_index(rt: HostRuntime) -> Result<(), Fail> {
-    let tape = tape(rt.alloc(), "[3,5 1 [2,2 2 3 4")?;
-    let array = tape.as_value().as_array().ok_or("no array")?;
-    for (index, text) in ["1", "[2,3]", "4"].iter().enumerate() {
-        let item = array.get(index).ok_or("no item")?;
-        assert_eq!(rt; text_of(rt.alloc(), item)?.as_slice(), text.as_bytes());
-    }
-    assert!(rt; array.get(3).is_none());
+fn indented_text(rt: HostRuntime) -> Result<(), Fail> {
+    let tape = tape_of(rt.alloc(), "{2,6 a [2,2 1 {0,0 b [0,0")?;
+    let mut out = Vec::new(rt.alloc());
+    tape.as_value().encode_pp(&mut out)?;
+    let text = b"{\n  \"a\": [\n    1,\n    {}\n  ],\n  \"b\": []\n}";
+    assert!(rt; out.as_slice() == text.as_slice());
     Ok(())
 }
 
+// Writes with a count of the calls, which the blank opens.
+fn counted_write<L: Ledger>(
+    value: &Value<'_, '_>,
+    output: &mut Narrow,
+    blank: Blank,
+) -> Result<(), WriteFault>
+    requires { (blank.name ≡ L.name) × (blank.parts ≡ L.parts) × (blank.parts ≡ 4) }
+{
+    let mut sink = Counted::<&mut Narrow, L>::new(output, blank);
+    let result = value.write(&mut sink);
+    let _ = sink.into_inner();
+    result
+}
+
+fn write(value: &Value<'_, '_>, output: &mut Narrow) -> Result<(), WriteFault> {
+    counted_write::<Brand>(value, output, Blank::new(4))
+}
+
 #[test]
-fn try_get_on_tape(rt: HostRuntime) -> Result<(), Fail> {
-    let tape = tape(rt.alloc(), "{1,2 the_answer 42")?;
-    let value = tape.as_value();
-    let found = value.try_get("the_answer").ok().ok_or("no object")?;
-    assert_eq!(rt; found.ok_or("no member")?.as_i64(), Some(42));
-    let absent = value.try_get("does_not_exist").ok().ok_or("no object")?;
-    assert!(rt; absent.is_none());
-    let no_array = TryTypeError {
-        expected: ValueType::Array,
-        got: ValueType::Object,
-    };
-    assert_eq!(rt; value.try_get_idx(0).err(), Some(no_array));
+fn sinks_that_refuse(rt: HostRuntime) -> Result<(), Fail> {
+    let tape = tape_of(rt.alloc(), "{1,2 a null")?;
+    for refusal in [Refusal::Fails, Refusal::Interrupts, Refusal::TakesNothing] {
+        let mut output = Narrow {
+            taken: Vec::new(rt.alloc()),
+            step: 1,
+            room: 3,
+            refusal,
+        };
+        assert!(rt; write(&tape.as_value(), &mut output) == Err(WriteFault));
+        assert!(rt; output.taken.as_slice() == b"{\"a".as_slice());
+    }
     Ok(())
 }
