@@ -17,8 +17,6 @@ mod run_error;
 mod script;
 mod script_value;
 mod task;
-#[cfg(test)]
-mod tests;
 
 pub use document::Document;
 pub use engine::run;

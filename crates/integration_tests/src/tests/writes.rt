@@ -1,7 +1,7 @@
 //! Worked rows of scripts that read and write, in each form.
 use super::{LIMIT, expect, expect_in, script_of};
-use crate::{Command, Document, Form};
 use sj_owned::to_owned_value;
+use sj_records::{Command, Document, Form};
 use std::alloc::{AllocError, Global};
 use std::process::Abort;
 use std::test::Fail;

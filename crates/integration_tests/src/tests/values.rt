@@ -1,5 +1,4 @@
 //! Of `sj_owned` and `sj_values`: documents that are read from bytes, with ample memory.
-use crate::{Document, PathPart};
 use sj_base::{DecimalCow, ErrorType, ValueType};
 use sj_object::ObjectKey;
 use sj_owned::{
@@ -7,6 +6,7 @@ use sj_owned::{
     to_owned_value, to_owned_value_with_buffers,
 };
 use sj_parse::{Buffers, Deserializer};
+use sj_records::{Document, PathPart};
 use sj_values::{BorrowDeserializer, to_borrowed_value, to_borrowed_value_with_buffers};
 use std::alloc::{AllocError, Global};
 use std::borrow::CowStr;

@@ -18,8 +18,8 @@ mod tapes;
 mod values;
 mod writes;
 
-use super::*;
 use sj_base::{Counted, Error, ErrorType};
+use sj_records::{CommandFault, Form, RunError, Script, ScriptFault, run};
 use std::alloc::{AllocError, Global};
 use std::io;
 use std::io::{ErrorKind, Read, Write};
