@@ -7,6 +7,7 @@
 mod access;
 pub mod array;
 mod compare;
+mod display;
 mod edit;
 mod encode;
 mod from;
