@@ -24,7 +24,7 @@ use sj_values::BorrowedValue;
 use std::borrow::CowStr;
 
 // The document of a scalar, which borrows its text.
-fn document_of(scalar: Scalar<'_>) -> BorrowedValue<'_>
+pub(crate) fn document_of(scalar: Scalar<'_>) -> BorrowedValue<'_>
     ensures { document_tree result ≡ scalar_tree scalar.entry }
 {
     match scalar {

@@ -7,15 +7,18 @@
 mod access;
 pub mod array;
 mod compare;
+mod display;
 mod edit;
 mod encode;
 mod from;
 mod held;
 mod into;
 pub mod object;
+mod same_as;
 mod value;
 
 pub use array::Array;
 pub use held::Held;
 pub use object::Object;
+pub use same_as::{LazyComparand, ScalarComparand};
 pub use value::Value;

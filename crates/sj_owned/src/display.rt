@@ -12,14 +12,15 @@ use sj_object::ObjectKey;
 use std::alloc::AllocError;
 use std::fmt;
 
-// The formatter that a container is shown by. A `fmt::Error` goes through the encoder as an `AllocError`, and `show` turns it
-// back.
+/// A formatter as an [`Output`], for impls of `Display` that show JSON text.
 #[derive(Drop)]
-struct Shown<'f, W: fmt::Write> {
-    f: &'f mut fmt::Formatter<W>,
+pub struct FormatterOutput<'f, W: fmt::Write> {
+    /// The formatter that the text goes to.
+    pub formatter: &'f mut fmt::Formatter<W>,
 }
 
-impl<W: fmt::Write> Output for Shown<'_, W> {
+/// An append fails with an `AllocError` if the formatter does, or if the bytes aren't UTF-8.
+impl<W: fmt::Write> Output for FormatterOutput<'_, W> {
     type Fault = AllocError;
 
     ghost appends = { λ old new bytes. ⊤ };
@@ -32,7 +33,7 @@ impl<W: fmt::Write> Output for Shown<'_, W> {
         let Ok(text) = str::from_utf8(bytes) else {
             return Err(AllocError);
         };
-        match self.f.write_str(text) {
+        match self.formatter.write_str(text) {
             Ok(()) => Ok(()),
             Err(_) => Err(AllocError),
         }
@@ -43,7 +44,7 @@ impl<W: fmt::Write> Output for Shown<'_, W> {
     }
 }
 
-impl<W: fmt::Write> Refuses for Shown<'_, W> {
+impl<W: fmt::Write> Refuses for FormatterOutput<'_, W> {
     ghost refuses = { λ old bytes. tt };
 }
 
@@ -68,7 +69,11 @@ fn show<K: ObjectKey, D: Literal, W: fmt::Write>(
     value: &Value<K, D>,
     f: &mut fmt::Formatter<W>,
 ) -> fmt::Result {
-    match print_value(value, Layout::Compact, &mut Shown { f }) {
+    match print_value(
+        value,
+        Layout::Compact,
+        &mut FormatterOutput { formatter: f },
+    ) {
         Ok(()) => Ok(()),
         Err(_) => Err(fmt::Error),
     }

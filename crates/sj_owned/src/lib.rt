@@ -29,6 +29,7 @@ pub use built::BuildValue;
 pub use convert::from_borrowed;
 pub use copy::CopyLiteral;
 pub use deserializer::ValueDeserializer;
+pub use display::FormatterOutput;
 pub use from::FromString;
 pub use literal::{Literal, MakeLiteral};
 pub use owned::{

@@ -128,6 +128,20 @@ impl Value<'_, '_> {
         append(*self, Layout::Indented(0), out)
     }
 
+    /// Prints the compact text of the value to any output.
+    ///
+    /// The recursion is as deep as the value nests.
+    ///
+    /// # Errors
+    ///
+    /// The fault of the output. A prefix of the text is then printed.
+    pub fn print<O: Output>(&self, out: &mut O) -> Result<(), O::Fault>
+        ensures ok { OnOk result (O.appends out.old out.new (text (value_tree self.now))) }
+        ensures err { OnErr result (O.begins out.old out.new (text (value_tree self.now))) }
+    {
+        print(*self, Layout::Compact, out)
+    }
+
     /// Writes the compact text of the value to `writer` (`value_trait::Writable::write`).
     ///
     /// The recursion is as deep as the value nests.

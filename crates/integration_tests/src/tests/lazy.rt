@@ -1,7 +1,7 @@
 //! Of `sj_lazy`: worked rows, and each call with ample memory.
 use sj_base::{AccessError, StaticNode, TryCopy, TryTypeError, ValueType};
-use sj_lazy::{Held, Value};
-use sj_owned::OwnedValue;
+use sj_lazy::{Held, LazyComparand, Value};
+use sj_owned::{OwnedValue, SameAs};
 use sj_parse::to_tape;
 use sj_reads::{ValueAsScalar, ValueGetScalar};
 use sj_tape::Tape;
@@ -300,5 +300,127 @@ fn made_of_others(rt: HostRuntime) -> Result<(), Fail> {
     expect_text(&rt, alloc, &Value::from_map(alloc, map)?, r#"{"k":null}"#)?;
     let owned = OwnedValue::from(3u8);
     expect_text(&rt, alloc, &Value::from_owned(alloc, owned)?, "3")?;
+    Ok(())
+}
+
+// Compares the value of a text with another value, as a tape and as a document.
+fn same_as<T: LazyComparand>(
+    rt: &impl Abort,
+    alloc: Global,
+    json: &str,
+    other: &T,
+    is_same: bool,
+) -> Result<(), Fail> {
+    let mut text = bytes(alloc, json)?;
+    let tape = to_tape(alloc, &mut text)?;
+    let mut value = lazy(&tape)?;
+    assert!(rt; value.same_as(other) == is_same, "{json}");
+    assert!(rt; value.is_tape());
+    value.value_mut(alloc)?;
+    assert!(rt; value.same_as(other) == is_same, "{json}");
+    Ok(())
+}
+
+#[test]
+fn same_as_scalars(rt: HostRuntime) -> Result<(), Fail> {
+    let alloc = rt.alloc();
+    for (json, is_null, is_true, is_one, is_text) in [
+        ("null", true, false, false, false),
+        ("true", false, true, false, false),
+        ("1", false, false, true, false),
+        ("\"x\"", false, false, false, true),
+        ("1.0", false, false, false, false),
+        ("[1]", false, false, false, false),
+        ("{}", false, false, false, false),
+    ] {
+        same_as(&rt, alloc, json, &(), is_null)?;
+        same_as(&rt, alloc, json, &true, is_true)?;
+        same_as(&rt, alloc, json, &1i8, is_one)?;
+        same_as(&rt, alloc, json, &1i128, is_one)?;
+        same_as(&rt, alloc, json, &1u64, is_one)?;
+        same_as(&rt, alloc, json, &1usize, is_one)?;
+        same_as(&rt, alloc, json, &"x", is_text)?;
+        same_as(&rt, alloc, json, &String::from_str(alloc, "x")?, is_text)?;
+    }
+    same_as(&rt, alloc, "-1", &-1i64, true)?;
+    same_as(
+        &rt,
+        alloc,
+        "18446744073709551615",
+        &u128::from(u64::MAX),
+        true,
+    )?;
+    Ok(())
+}
+
+#[test]
+fn same_as_lists(rt: HostRuntime) -> Result<(), Fail> {
+    let alloc = rt.alloc();
+    let numbers = Vec::from_slice(alloc, &[1u8, 2])?;
+    for (json, is_same) in [
+        ("[1,2]", true),
+        ("[1]", false),
+        ("[1,2,3]", false),
+        ("[2,1]", false),
+        ("[1,\"2\"]", false),
+        ("{\"1\":2}", false),
+        ("1", false),
+    ] {
+        same_as(&rt, alloc, json, &numbers, is_same)?;
+    }
+    let nested = Vec::from_array(alloc, [numbers])?;
+    same_as(&rt, alloc, "[[1,2]]", &nested, true)?;
+    same_as(&rt, alloc, "[[1,3]]", &nested, false)?;
+    Ok(())
+}
+
+// Each key of the map is sought in the object, and a repeated key of a tape counts as a member.
+#[test]
+fn same_as_maps(rt: HostRuntime) -> Result<(), Fail> {
+    let alloc = rt.alloc();
+    let mut map = HashMap::new(alloc);
+    map.insert(String::from_str(alloc, "a")?, 1i32)?;
+    same_as(&rt, alloc, r#"{"a":1}"#, &map, true)?;
+    same_as(&rt, alloc, r#"{"a":2}"#, &map, false)?;
+    same_as(&rt, alloc, r#"{"b":1}"#, &map, false)?;
+    same_as(&rt, alloc, r#"{"a":1,"b":1}"#, &map, false)?;
+    same_as(&rt, alloc, "[1]", &map, false)?;
+    let mut text = bytes(alloc, r#"{"a":1,"a":1}"#)?;
+    let tape = to_tape(alloc, &mut text)?;
+    let mut value = lazy(&tape)?;
+    assert!(rt; !value.same_as(&map));
+    value.value_mut(alloc)?;
+    assert!(rt; value.same_as(&map));
+    map.insert(String::from_str(alloc, "b")?, 2)?;
+    same_as(&rt, alloc, r#"{"b":2,"a":1}"#, &map, true)?;
+    same_as(&rt, alloc, r#"{"a":1,"a":1}"#, &map, false)?;
+    Ok(())
+}
+
+#[test]
+fn shown_values(rt: HostRuntime) -> Result<(), Fail> {
+    let alloc = rt.alloc();
+    for (json, shown) in [
+        ("null", "null"),
+        (" -1 ", "-1"),
+        ("1.50", "1.50"),
+        (r#""a\n\"b""#, "a\n\"b"),
+        ("[ ]", "[]"),
+        (r#"[1, "x\n", {"k": null}]"#, r#"[1,"x\n",{"k":null}]"#),
+    ] {
+        let mut text = bytes(alloc, json)?;
+        let tape = to_tape(alloc, &mut text)?;
+        let mut value = lazy(&tape)?;
+        assert_eq!(rt; value.to_string(alloc)?.as_str(), shown);
+        value.value_mut(alloc)?;
+        assert_eq!(rt; value.to_string(alloc)?.as_str(), shown);
+    }
+    let mut text = bytes(alloc, r#"{"a": 1, "a": 2}"#)?;
+    let tape = to_tape(alloc, &mut text)?;
+    let mut value = lazy(&tape)?;
+    assert_eq!(rt; value.to_string(alloc)?.as_str(), r#"{"a":1,"a":2}"#);
+    value.value_mut(alloc)?;
+    assert_eq!(rt; value.to_string(alloc)?.as_str(), r#"{"a":1}"#);
+    assert_eq!(rt; Value::null().to_string(alloc)?.as_str(), "null");
     Ok(())
 }
