@@ -7,11 +7,12 @@ use Rattle.std.specs.declared.alloc.Global.{Global}
 use Rattle.sj_base.specs.Tree.{list, object}
 use Rattle.sj_base.specs.Scalar.{static_tree}
 use Rattle.sj_base.specs.declared.static_node.StaticNode.{StaticNode}
+use Rattle.sj_base.specs.declared.static_node.ValueType.TheVariants.{Decimal as decimal_type}
 use Rattle.sj_base.specs.Path.{item_at, member_at}
 use Rattle.sj_object.specs.Pairs.{value_at}
 use Rattle.sj_object.specs.declared.entry.Entry.{Entry}
-use Rattle.sj_owned.specs.Views.{value_tree, items_view, members_view, items_inside}
-use Rattle.sj_owned.specs.declared.value.Value.{Value, Static, Array, Object, the_lemmas}
+use Rattle.sj_owned.specs.Views.{value_tree, value_kind, items_view, members_view, items_inside}
+use Rattle.sj_owned.specs.declared.value.Value.{Value, Static, Decimal, Array, Object, the_lemmas}
 
 module _ {K D : Type 0} (text : K → List ℕ) (literal : D → List ℕ) where
   pub tree-Static : (n : StaticNode) → value_tree text literal (Static n) ≡ static_tree n
@@ -25,6 +26,9 @@ module _ {K D : Type 0} (text : K → List ℕ) (literal : D → List ℕ) where
 
   pub items_inside-Array : (v : Vec (Value K D) Global) → items_inside (Array v) ≡ Some v.items
   items_inside-Array v = search (rules, the_lemmas)
+
+  pub kind-Decimal : (d : D) → value_kind {K = K} (Decimal d) ≡ decimal_type
+  kind-Decimal d = search (rules, the_lemmas)
 
   item_within : (vs : List (Value K D)) (i : ℕ) (v : Value K D) → i < length vs → Some (value_tree text literal (get_or vs i v)) ≡ item_at (items_view text literal vs) i
   item_within [] i v within = absurd (omega arith)

@@ -5,10 +5,13 @@ use Rattle.sj_object.specs.Copies.{copied_pairs}
 use Rattle.sj_object.specs.Iterators.{owned_left}
 use Rattle.sj_object.specs.Pairs.{keys_of, AreDistinct}
 use Rattle.sj_object.specs.declared.entry.Entry.{Entry}
-use Rattle.sj_owned.specs.declared.value.Value.{Value}
+use Rattle.sj_owned.specs.declared.value.Value.{Value, the_lemmas}
 use Rattle.sj_owned.specs.inside.Copying.{Kept, kept_key, kept_value, converted}
 use Rattle.sj_owned.proofs.Copies.{array_converted, object_converted, next_copied}
 use Rattle.sj_owned.proofs.convert.+convert.Goals as goal
+
+pub convert-returns-in-Static : goal.convert-returns-in-Static
+convert-returns-in-Static g t c = search (rules, the_lemmas)
 
 pub convert-returns-in_ok-convert_items-in-Array :
     goal.convert-returns-in_ok-convert_items-in-Array

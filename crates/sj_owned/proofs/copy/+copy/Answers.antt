@@ -3,10 +3,13 @@ use Rattle.sj_object.specs.Copies.{copied_pairs}
 use Rattle.sj_object.specs.Iterators.{entries_left}
 use Rattle.sj_object.specs.Pairs.{keys_of, AreDistinct}
 use Rattle.sj_object.specs.declared.entry.Entry.{Entry}
-use Rattle.sj_owned.specs.declared.value.Value.{Value}
+use Rattle.sj_owned.specs.declared.value.Value.{Value, the_lemmas}
 use Rattle.sj_owned.specs.inside.Copying.{kept_key, kept_value}
 use Rattle.sj_owned.proofs.Copies.{array_copied, object_copied, next_copied}
 use Rattle.sj_owned.proofs.copy.+copy.Goals as goal
+
+pub copy-returns-in-Static : goal.copy-returns-in-Static
+copy-returns-in-Static g t c = search (rules, the_lemmas)
 
 pub copy_members-loop-key-preserved : goal.copy_members-loop-key-preserved
 copy_members-loop-key-preserved g t c =

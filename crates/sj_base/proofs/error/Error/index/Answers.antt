@@ -1,0 +1,5 @@
+use Rattle.std.proofs.Common.{refl}
+use Rattle.sj_base.proofs.error.Error.index.Goals as goal
+
+pub returns : goal.returns
+returns c = refl

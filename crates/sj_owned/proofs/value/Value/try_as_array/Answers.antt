@@ -1,0 +1,6 @@
+use Rattle.std.proofs.Common.{rules}
+use Rattle.sj_owned.specs.declared.value.Value.{the_lemmas}
+use Rattle.sj_owned.proofs.value.Value.try_as_array.Goals as goal
+
+pub returns-in-Some : goal.returns-in-Some
+returns-in-Some g c = search (rules, the_lemmas)

@@ -1,0 +1,5 @@
+use Rattle.std.proofs.Common.{refl}
+use Rattle.sj_parse.proofs.deserializer.Deserializer.from_tape.Goals as goal
+
+pub returns-clause-start : goal.returns-clause-start
+returns-clause-start c = refl

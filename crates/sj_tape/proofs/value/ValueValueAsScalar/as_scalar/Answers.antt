@@ -1,0 +1,7 @@
+use Rattle.sj_tape.proofs.value.ValueValueAsScalar.as_scalar.Goals as goal
+
+pub returns-clause-tree : goal.returns-clause-tree
+returns-clause-tree c = c.into_scalar.ensures.tree
+
+pub returns-clause-kind : goal.returns-clause-kind
+returns-clause-kind c = c.into_scalar.ensures.kind
