@@ -43,3 +43,6 @@ returns-in_default-clause-kept g c =
     let all = rw c.in_default.is at c.split_line-end.ensures.parts in
     c.in_ok-extend_from_slice.ensures.items ∙ ap (λ (b : List ℕ). c.loop-behind.pending.line.items ++ b) (sym all)
     ∙ Feeding-kept (task_job c.args.task) _ _ _ _ _ c.loop-behind.invariant.feeding (rw all c.split_line-end.ensures.free)
+
+pub returns-in_default-clause-writes : goal.returns-in_default-clause-writes
+returns-in_default-clause-writes g c = c.loop-behind.invariant.written

@@ -8,7 +8,7 @@ use Rattle.std.proofs.lemmas.List.{take_at}
 use Rattle.std.proofs.lemmas.Result.{err_from_is_err_and}
 use Rattle.sj_records.specs.inside.Progress.{task_job}
 use Rattle.sj_records.proofs.Counts.{GoesOn-some, GoesOn-interrupted, GoesOn-then}
-use Rattle.sj_records.proofs.Running.{Running-clean, Running-idle, Running-more, Running-piece_failed, Running-ended}
+use Rattle.sj_records.proofs.Running.{Running-clean, Running-idle, Running-more, Running-failed, Running-piece_failed, Running-ended}
 use Rattle.sj_records.proofs.engine.run_within.Goals as goal
 use Rattle.sj_records.proofs.engine.run_within.Goals.{in-Ok+in_ok-process_piece-in-Ok, in-Err}
 
@@ -32,6 +32,15 @@ returns-in_err-process_piece-in-Ok-clause-stands g c =
     let given : Consumes (g.R.Source.remaining c.loop.reader) (g.R.Source.remaining c.read.new.self) piece = rw whole c.in-Ok.ensures.bytes.0 in
     rw (p.1, p.2)
     (Running-piece_failed (task_job c.args.task) _ _ _ _ _ _ c.loop.pending.line.items piece c.in_err-process_piece-in-Ok.field-0.0 c.loop.invariant.running given c.in_err-process_piece-in-Ok.ensures.stands)
+
+pub returns-in-Err-2-clause-stands : goal.returns-in-Err-2-clause-stands
+returns-in-Err-2-clause-stands g c = Running-failed (task_job c.args.task) _ _ _ _ _ c.loop.pending.line.items c.loop.invariant.running c.in-Err-2.ensures.bytes
+
+pub returns-in-Err-2-clause-at_end : goal.returns-in-Err-2-clause-at_end
+returns-in-Err-2-clause-at_end g c = tt
+
+pub returns-in-Err-2-clause-reads : goal.returns-in-Err-2-clause-reads
+returns-in-Err-2-clause-reads g c = search rules
 
 pub loop-preserved : goal.loop-preserved
 loop-preserved g c =
