@@ -109,6 +109,7 @@ impl<T: ScalarComparand> LazyComparand for T {
     }
 }
 
+/// A vector equals an array of as many items, each of which equals the value at its index.
 impl<U: LazyComparand> LazyComparand for Vec<U> {
     fn equals_lazy(&self, value: &Value<'_, '_, '_>) -> bool {
         match value.as_array() {
@@ -118,6 +119,7 @@ impl<U: LazyComparand> LazyComparand for Vec<U> {
     }
 }
 
+/// A map equals an object of as many members, in which each key of the map finds a value that equals the map's.
 impl<U: LazyComparand> LazyComparand for HashMap<String, U> {
     fn equals_lazy(&self, value: &Value<'_, '_, '_>) -> bool {
         match value.as_object() {
