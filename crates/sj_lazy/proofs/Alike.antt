@@ -3,7 +3,7 @@ use Rattle.std.proofs.Common.{◌≡◌, ◌&&◌, ◌||◌, ◌<◌, ℕ, zero,
 use Rattle.std.specs.Option.{option_map_or}
 use Rattle.std.specs.Str.{bytes_eq}
 use Rattle.sj_base.specs.Alike.{alike, alike_items, alike_members, keys_within}
-use Rattle.sj_base.specs.Containers.{items_in, members_in, scalar_in, members_len, item_trees, member_pairs}
+use Rattle.sj_base.specs.Containers.{items_in, members_in, members_len, item_trees, member_pairs}
 use Rattle.sj_base.specs.Keep.{keep, keep_items, keep_members, without}
 use Rattle.sj_base.specs.Path.{member_at}
 use Rattle.sj_base.specs.Tree.{Tree, null, boolean, integer, decimal, string, list, object, Items, no_items, item, Members, no_members, member}

@@ -5,7 +5,7 @@ use Rattle.sj_base.specs.Tree.{Tree}
 use Rattle.sj_base.specs.declared.fault.AccessError.{AccessError}
 use Rattle.sj_base.specs.declared.fault.AccessError.TheVariants.{Memory}
 use Rattle.sj_owned.specs.Copies.{leaves, held_text, held_literal}
-use Rattle.sj_lazy.specs.Contents.{Document, document}
+use Rattle.sj_lazy.specs.Contents.{Document}
 use Rattle.sj_lazy.specs.Views.{document_tree, lazy_tree}
 use Rattle.sj_lazy.specs.declared.held.Held.TheVariants.{Borrowed, Owned}
 use Rattle.sj_lazy.specs.declared.value.Value.{Value}

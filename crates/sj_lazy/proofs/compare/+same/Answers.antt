@@ -1,10 +1,10 @@
-use Rattle.std.proofs.Common.{◌≡◌, ◌&&◌, ◌||◌, ◌+◌, ◌<◌, ◌≤◌, true, false, [], ◌∷◌, ◌++◌, map, option_map, sym, ap, ap₂, ◌∙◌, arith, add-one}
+use Rattle.std.proofs.Common.{◌≡◌, ◌&&◌, ◌||◌, ◌<◌, [], ◌∷◌, ◌++◌, map, option_map, sym, ap, ap₂, ◌∙◌, arith, add-one}
 use Rattle.sj_base.specs.Containers.{members_len, member_pairs}
 use Rattle.sj_tape.specs.Views.{value_tree, array_items as tape_items, object_members as tape_members}
 use Rattle.sj_tape.proofs.Printing.{fewer_items, fewer_members}
-use Rattle.sj_lazy.specs.Parts.{array_items, object_members, items_left, keys_left}
+use Rattle.sj_lazy.specs.Parts.{array_items, object_members, items_left}
 use Rattle.sj_lazy.specs.Views.{contents_tree, lazy_tree}
-use Rattle.sj_lazy.specs.inside.Comparing.{among, first_keys, all_found}
+use Rattle.sj_lazy.specs.inside.Comparing.{first_keys, all_found}
 use Rattle.sj_lazy.proofs.Alike.{left_alike, next_item, none_left, lists_alike, agrees, next_agrees, rest_alike, objects_alike, behind_first, key_passed, all_behind, some_behind}
 use Rattle.sj_lazy.proofs.compare.+same.Goals as goal
 use Rattle.sj_lazy.proofs.compare.+same.Goals.{same_members-else-not-is_repeat-via-then-not-is_repeat+else-not-same_next, same_members-else-not-is_repeat-via-else-not-is_repeat}

@@ -1,4 +1,3 @@
-use Rattle.std.proofs.Common.{rules}
 use Rattle.std.specs.Cow.{cow_str_bytes}
 use Rattle.sj_base.specs.Scalar.{decimal_cow_text}
 use Rattle.sj_base.specs.declared.fault.AccessError.TheVariants.{NotAnArray}
