@@ -11,6 +11,7 @@ use crate::run_error::RunError;
 use crate::script::Script;
 use crate::task::{Scratch, Task, make_record};
 use sj_base::{Output, Sink, Source, WriteFault};
+use sj_tape::Tape;
 use std::alloc::{AllocError, Global};
 use std::io::ErrorKind;
 
@@ -46,44 +47,64 @@ struct Pending {
     scratch: Scratch,
 }
 
-/// Writes the record of a line. The line is rewritten.
-fn write_record<W: Sink>(
+/// Writes the record of a line. The line is rewritten, and the tape filled anew.
+fn write_record<'de, W: Sink>(
     alloc: Global,
     writer: &mut W,
     scratch: &mut Scratch,
-    line: &mut [u8],
+    tape: &mut Tape<'de>,
+    line: &'de mut [u8],
     task: Task<'_>,
 ) -> Result<(), RunError>
     requires { scratch_limit scratch.old ≡ task.depth }
     ensures stands { LeavesLines result (task_job task.entry) (W.contents writer.old) (W.contents writer.new)
-        [] (line.old ∷ []) }
+        [] (line.entry.now ∷ []) }
     ensures limit { scratch_limit scratch.new ≡ scratch_limit scratch.old }
     ensures writes { WritesFor result (W.calls writer.old) (W.calls writer.new) }
 {
-    make_record(alloc, scratch, line, task)?;
+    make_record(alloc, scratch, tape, line, task)?;
     write_all(writer, &scratch.out)
 }
 
-/// Writes the record of the pending line, of which `end` is the last part, and clears the line. Both are rewritten.
-fn complete_line<W: Sink>(
+/// Writes the record of the pending line, which is rewritten.
+fn write_pending<W: Sink>(
     alloc: Global,
     writer: &mut W,
     pending: &mut Pending,
-    end: &mut [u8],
     task: Task<'_>,
 ) -> Result<(), RunError>
     requires { scratch_limit pending.old.scratch ≡ task.depth }
     ensures stands { LeavesLines result (task_job task.entry) (W.contents writer.old) (W.contents writer.new)
-        [] ((pending.old.line.items ++ end.old) ∷ []) }
+        [] (pending.old.line.items ∷ []) }
+    ensures limit { scratch_limit pending.new.scratch ≡ scratch_limit pending.old.scratch }
+    ensures writes { WritesFor result (W.calls writer.old) (W.calls writer.new) }
+{
+    let Pending { line, scratch } = pending;
+    write_record(alloc, writer, scratch, &mut Tape::empty(alloc), line, task)
+}
+
+/// Writes the record of the pending line, of which `end` is the last part, and clears the line. Both are rewritten. The
+/// tape is filled anew if `end` is the whole line.
+fn complete_line<'p, W: Sink>(
+    alloc: Global,
+    writer: &mut W,
+    pending: &mut Pending,
+    tape: &mut Tape<'p>,
+    end: &'p mut [u8],
+    task: Task<'_>,
+) -> Result<(), RunError>
+    requires { scratch_limit pending.old.scratch ≡ task.depth }
+    ensures stands { LeavesLines result (task_job task.entry) (W.contents writer.old) (W.contents writer.new)
+        [] ((pending.old.line.items ++ end.entry.now) ∷ []) }
     ensures cleared { OnOk result (pending.new.line.items ≡ []) }
     ensures limit { scratch_limit pending.new.scratch ≡ scratch_limit pending.old.scratch }
     ensures writes { WritesFor result (W.calls writer.old) (W.calls writer.new) }
 {
     if pending.line.is_empty() {
-        return write_record(alloc, writer, &mut pending.scratch, end, task);
+        return write_record(alloc, writer, &mut pending.scratch, tape, end, task);
     }
     pending.line.extend_from_slice(end)?;
-    write_record(alloc, writer, &mut pending.scratch, &mut pending.line, task)?;
+    write_pending(alloc, writer, pending, task)?;
     pending.line.clear();
     Ok(())
 }
@@ -106,6 +127,8 @@ fn process_piece<W: Sink>(
     ensures limit { scratch_limit pending.new.scratch ≡ scratch_limit pending.old.scratch }
     ensures writes { WritesFor result (W.calls writer.old) (W.calls writer.new) }
 {
+    // Its nodes borrow from the lines of the piece.
+    let mut tape = Tape::empty(alloc);
     let mut rest = piece;
     loop {
         let (end, behind) = split_line(rest);
@@ -113,7 +136,7 @@ fn process_piece<W: Sink>(
             pending.line.extend_from_slice(end)?;
             return Ok(());
         };
-        complete_line(alloc, writer, pending, end, task)?;
+        complete_line(alloc, writer, pending, &mut tape, end, task)?;
         rest = behind;
     }
 }
@@ -133,7 +156,7 @@ fn finish<W: Sink>(
     if pending.line.is_empty() {
         return Ok(());
     }
-    write_record(alloc, writer, &mut pending.scratch, &mut pending.line, task)
+    write_pending(alloc, writer, pending, task)
 }
 
 /// The most bytes that one read gives.

@@ -1,19 +1,18 @@
 //! The record of one line, in bytes.
 ghost use Rattle.std.specs.Prelude.{◌≡◌, ◌≢◌, ℕ, List, ◌∷◌, [], ◌++◌, Some, OnOk, IfOk, IfErr};
 ghost use Rattle.sj_base.specs.Tree.{list};
+ghost use Rattle.sj_base.specs.Keep.{keep};
 ghost use Rattle.sj_base.specs.Text.{text};
 ghost use Rattle.sj_parse.specs.Answers.{IsTapeOf, buffer_limit};
 ghost use Rattle.sj_parse.specs.Fault.{fault};
-ghost use Rattle.sj_records.specs.Record.{IsRecord, fault_record, record_of, character_of};
+ghost use Rattle.sj_records.specs.Record.{IsRecord, outcome, fault_record, record_of, character_of};
 ghost use Rattle.sj_owned.specs.Views.{value_tree};
 ghost use Rattle.sj_records.specs.Script.{command_view};
-ghost use Rattle.sj_tape.specs.Views.{tape_nodes};
-ghost use Rattle.sj_records.specs.Step.{from_start, from_write};
-ghost use Rattle.sj_records.specs.inside.ReadErrors.{IsKept, IfRefused};
+ghost use Rattle.sj_tape.specs.Views.{tape_nodes, nodes_tree};
+ghost use Rattle.sj_records.specs.inside.ReadErrors.{IfRefused};
 ghost use Rattle.sj_records.specs.inside.Progress.{task_job, replies_to, tree_after, scratch_limit, IsStep};
 
 use crate::document::Document;
-use crate::edit::ScriptText;
 use crate::form::Form;
 use crate::lazy_document::LazyDocument;
 use crate::read_error::ReadError;
@@ -21,11 +20,12 @@ use crate::reads::put_comma;
 use crate::script::{Command, Script};
 use sj_base::{DecimalBuf, DecimalCow, Error, put_int, put_string};
 use sj_object::MakeKey;
-use sj_owned::{MakeLiteral, Value, build_tape};
-use sj_parse::{Buffers, to_tape_with_buffers};
+use sj_owned::{MakeLiteral, Value, build_tape, build_value};
+use sj_parse::{Buffers, fill_tape};
 use sj_tape::Tape;
 use std::alloc::{AllocError, Global};
 use std::borrow::CowStr;
+use std::mem;
 
 /// What is done to each line.
 #[derive(Clone, Copy)]
@@ -58,86 +58,62 @@ impl Scratch {
     }
 }
 
-/// Makes the record of a line, and a line feed, in place of the record of the line before. The line is rewritten.
-pub(crate) fn make_record(
+/// Makes the record of a line, and a line feed, in place of the record of the line before. The line is rewritten. The
+/// tape is filled anew.
+pub(crate) fn make_record<'de>(
     alloc: Global,
     scratch: &mut Scratch,
-    line: &mut [u8],
+    tape: &mut Tape<'de>,
+    line: &'de mut [u8],
     task: Task<'_>,
 ) -> Result<(), AllocError>
     requires { scratch_limit scratch.old ≡ task.depth }
     ensures holds { OnOk result ((bytes : List ℕ) × (scratch.new.out.items ≡ bytes ++ 0x0a ∷ [])
-        × IsRecord (task_job task.entry) line.old bytes) }
+        × IsRecord (task_job task.entry) line.entry.now bytes) }
     ensures limit { scratch_limit scratch.new ≡ scratch_limit scratch.old }
 {
     let Scratch { buffers, out } = scratch;
     out.clear();
-    put_record(alloc, buffers, out, line, task)?;
+    put_record(alloc, buffers, tape, out, line, task)?;
     out.push(b'\n')?;
     Ok(())
 }
 
-fn put_record(
+fn put_record<'de>(
     alloc: Global,
     buffers: &mut Buffers,
+    tape: &mut Tape<'de>,
     out: &mut Vec<u8>,
-    line: &mut [u8],
+    line: &'de mut [u8],
     task: Task<'_>,
 ) -> Result<(), AllocError>
     requires { buffer_limit buffers.old ≡ task.depth }
     ensures holds { OnOk result ((bytes : List ℕ) × (out.new.items ≡ out.old.items ++ bytes)
-        × IsRecord (task_job task.entry) line.old bytes) }
-    ensures limit { buffer_limit buffers.new ≡ buffer_limit buffers.old }
-{
-    match task.form {
-        Form::Owned => put_record_of::<String, DecimalBuf>(alloc, buffers, out, line, task),
-        Form::Borrowed => put_record_of::<CowStr<'_>, DecimalCow<'_>>(
-            alloc, buffers, out, line, task,
-        ),
-        Form::Lazy => put_lazy_record(alloc, buffers, out, line, task),
-    }
-}
-
-/// Appends the record of a line by a document with these types of texts.
-fn put_record_of<'de, K: MakeKey<'de> + ScriptText<D> + Drop, D: MakeLiteral<'de> + Drop>(
-    alloc: Global,
-    buffers: &mut Buffers,
-    out: &mut Vec<u8>,
-    line: &'de mut [u8],
-    task: Task<'_>,
-) -> Result<(), AllocError>
-    requires limit { buffer_limit buffers.old ≡ task.depth }
-    requires keeping { (task_job task).keeping ≡ from_start }
-    ensures holds { OnOk result ((bytes : List ℕ) × (out.new.items ≡ out.old.items ++ bytes)
         × IsRecord (task_job task.entry) line.entry.now bytes) }
     ensures limit { buffer_limit buffers.new ≡ buffer_limit buffers.old }
 {
-    match read_document::<K, D>(alloc, buffers, line) {
-        Ok(mut document) => put_outcome(&mut document, task, out),
+    match read_tape(alloc, buffers, tape, line) {
+        Ok(()) => put_document_record(alloc, tape, task, out),
         Err(ReadError::Refused(fault)) => put_fault_record(fault, out),
         Err(ReadError::Memory) => Err(AllocError),
     }
 }
 
-/// Appends the record of a line by a document in the form `Lazy`.
-fn put_lazy_record<'de>(
+/// Reads a line into the tape, under the limit of the buffers. The line is rewritten.
+fn read_tape<'de>(
     alloc: Global,
     buffers: &mut Buffers,
-    out: &mut Vec<u8>,
+    tape: &mut Tape<'de>,
     line: &'de mut [u8],
-    task: Task<'_>,
-) -> Result<(), AllocError>
-    requires limit { buffer_limit buffers.old ≡ task.depth }
-    requires keeping { (task_job task).keeping ≡ from_write }
-    ensures holds { OnOk result ((bytes : List ℕ) × (out.new.items ≡ out.old.items ++ bytes)
-        × IsRecord (task_job task.entry) line.entry.now bytes) }
+) -> Result<(), ReadError<Error>>
+    ensures found { OnOk result (IsTapeOf line.entry.now (buffer_limit buffers.old) (tape_nodes tape.new)) }
+    ensures not_empty { OnOk result (tape_nodes tape.new ≢ []) }
+    ensures refused { IfErr result (λ e. IfRefused e (λ why. fault line.entry.now (buffer_limit buffers.old) ≡ Some why)) }
     ensures limit { buffer_limit buffers.new ≡ buffer_limit buffers.old }
 {
-    match read_tape(alloc, buffers, line) {
-        Ok(tape) => put_outcome(&mut LazyDocument::new(tape.as_value()), task, out),
-        Err(ReadError::Refused(fault)) => put_fault_record(fault, out),
-        Err(ReadError::Memory) => Err(AllocError),
-    }
+    fill_tape(line, buffers, tape)?;
+    release(alloc, buffers)?;
+    Ok(())
 }
 
 /// The most positions of a line after which the room for positions is kept.
@@ -153,34 +129,46 @@ fn release(alloc: Global, buffers: &mut Buffers) -> Result<(), AllocError>
     Ok(())
 }
 
-/// Reads the document of a line under the limit of the buffers. The line is rewritten.
-fn read_document<'de, K: MakeKey<'de> + Drop, D: MakeLiteral<'de> + Drop>(
+/// Appends the record of the document of a tape, in the task's form.
+fn put_document_record(
     alloc: Global,
-    buffers: &mut Buffers,
-    line: &'de mut [u8],
-) -> Result<Value<K, D>, ReadError<Error>>
-    ensures found { IfOk result (λ d. IsKept line.entry.now (buffer_limit buffers.old) (value_tree K.text D.literal d)) }
-    ensures refused { IfErr result (λ e. IfRefused e (λ why. fault line.entry.now (buffer_limit buffers.old) ≡ Some why)) }
-    ensures limit { buffer_limit buffers.new ≡ buffer_limit buffers.old }
+    tape: &mut Tape<'_>,
+    task: Task<'_>,
+    out: &mut Vec<u8>,
+) -> Result<(), AllocError>
+    requires { tape_nodes tape.old ≢ [] }
+    ensures { OnOk result (out.new.items ≡ out.old.items
+        ++ text (outcome (task_job task.entry) (nodes_tree (tape_nodes tape.old)))) }
 {
-    let tape = read_tape(alloc, buffers, line)?;
-    Ok(build_tape::<Value<K, D>, K>(alloc, tape)?)
+    match task.form {
+        Form::Owned => {
+            let mut document = build::<String, DecimalBuf>(alloc, tape)?;
+            put_outcome(&mut document, task, out)
+        }
+        Form::Borrowed => {
+            let mut document = build::<CowStr<'_>, DecimalCow<'_>>(alloc, tape)?;
+            put_outcome(&mut document, task, out)
+        }
+        Form::Lazy => put_outcome(&mut LazyDocument::new(tape.as_value()), task, out),
+    }
 }
 
-/// Reads the tape of a line under the limit of the buffers. The line is rewritten.
-fn read_tape<'de>(
+/// The most nodes of a tape whose room is kept for the next line.
+const KEPT_NODES: usize = 1 << 16;
+
+/// Builds the document of a tape. A tape of many nodes is emptied on the way, so that it and its document are never both in
+/// memory as a whole.
+fn build<'de, K: MakeKey<'de> + Drop, D: MakeLiteral<'de> + Drop>(
     alloc: Global,
-    buffers: &mut Buffers,
-    line: &'de mut [u8],
-) -> Result<Tape<'de>, ReadError<Error>>
-    ensures found { IfOk result (λ tape. IsTapeOf line.entry.now (buffer_limit buffers.old) (tape_nodes tape)) }
-    ensures not_empty { IfOk result (λ tape. tape_nodes tape ≢ []) }
-    ensures refused { IfErr result (λ e. IfRefused e (λ why. fault line.entry.now (buffer_limit buffers.old) ≡ Some why)) }
-    ensures limit { buffer_limit buffers.new ≡ buffer_limit buffers.old }
+    tape: &mut Tape<'de>,
+) -> Result<Value<K, D>, AllocError>
+    requires { tape_nodes tape.old ≢ [] }
+    ensures { IfOk result (λ d. value_tree K.text D.literal d ≡ keep (nodes_tree (tape_nodes tape.old))) }
 {
-    let tape = to_tape_with_buffers(alloc, line, buffers)?;
-    release(alloc, buffers)?;
-    Ok(tape)
+    if tape.nodes().len() > KEPT_NODES {
+        return build_tape::<Value<K, D>, K>(alloc, mem::replace(tape, Tape::empty(alloc)));
+    }
+    build_value::<Value<K, D>, K>(alloc, tape.as_value())
 }
 
 /// Appends the record of a document: the replies to the script's commands, and then the document.

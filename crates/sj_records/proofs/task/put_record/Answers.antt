@@ -1,4 +1,26 @@
+use Rattle.std.proofs.Common.{◌≡◌, ℕ, Some, inl, inr, refl, subst, ap}
+use Rattle.std.proofs.lemmas.Result.{on_ok_weaker}
+use Rattle.sj_base.specs.Spelling.{Document}
+use Rattle.sj_base.specs.Text.{text}
+use Rattle.sj_parse.specs.Fault.{fault}
+use Rattle.sj_tape.specs.Nodes.{entries}
+use Rattle.sj_tape.specs.Views.{tape_nodes, nodes_tree}
+use Rattle.sj_tape.proofs.Listings.{tree_from}
+use Rattle.sj_records.specs.Record.{outcome, fault_record}
+use Rattle.sj_records.specs.inside.Progress.{task_job}
 use Rattle.sj_records.proofs.task.put_record.Goals as goal
 
-pub returns-in-Owned-clause-holds : goal.returns-in-Owned-clause-holds
-returns-in-Owned-clause-holds c = c.put_record_of.ensures.holds
+pub returns-in-Ok-clause-holds : goal.returns-in-Ok-clause-holds
+returns-in-Ok-clause-holds c =
+    let job = task_job c.args.task in
+    let found = c.in-Ok.ensures.found in
+    let nodes = tape_nodes c.read_tape.new.tape in
+    let document = subst (λ (limit : ℕ). Document c.args.line.now limit found.0) c.requires found.1 in
+    let is : nodes_tree nodes ≡ found.0 = tree_from (entries nodes) found.0 found.2 in
+    on_ok_weaker c.put_document_record.result (λ put. (text (outcome job (nodes_tree nodes)), put, inl (found.0, document, ap (λ t. text (outcome job t)) is))) c.put_document_record.ensures
+
+pub returns-in-Err-Refused-clause-holds : goal.returns-in-Err-Refused-clause-holds
+returns-in-Err-Refused-clause-holds c =
+    let why = c.in-Err-Refused.fault in
+    let first = subst (λ (limit : ℕ). fault c.args.line.now limit ≡ Some why) c.requires (rw c.in-Err-Refused.field-0-is at c.in-Err-Refused.ensures.refused) in
+    on_ok_weaker c.put_fault_record.result (λ put. (text (fault_record why), put, inr (why, first, refl))) (rw c.in-Err-Refused.fault-is at c.put_fault_record.ensures)
