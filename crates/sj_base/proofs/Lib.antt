@@ -13,7 +13,7 @@ mod Compact
 mod Pretty
 pub mod Trees
 pub mod Utf8
-mod OneLine
+pub mod OneLine
 pub mod Spelled
 pub mod Misses
 pub mod Prints

@@ -13,11 +13,11 @@ use Rattle.sj_base.proofs.NumberBytes.{IsInNumber, number_low, integer_bytes, de
 use Rattle.sj_base.proofs.Decimals.{integer_spells}
 
 -- no byte below 0x20
-abbrev Visible : List ℕ → Type 0
+abbrev pub Visible : List ℕ → Type 0
 Visible bs = AllByRecursion (λ b. 0x20 ≤ b) bs
 
 -- Two parts without such a byte together have none.
-visible_append : (xs ys : List ℕ) → Visible xs → Visible ys → Visible (xs ++ ys)
+pub visible_append : (xs ys : List ℕ) → Visible xs → Visible ys → Visible (xs ++ ys)
 visible_append xs ys h k = AllByRecursion-append (λ b. 0x20 ≤ b) xs ys h k
 
 -- The digit of an escape isn't below 0x20.
@@ -50,7 +50,7 @@ between_visible : (left right : ℕ) (inner : List ℕ) → 0x20 ≤ left → 0x
 between_visible left right inner l r h = (l, visible_append inner (right ∷ []) h (r, tt))
 
 -- a string with its quotes
-quoted_visible : (s : List ℕ) → Visible (quoted s)
+pub quoted_visible : (s : List ℕ) → Visible (quoted s)
 quoted_visible s = between_visible 0x22 0x22 (flat_map escaped s) (omega arith) (omega arith) (body_visible s)
 
 -- a number

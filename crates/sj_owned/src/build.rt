@@ -144,6 +144,8 @@ fn next_part<'de, V: BuildValue<'de, K> + Drop, K: MakeKey<'de> + Drop>(
     }
 }
 
+// Puts what is built of a node on the stack, in the place of the parts behind it.
+#[inline(always)]
 fn place<'de, V: BuildValue<'de, K> + Drop, K: MakeKey<'de> + Drop>(
     alloc: Global,
     node: &Node<'de>,
@@ -170,6 +172,9 @@ fn finish<'de, V: BuildValue<'de, K> + Drop, K: MakeKey<'de> + Drop>(
     }
 }
 
+/// The most parts for which room is taken at first.
+const FIRST_PARTS: usize = 1 << 8;
+
 /// Builds a value of a view of a tape. Of members with equal keys the first one is kept. Room for the items of an array
 /// and for the members of an object is taken once.
 ///
@@ -182,8 +187,8 @@ pub fn build_value<'de, V: BuildValue<'de, K> + Drop, K: MakeKey<'de> + Drop>(
 ) -> Result<V, AllocError>
     ensures { IfOk result (λ v. V.tree v ≡ keep (view_tree view.entry)) }
 {
-    let mut parts = Vec::new(alloc);
     let nodes = view.nodes();
+    let mut parts = Vec::with_capacity(alloc, nodes.len().min(FIRST_PARTS))?;
     let mut left = nodes.len();
     while left > 0 {
         left -= 1;
@@ -217,8 +222,8 @@ pub fn build_tape<'de, V: BuildValue<'de, K> + Drop, K: MakeKey<'de> + Drop>(
 ) -> Result<V, AllocError>
     ensures { IfOk result (λ v. V.tree v ≡ keep (nodes_tree (tape_nodes tape.entry))) }
 {
-    let mut parts = Vec::new(alloc);
     let mut nodes = tape.into_nodes();
+    let mut parts = Vec::with_capacity(alloc, nodes.len().min(FIRST_PARTS))?;
     while let Some(node) = nodes.pop() {
         place(alloc, &node, &mut parts)?;
         release(&mut nodes);

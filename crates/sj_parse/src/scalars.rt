@@ -33,6 +33,10 @@ fn find_body(bytes: &[u8]) -> (usize, usize)
     ensures plain { (k : ℕ) → k < result.1 → slice_index bytes.now k ≢ 0x5c }
 {
     let plain = plain_len(bytes);
+    // Most bodies have no backslash.
+    if plain < bytes.len() && bytes[plain] == b'"' {
+        return (plain, plain);
+    }
     (plain + body_len(&bytes[plain..]), plain)
 }
 

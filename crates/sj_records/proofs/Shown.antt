@@ -1,18 +1,18 @@
 -- No byte of a record is below 0x20.
-use Rattle.std.proofs.Common.{◌≡◌, ◌≢◌, ℕ, zero, suc, ◌-◌, ◌/◌, ◌%◌, ◌≤◌, Bool, false, List, [], ◌∷◌, ◌++◌, Option, Some, None, Result, Ok, Err, refl, sym, ap, subst, inl, inr, arith}
-use Rattle.std.specs.Prelude.{◌==◌, nat_lt, flat_map, codes, encode_utf8, is_some, ok_or, option_and_then, ⊤}
+use Rattle.std.proofs.Common.{◌≡◌, ◌≢◌, ℕ, zero, suc, ◌/◌, ◌%◌, ◌≤◌, Bool, false, List, [], ◌∷◌, ◌++◌, Option, Some, None, Result, Ok, Err, refl, sym, ap, subst, inl, inr, arith}
+use Rattle.std.specs.Prelude.{◌==◌, nat_lt, codes, encode_utf8, is_some, ok_or, option_and_then, ⊤}
 use Rattle.std.specs.List.{AllByRecursion}
-use Rattle.std.specs.Char.{digit_char}
 use Rattle.std.specs.Fmt.{digits, digits_onto, digit_glyph, decimal}
-use Rattle.std.proofs.lemmas.Bool.{cond_both, ltb-false}
+use Rattle.std.proofs.lemmas.Bool.{cond_both}
 use Rattle.sj_base.specs.Tree.{Tree, null, boolean, integer, decimal as a_decimal, string, list, object, Items, no_items, item, Members, no_members, member, IsValidTree}
 use Rattle.sj_base.specs.Path.{Part, key, member_at, child, at}
 use Rattle.sj_base.specs.Containers.{items_len, members_len, members_in}
 use Rattle.sj_base.specs.Edit.{last_item}
 use Rattle.sj_base.specs.Names.{name_of}
-use Rattle.sj_base.specs.Text.{escaped, quoted, text, items_text, more_items_text}
+use Rattle.sj_base.specs.Text.{quoted, text, items_text, more_items_text}
 use Rattle.sj_base.specs.declared.error.Error.{Error}
-use Rattle.sj_base.proofs.Fronts.{AllByRecursion-append, AllByRecursion-weaker}
+use Rattle.sj_base.proofs.Fronts.{AllByRecursion-weaker}
+use Rattle.sj_base.proofs.OneLine.{Visible, visible_append, quoted_visible}
 use Rattle.sj_base.specs.Laws.{OneLine}
 use Rattle.sj_base.proofs.Trees.{only_trees}
 use Rattle.sj_base.proofs.Valid.{valid_when_kept, valid_part, valid_last, valid_put, valid_with_member, valid_dropped, valid_pushed, valid_popped}
@@ -23,39 +23,7 @@ use Rattle.sj_records.specs.Laws.{NoLineFeed}
 use Rattle.sj_records.proofs.Along.{inserted, removed, pushed, popped, within, write_done}
 use Rattle.sj_records.proofs.Accepted.{Sound, accepted_sound}
 
--- no byte below 0x20
-abbrev Visible : List ℕ → Type 0
-Visible bs = AllByRecursion (λ b. 0x20 ≤ b) bs
-
-joined : (xs ys : List ℕ) → Visible xs → Visible ys → Visible (xs ++ ys)
-joined xs ys h k = AllByRecursion-append (λ b. 0x20 ≤ b) xs ys h k
-
--- ---- strings and numbers
-
-digit_visible : (d : ℕ) → 0x20 ≤ digit_char d
-digit_visible d = cond_both (nat_lt d 10) _ _ (λ c. 0x20 ≤ c) (λ e. omega arith) (λ e. omega arith)
-
-escaped_visible : (b : ℕ) → Visible (escaped b)
-escaped_visible b =
-    let P : List ℕ → Type 0 = λ bs. Visible bs in
-    let two : (c : ℕ) → 0x20 ≤ c → Visible (0x5c ∷ c ∷ []) = λ c h. (omega arith, (h, tt)) in
-    cond_both (b == 0x22) _ _ P (λ _. two 0x22 (omega arith)) (λ _.
-    cond_both (b == 0x5c) _ _ P (λ _. two 0x5c (omega arith)) (λ _.
-    cond_both (b == 0x08) _ _ P (λ _. two 0x62 (omega arith)) (λ _.
-    cond_both (b == 0x09) _ _ P (λ _. two 0x74 (omega arith)) (λ _.
-    cond_both (b == 0x0a) _ _ P (λ _. two 0x6e (omega arith)) (λ _.
-    cond_both (b == 0x0c) _ _ P (λ _. two 0x66 (omega arith)) (λ _.
-    cond_both (b == 0x0d) _ _ P (λ _. two 0x72 (omega arith)) (λ _.
-    cond_both (nat_lt b 0x10) _ _ P (λ _. (omega arith, (omega arith, (omega arith, (omega arith, (omega arith, (digit_visible b, tt))))))) (λ _.
-    cond_both (nat_lt b 0x20) _ _ P (λ _. (omega arith, (omega arith, (omega arith, (omega arith, (omega arith, (digit_visible (b - 0x10), tt))))))) (λ e.
-    (ltb-false b 0x20 e, tt))))))))))
-
-body_visible : (s : List ℕ) → Visible (flat_map escaped s)
-body_visible [] = tt
-body_visible (b ∷ s) = joined (escaped b) (flat_map escaped s) (escaped_visible b) (body_visible s)
-
-quoted_visible : (s : List ℕ) → Visible (quoted s)
-quoted_visible s = (omega arith, joined (flat_map escaped s) (0x22 ∷ []) (body_visible s) (omega arith, tt))
+-- ---- numbers
 
 glyph_visible : (d : ℕ) → 0x20 ≤ digit_glyph false d
 glyph_visible d = cond_both (nat_lt d 10) _ _ (λ c. 0x20 ≤ c) (λ e. omega arith) (λ e. omega arith)
@@ -82,14 +50,14 @@ module _ (text_visible : OneLine) where
 
   more_shown : (ts : Items) → AllShown ts → Visible (more_items_text ts)
   more_shown no_items h = tt
-  more_shown (item t ts) h = (omega arith, joined (text t) (more_items_text ts) h.0 (more_shown ts h.1))
+  more_shown (item t ts) h = (omega arith, visible_append (text t) (more_items_text ts) h.0 (more_shown ts h.1))
 
   items_shown : (ts : Items) → AllShown ts → Visible (items_text ts)
   items_shown no_items h = tt
-  items_shown (item t ts) h = joined (text t) (more_items_text ts) h.0 (more_shown ts h.1)
+  items_shown (item t ts) h = visible_append (text t) (more_items_text ts) h.0 (more_shown ts h.1)
 
   list_shown : (ts : Items) → AllShown ts → Shown (list ts)
-  list_shown ts h = (omega arith, joined (items_text ts) (0x5d ∷ []) (items_shown ts h) (omega arith, tt))
+  list_shown ts h = (omega arith, visible_append (items_text ts) (0x5d ∷ []) (items_shown ts h) (omega arith, tt))
 
   answer_shown : (r : Result Tree Word) → ((t : Tree) → r ≡ Ok t → Shown t) → Shown (answer r)
   answer_shown (Ok t) h = h t refl
@@ -209,15 +177,15 @@ module _ (text_visible : OneLine) where
 
   -- a member with its colon
   pair_shown : (k rest : List ℕ) → Visible rest → Visible (quoted k ++ 0x3a ∷ rest)
-  pair_shown k rest h = joined (quoted k) (0x3a ∷ rest) (quoted_visible k) (omega arith, h)
+  pair_shown k rest h = visible_append (quoted k) (0x3a ∷ rest) (quoted_visible k) (omega arith, h)
 
   record_shown : (rs : Items) (t : Tree) → AllShown rs → IsValidTree t → Shown (record_of rs t)
   record_shown rs t h valid =
       let document = quoted (codes "document") ++ 0x3a ∷ (text t ++ []) in
-      let last : Visible document = pair_shown (codes "document") (text t ++ []) (joined (text t) [] (text_visible t valid) tt) in
+      let last : Visible document = pair_shown (codes "document") (text t ++ []) (visible_append (text t) [] (text_visible t valid) tt) in
       let behind = text (list rs) ++ 0x2c ∷ document in
-      let first = pair_shown (codes "replies") behind (joined (text (list rs)) (0x2c ∷ document) (list_shown rs h) (omega arith, last)) in
-      (omega arith, joined (quoted (codes "replies") ++ 0x3a ∷ behind) (0x7d ∷ []) first (omega arith, tt))
+      let first = pair_shown (codes "replies") behind (visible_append (text (list rs)) (0x2c ∷ document) (list_shown rs h) (omega arith, last)) in
+      (omega arith, visible_append (quoted (codes "replies") ++ 0x3a ∷ behind) (0x7d ∷ []) first (omega arith, tt))
 
   character_shown : (c : Option ℕ) → Shown (character_of c)
   character_shown None = text_visible null tt
@@ -227,12 +195,12 @@ module _ (text_visible : OneLine) where
   fault_shown e =
       let shown = text (character_of e.character) in
       let character = quoted (codes "character") ++ 0x3a ∷ (shown ++ []) in
-      let last : Visible character = pair_shown (codes "character") (shown ++ []) (joined shown [] (character_shown e.character) tt) in
+      let last : Visible character = pair_shown (codes "character") (shown ++ []) (visible_append shown [] (character_shown e.character) tt) in
       let index = quoted (codes "index") ++ 0x3a ∷ (decimal e.index ++ 0x2c ∷ character) in
-      let middle : Visible index = pair_shown (codes "index") (decimal e.index ++ 0x2c ∷ character) (joined (decimal e.index) (0x2c ∷ character) (decimal_visible e.index) (omega arith, last)) in
+      let middle : Visible index = pair_shown (codes "index") (decimal e.index ++ 0x2c ∷ character) (visible_append (decimal e.index) (0x2c ∷ character) (decimal_visible e.index) (omega arith, last)) in
       let behind = quoted (name_of e.error) ++ 0x2c ∷ index in
-      let first = pair_shown (codes "error") behind (joined (quoted (name_of e.error)) (0x2c ∷ index) (quoted_visible (name_of e.error)) (omega arith, middle)) in
-      (omega arith, joined (quoted (codes "error") ++ 0x3a ∷ behind) (0x7d ∷ []) first (omega arith, tt))
+      let first = pair_shown (codes "error") behind (visible_append (quoted (name_of e.error)) (0x2c ∷ index) (quoted_visible (name_of e.error)) (omega arith, middle)) in
+      (omega arith, visible_append (quoted (codes "error") ++ 0x3a ∷ behind) (0x7d ∷ []) first (omega arith, tt))
 
   visible_free : (bytes : List ℕ) → Visible bytes → AllByRecursion (λ b. b ≢ 0x0a) bytes
   visible_free bytes h = AllByRecursion-weaker (λ b. 0x20 ≤ b) (λ b. b ≢ 0x0a) (λ b low is. omega arith) bytes h
