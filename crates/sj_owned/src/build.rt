@@ -127,6 +127,7 @@ fn take_object<'de, V: BuildValue<'de, K> + Drop, K: MakeKey<'de> + Drop>(
 }
 
 // Makes what is built of a node and of the parts behind it.
+#[inline(always)]
 fn next_part<'de, V: BuildValue<'de, K> + Drop, K: MakeKey<'de> + Drop>(
     alloc: Global,
     node: &Node<'de>,

@@ -10,6 +10,8 @@ use crate::stop::Stop;
 use crate::strings::decode;
 
 /// The length of the body that begins the bytes: up to its closing quote, or the end.
+#[cold]
+#[inline(never)]
 fn body_len(bytes: &[u8]) -> usize
     ensures within { result ≤ length bytes.now }
     ensures body { take result bytes.now ≡ string_body bytes.now }
