@@ -9,8 +9,7 @@ use Rattle.sj_records.specs.Command.{Step, get, contains, type_of, len, keys, in
 use Rattle.sj_records.specs.Step.{Job, Keeping, State, Word, start, base, fits, fits_below, insertion, removal, pushing, popping, setting, write_at, settled, step, replies, after}
 use Rattle.sj_records.specs.Record.{record_of, outcome}
 use Rattle.sj_records.specs.inside.Progress.{task_job, first_state, replies_to, tree_after, IsStep}
-use Rattle.sj_records.specs.inside.Documents.{comma}
-use Rattle.sj_records.proofs.Printed.{items_from}
+use Rattle.sj_records.proofs.Printed.{comma, items_from}
 
 pub outcome_pieces : (out : List ℕ) (rs : Items) (t : Tree)
     → ((((out ++ codes "{\"replies\":") ++ text (list rs)) ++ codes ",\"document\":") ++ text t) ++ 0x7d ∷ [] ≡ out ++ text (record_of rs t)

@@ -4,7 +4,7 @@ ghost use Rattle.sj_base.specs.Path.{at};
 ghost use Rattle.sj_base.specs.Text.{text};
 ghost use Rattle.sj_records.specs.Step.{reply_of, part_at, contains_reply, type_reply, len_reply, keys_reply};
 ghost use Rattle.sj_records.specs.Script.{path_view, AppendsOrLeaves};
-ghost use Rattle.sj_records.specs.inside.Documents.{GivesReply, reply_view, separator, comma};
+ghost use Rattle.sj_records.specs.inside.Documents.{GivesReply, reply_view, separator};
 ghost use Rattle.sj_records.specs.inside.Progress.{AppendsOrGrows};
 
 use crate::part::Part;
@@ -119,16 +119,6 @@ pub(crate) fn put_separator(is_first: bool, out: &mut Vec<u8>) -> Result<(), All
     ensures { AppendsOrLeaves result out.old.items out.new.items (separator is_first) }
 {
     if !is_first {
-        out.push(b',')?;
-    }
-    Ok(())
-}
-
-/// Appends a comma unless `place` is 0.
-pub(crate) fn put_comma(place: usize, out: &mut Vec<u8>) -> Result<(), AllocError>
-    ensures { AppendsOrLeaves result out.old.items out.new.items (comma place) }
-{
-    if place > 0 {
         out.push(b',')?;
     }
     Ok(())

@@ -16,7 +16,7 @@ use crate::document::Document;
 use crate::form::Form;
 use crate::lazy_document::LazyDocument;
 use crate::read_error::ReadError;
-use crate::reads::put_comma;
+use crate::reads::put_separator;
 use crate::script::{Command, Script};
 use sj_base::{DecimalBuf, DecimalCow, Error, put_int, put_string};
 use sj_object::MakeKey;
@@ -200,7 +200,7 @@ fn put_replies<T: Document>(
 {
     out.push(b'[')?;
     for (place, command) in task.script.commands().iter().enumerate() {
-        put_comma(place, out)?;
+        put_separator(place == 0, out)?;
         put_command(document, command, task.depth, out)?;
     }
     out.push(b']')?;

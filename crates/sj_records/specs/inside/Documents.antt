@@ -18,11 +18,6 @@ use Rattle.sj_records.specs.Script.{AppendsOrLeaves}
 use Rattle.sj_records.specs.inside.Progress.{AppendsOrGrows}
 use Rattle.sj_records.specs.Step.{Word, Change, reply_of, insertion, removal, pushing, popping, setting, key_items}
 
--- what stands before the element at that index
-abbrev pub comma : ℕ → List ℕ
-comma zero = []
-comma (suc n) = 0x2c ∷ []
-
 -- what stands before an element that is the first or another
 abbrev pub separator : Bool → List ℕ
 separator true = []

@@ -5,6 +5,7 @@ use Rattle.sj_base.specs.Text.{text, items_text}
 use Rattle.sj_records.specs.Script.{command_view, commands_view}
 use Rattle.sj_records.specs.Step.{State, step, replies, after}
 use Rattle.sj_records.specs.inside.Progress.{task_job, first_state}
+use Rattle.sj_records.proofs.Printed.{separator_is}
 use Rattle.sj_records.proofs.RecordText.{Replying-begin, Replying-more, Replying-end, step-on, bracketed}
 use Rattle.sj_records.proofs.task.put_replies.Goals as goal
 
@@ -21,10 +22,11 @@ loop-place-preserved g c =
     let command = command_view c.command-item.result in
     let rest = commands_view (drop (c.loop-place.place + 1) all) in
     let left : commands_view (drop c.loop-place.place all) ≡ command ∷ rest = ap commands_view (drop_more all c.loop-place.place c.command-item.result (omega arith)) ∙ ap (λ d. command_view d ∷ rest) (sym c.command-item.is) in
+    let between = c.in_ok-put_separator.ensures ∙ ap (λ (b : List ℕ). c.loop-place.out.items ++ b) (separator_is c.loop-place.place) in
     let done = step-on job at.0 g.T.Document.keeping (g.T.Document.tree c.loop-place.document) (g.T.Document.tree c.put_command.new.document) _ _ command at.1 c.requires c.in_ok-put_command.ensures in (
       (step job at.0 command).1,
       done.1,
-      Replying-more job _ _ at.0 command _ rest c.loop-place.place (c.loop-place.place + 1) _ c.loop-place.out.items c.put_comma.new.out.items c.put_command.new.out.items left (omega arith) at.2 c.in_ok-put_comma.ensures done.0,
+      Replying-more job _ _ at.0 command _ rest c.loop-place.place (c.loop-place.place + 1) _ c.loop-place.out.items c.put_separator.new.out.items c.put_command.new.out.items left (omega arith) at.2 between done.0,
     )
 
 pub returns : goal.returns
