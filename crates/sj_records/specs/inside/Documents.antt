@@ -1,6 +1,6 @@
 -- The edits of documents, what is appended of them, and how the elements of an array are kept apart in
 -- its text.
-use Rattle.std.specs.Prelude.{◌≡◌, ℕ, zero, suc, Bool, true, false, List, [], ◌∷◌, Option, Some, None, option_map, Result, Ok, Err, IsErr, codes}
+use Rattle.std.specs.Prelude.{◌≡◌, ℕ, Bool, true, false, List, [], ◌∷◌, Option, Some, None, option_map, Result, Ok, Err, IsErr, codes}
 use Rattle.sj_base.specs.Containers.{members_in}
 use Rattle.sj_base.specs.Tree.{Tree, Members, string, list}
 use Rattle.sj_base.specs.Scalar.{scalar_tree}
