@@ -5,8 +5,8 @@ use Rattle.std.specs.List.{position, position_or_len}
 use Rattle.std.proofs.lemmas.Bool.{cases_Bool, or_from}
 use Rattle.std.proofs.lemmas.Bool.Decides.{nat_tests}
 use Rattle.sj_object.specs.declared.entry.Entry.{Entry}
-use Rattle.sj_object.specs.Pairs.{keys_of, value_at, set_value, put_key, drop_key, has_text}
-use Rattle.sj_object.specs.inside.Places.{place_of, set_place}
+use Rattle.sj_object.specs.Pairs.{keys_of, value_at, place_of, set_value, put_key, drop_key, has_text}
+use Rattle.sj_object.specs.inside.Places.{set_place}
 
 pub some_same : {X : Type 0} (a b : X) → Some a ≡ Some b → a ≡ b
 some_same a b h = cc

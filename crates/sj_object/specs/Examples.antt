@@ -3,7 +3,7 @@ use Rattle.std.specs.Prelude.{◌≡◌, refl, ℕ, List, [], ◌∷◌, Some, N
 use Rattle.sj_object.specs.declared.entry.Entry.{Entry}
 use Rattle.sj_object.specs.Compare.{same_pairs}
 use Rattle.sj_object.specs.Hash.{text_hash}
-use Rattle.sj_object.specs.Pairs.{value_at, set_value, put_key, drop_key}
+use Rattle.sj_object.specs.Pairs.{value_at, place_of, set_value, put_key, drop_key, put_at}
 
 abbrev Pairs : Type 0
 Pairs = List (Entry (List ℕ) ℕ)
@@ -20,6 +20,12 @@ a_to v = record { key = codes "a"; value = v }
 abbrev b_to : ℕ → Entry (List ℕ) ℕ
 b_to v = record { key = codes "b"; value = v }
 
+abbrev c_to : ℕ → Entry (List ℕ) ℕ
+c_to v = record { key = codes "c"; value = v }
+
+abbrev with_c_at : ℕ → Pairs
+with_c_at i = put_at (a_to 1 ∷ b_to 2 ∷ []) i (codes "c") 3
+
 replaced_in_place : put (put (put [] (codes "a") 1) (codes "b") 2) (codes "a") 3 ≡ a_to 3 ∷ b_to 2 ∷ []
 replaced_in_place = refl
 
@@ -34,6 +40,24 @@ found = refl
 
 not_found : value_at text (a_to 3 ∷ b_to 2 ∷ []) (codes "") ≡ None
 not_found = refl
+
+first_place : place_of text (a_to 3 ∷ b_to 2 ∷ []) (codes "a") ≡ Some 0
+first_place = refl
+
+second_place : place_of text (a_to 3 ∷ b_to 2 ∷ []) (codes "b") ≡ Some 1
+second_place = refl
+
+without_a_place : place_of text (a_to 3 ∷ b_to 2 ∷ []) (codes "c") ≡ None
+without_a_place = refl
+
+put_first : with_c_at 0 ≡ c_to 3 ∷ a_to 1 ∷ b_to 2 ∷ []
+put_first = refl
+
+put_between : with_c_at 1 ≡ a_to 1 ∷ c_to 3 ∷ b_to 2 ∷ []
+put_between = refl
+
+put_last : with_c_at 2 ≡ a_to 1 ∷ b_to 2 ∷ c_to 3 ∷ []
+put_last = refl
 
 written : set_value text (a_to 3 ∷ b_to 2 ∷ []) (codes "b") 5 ≡ a_to 3 ∷ b_to 5 ∷ []
 written = refl

@@ -79,7 +79,7 @@ impl<K: ObjectKey, V> Object<K, V> {
         ensures handed_back { IfErr result (λ refused. refused ≡ key) }
     {
         let _ = hash;
-        let Some(at) = self.position(key.as_text()) else {
+        let Some(at) = self.place(key.as_text()) else {
             if self.entries.reserve(1).is_err() {
                 return Err(key);
             }

@@ -1,9 +1,8 @@
 //! The object and its calls by key.
-ghost use Rattle.std.specs.Prelude.{◌≡◌, ◌<◌, ◌↔◌, [], length, map, slice_get, is_some, IsTrue, IsSome, IsOk, IfOk, IfErr, OnOk, OnErr};
+ghost use Rattle.std.specs.Prelude.{◌≡◌, ◌<◌, ◌≤◌, ◌↔◌, [], length, map, slice_get, is_some, IsTrue, IsSome, IsOk, IfOk, IfErr, OnOk, OnErr};
 ghost use Rattle.std.specs.Borrow.{sem};
 ghost use Rattle.std.specs.Option.{option_copied, option_copied_mut};
-ghost use Rattle.sj_object.specs.Pairs.{keys_of, value_at, put_key, drop_key, AreDistinct};
-ghost use Rattle.sj_object.specs.inside.Places.{place_of};
+ghost use Rattle.sj_object.specs.Pairs.{keys_of, value_at, place_of, put_key, drop_key, put_at, AreDistinct};
 
 use crate::entry::{Entry, Refused};
 use crate::iter::{IntoIter, Iter, Keys, Values};
@@ -85,8 +84,8 @@ impl<K: ObjectKey, V> Object<K, V> {
         self.entries.is_empty()
     }
 
-    // The place of the pair with this key.
-    pub(crate) fn position(&self, key: &str) -> Option<usize>
+    /// Returns the place of the pair with this key, counted from 0, or `None` if there is none.
+    pub fn place(&self, key: &str) -> Option<usize>
         ensures { result ≡ place_of K.text self.now key.now }
     {
         self.entries
@@ -98,7 +97,7 @@ impl<K: ObjectKey, V> Object<K, V> {
     pub fn get(&self, key: &str) -> Option<&V>
         ensures { option_copied result ≡ value_at K.text self.now key.now }
     {
-        let at = self.position(key)?;
+        let at = self.place(key)?;
         Some(&self.entries[at].value)
     }
 
@@ -107,7 +106,7 @@ impl<K: ObjectKey, V> Object<K, V> {
         ensures* writes_back { sem 𝓛 (lends_value K.row V.row K.ObjectKey self.entry key.now result) }
         ensures value { option_copied_mut result ≡ value_at K.text self.old key.now }
     {
-        match self.position(key) {
+        match self.place(key) {
             Some(at) => Some(self.value_mut(at)),
             None => None,
         }
@@ -145,7 +144,7 @@ impl<K: ObjectKey, V> Object<K, V> {
         ensures err { OnErr result (self.new ≡ self.old) }
         ensures handed_back { IfErr result (λ pair. (pair.key ≡ key) × (pair.value ≡ value)) }
     {
-        let Some(at) = self.position(key.as_text()) else {
+        let Some(at) = self.place(key.as_text()) else {
             self.push_new(key, value)?;
             return Ok(None);
         };
@@ -170,6 +169,27 @@ impl<K: ObjectKey, V> Object<K, V> {
         Ok(())
     }
 
+    /// Puts a pair with a new key at a place, counted from 0. The pairs from there on move one place on.
+    ///
+    /// `place` is at most [`Object::len`]. To test that the key is new, call [`Object::contains_key`].
+    ///
+    /// # Errors
+    ///
+    /// The key and the value come back if there is no memory for a new pair. The object is unchanged.
+    pub fn insert_at(&mut self, place: usize, key: K, value: V) -> Result<(), Refused<K, V>>
+        requires within { place ≤ length self.old }
+        requires new_key { value_at K.text self.old (K.text key) ≡ None }
+        ensures ok { OnOk result (self.new ≡ put_at self.old place key value) }
+        ensures err { OnErr result (self.new ≡ self.old) }
+        ensures handed_back { IfErr result (λ pair. (pair.key ≡ key) × (pair.value ≡ value)) }
+    {
+        if let Err(refused) = self.entries.insert(place, Entry { key, value }) {
+            let Entry { key, value } = refused.value;
+            return Err(Refused { key, value });
+        }
+        Ok(())
+    }
+
     /// Removes the pair of this key and returns its value, or `None` if there is none. The pairs after it close up.
     pub fn remove(&mut self, key: &str) -> Option<V>
     where
@@ -177,7 +197,7 @@ impl<K: ObjectKey, V> Object<K, V> {
         ensures value { result ≡ value_at K.text self.old key.now }
         ensures rest { self.new ≡ drop_key K.text self.old key.now }
     {
-        let at = self.position(key)?;
+        let at = self.place(key)?;
         let Entry { key: _key, value } = self.entries.remove(at);
         Some(value)
     }

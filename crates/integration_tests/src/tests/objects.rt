@@ -75,6 +75,32 @@ fn pairs_in_order(rt: HostRuntime) -> Result<(), Fail> {
     Ok(())
 }
 
+// Of an object with the keys k0 to k32, each with its number as its value.
+#[test]
+fn places(rt: HostRuntime) -> Result<(), Fail> {
+    let alloc = rt.alloc();
+    let mut object: Object<String, u64> = Object::new(alloc);
+    for i in 0..33u64 {
+        object.insert(format!(in alloc; "k{i}")?, i)?;
+    }
+    assert_eq!(rt; object.remove("k0"), Some(0));
+    assert_eq!(rt; (object.get("k32"), object.len()), (Some(&32), 32));
+    assert_eq!(rt; object.insert(String::from_str(alloc, "k0")?, 7)?, None);
+    assert_eq!(rt; (object.place("k1"), object.place("k0")), (Some(0), Some(32)));
+    assert_eq!(rt; (object.remove("k1"), object.place("k1")), (Some(1), None));
+    let key = String::from_str(alloc, "k1")?;
+    if object.contains_key(&key) {
+        return Err(Fail::new("k1 was removed"));
+    }
+    object.insert_at(0, key, 9)?;
+    assert_eq!(rt; (object.get("k0"), object.place("k1")), (Some(&7), Some(0)));
+    for (key, value) in [("k1", 9), ("k2", 2), ("k3", 3), ("k4", 4)] {
+        assert_eq!(rt; object.remove(key), Some(value));
+    }
+    assert_eq!(rt; object.get("k0"), Some(&7));
+    Ok(())
+}
+
 #[test]
 fn refused(rt: HostRuntime) -> Result<(), Fail> {
     let pair = Refused { key: "a", value: 1 };

@@ -1,4 +1,4 @@
-use Rattle.std.proofs.Common.{◌≡◌, ◌∙◌, ◌+◌, ◌++◌, ◌∷◌, [], take, drop, sym, ap, take-add, slice_index, arith}
+use Rattle.std.proofs.Common.{◌≡◌, ◌∙◌, ◌+◌, ◌++◌, ◌∷◌, take, drop, sym, ap, take-add, slice_index, arith}
 use Rattle.std.proofs.lemmas.List.{append-nil, drop_more, take_rest}
 use Rattle.sj_parse.specs.inside.Step.{string_body}
 use Rattle.sj_parse.proofs.Bodies.{body-plain}

@@ -3,7 +3,7 @@ use Rattle.std.specs.Prelude.{bytes_eq}
 use Rattle.std.proofs.lemmas.Iterator.{YieldsList-from_slice}
 use Rattle.std.proofs.lemmas.Iterator.Search.{position_from_yields_List}
 use Rattle.sj_object.proofs.Places.{place_of-position}
-use Rattle.sj_object.proofs.object.Object.position.Goals as goal
+use Rattle.sj_object.proofs.object.Object.place.Goals as goal
 
 pub returns : goal.returns
 returns g c =
