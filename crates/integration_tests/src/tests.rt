@@ -10,6 +10,7 @@ mod lazy;
 mod nodes;
 mod objects;
 mod owned;
+mod reloads;
 mod rows;
 mod scans;
 mod shared;
@@ -396,9 +397,22 @@ fn refused_scripts(rt: HostRuntime) -> Result<(), Fail> {
             "command 1: UnknownName",
         ),
         (
-            r#"[["reload"]]"#,
+            r#"[["undo"]]"#,
             command_fault(CommandFault::UnknownName),
             "command 0: UnknownName",
+        ),
+        (
+            r#"[["reload",[]]]"#,
+            command_fault(CommandFault::WrongCount),
+            "command 0: WrongCount",
+        ),
+        (
+            r#"[["reload"],["reload_pp",1]]"#,
+            ScriptFault::Command {
+                place: 1,
+                fault: CommandFault::WrongCount,
+            },
+            "command 1: WrongCount",
         ),
         (
             r#"[["contains",1]]"#,

@@ -9,7 +9,7 @@ use Rattle.sj_base.specs.Path.{Part, member_at, at, put}
 use Rattle.sj_base.specs.Containers.{items_in, members_in}
 use Rattle.sj_base.specs.Edit.{put_member, drop_member, push_item, last_item, pop_item}
 use Rattle.sj_base.proofs.Depths.{depth_when_kept, depth_of_part, depth_when_put, depth_with_member, depth_when_dropped, depth_when_pushed, depth_when_popped}
-use Rattle.sj_records.specs.Command.{Step, get, contains, type_of, len, keys, insert, remove, push, pop, set_at, ◌>>=◌}
+use Rattle.sj_records.specs.Command.{Step, get, contains, type_of, len, keys, insert, remove, push, pop, set_at, reload, reload_pp, ◌>>=◌}
 use Rattle.sj_records.specs.Step.{Job, Keeping, from_start, from_write, State, Word, Change, start, begun, base, fits, fits_below, if_fits, part_at, reply_of, insertion, removal, pushing, popping, setting, write_at, settled, written, step, after}
 use Rattle.sj_records.specs.Laws.{HoldsInState, DepthStays}
 
@@ -131,11 +131,11 @@ base_within : (limit : ℕ) (t : Tree) (keeping : Keeping) → depth t ≤ limit
 base_within limit t from_start h = h
 base_within limit t from_write h = let kept = depth_when_kept t in omega arith
 
-start_within : (limit : ℕ) (t : Tree) (keeping : Keeping) → depth t ≤ limit → depth (start t keeping) ≤ limit
+pub start_within : (limit : ℕ) (t : Tree) (keeping : Keeping) → depth t ≤ limit → depth (start t keeping) ≤ limit
 start_within limit t from_start h = let kept = depth_when_kept t in omega arith
 start_within limit t from_write h = h
 
-abbrev Within : ℕ → State → Type 0
+abbrev pub Within : ℕ → State → Type 0
 Within limit s = HoldsInState (λ u. depth u ≤ limit) s
 
 settled_within : (limit : ℕ) (t : Tree) (bases : List Tree) (path : List Part) (change : Change) (r : Result (Tree × Tree) Word) → write_at t path change ≡ r → StaysWithin limit path change
@@ -159,13 +159,15 @@ step_within job s (contains path k) h = h
 step_within job s (type_of path) h = h
 step_within job s (len path) h = h
 step_within job s (keys path) h = h
+step_within job s reload h = h
+step_within job s reload_pp h = h
 step_within job s (insert path k v) h = written_within job s path _ (insertion_within job.limit path k v) h
 step_within job s (remove path k) h = written_within job s path _ (removal_within job.limit path k) h
 step_within job s (push path v) h = written_within job s path _ (pushing_within job.limit path v) h
 step_within job s (pop path) h = written_within job s path _ (popping_within job.limit path) h
 step_within job s (set_at path v) h = written_within job s path _ (setting_within job.limit path v) h
 
-after_within : (job : Job) (s : State) (cs : List Step) → Within job.limit s → Within job.limit (after job s cs)
+pub after_within : (job : Job) (s : State) (cs : List Step) → Within job.limit s → Within job.limit (after job s cs)
 after_within job s [] h = h
 after_within job s (c ∷ cs) h = after_within job (step job s c).1 cs (step_within job s c h)
 

@@ -8,7 +8,7 @@ use Rattle.sj_base.specs.Path.{Part}
 use Rattle.sj_base.specs.Text.{text}
 use Rattle.sj_base.proofs.Keeping.{keeps_once}
 use Rattle.sj_base.proofs.Kept.{kept_part, kept_put, kept_with_member, kept_pushed, kept_dropped, kept_popped}
-use Rattle.sj_records.specs.Command.{Step, get, contains, type_of, len, keys, insert, remove, push, pop, set_at}
+use Rattle.sj_records.specs.Command.{Step, get, contains, type_of, len, keys, insert, remove, push, pop, set_at, reload, reload_pp}
 use Rattle.sj_records.specs.Step.{Job, Keeping, from_start, from_write, State, Word, Change, start, begun, base, fits, fits_below, insertion, removal, pushing, popping, setting, write_at, settled, step, replies, after}
 use Rattle.sj_records.specs.Record.{record_of, outcome}
 use Rattle.sj_records.specs.Laws.{is_write, has_dropped, BasesAreKept, TreesAreKept, FormsAgree}
@@ -64,6 +64,8 @@ write_of limit t bases (contains path k) s = s
 write_of limit t bases (type_of path) s = s
 write_of limit t bases (len path) s = s
 write_of limit t bases (keys path) s = s
+write_of limit t bases reload s = s
+write_of limit t bases reload_pp s = s
 
 step-write : (job : Job) (s : State) (c : Step) → step job s c ≡ write_of job.limit (base s.tree job.keeping) s.bases c (step job s c)
 step-write job s (insert path k v) = refl
@@ -76,6 +78,8 @@ step-write job s (contains path k) = refl
 step-write job s (type_of path) = refl
 step-write job s (len path) = refl
 step-write job s (keys path) = refl
+step-write job s reload = refl
+step-write job s reload_pp = refl
 
 write_kept : (limit : ℕ) (t : Tree) (bases : List Tree) (c : Step) (s : Tree × State) → Sound c → IsKept t → AllByRecursion IsKept bases → (is_write c ≡ false → BothKept s.1) → BothKept (write_of limit t bases c s).1
 write_kept limit t bases (insert path k v) s sound h hs read = settled_kept t bases path _ _ refl (insertion_kept (fits_below path v limit) k v sound.1.0) h hs
@@ -88,14 +92,18 @@ write_kept limit t bases (contains path k) s sound h hs read = read refl
 write_kept limit t bases (type_of path) s sound h hs read = read refl
 write_kept limit t bases (len path) s sound h hs read = read refl
 write_kept limit t bases (keys path) s sound h hs read = read refl
+write_kept limit t bases reload s sound h hs read = read refl
+write_kept limit t bases reload_pp s sound h hs read = read refl
 
--- a read leaves the state
+-- a read or a reload leaves the state
 read_leaves : (job : Job) (s : State) (c : Step) → is_write c ≡ false → (step job s c).1 ≡ s
 read_leaves job s (get path) e = refl
 read_leaves job s (contains path k) e = refl
 read_leaves job s (type_of path) e = refl
 read_leaves job s (len path) e = refl
 read_leaves job s (keys path) e = refl
+read_leaves job s reload e = refl
+read_leaves job s reload_pp e = refl
 read_leaves job s (insert path k v) e = absurd cc
 read_leaves job s (remove path k) e = absurd cc
 read_leaves job s (push path v) e = absurd cc
@@ -112,7 +120,7 @@ step_kept job s c sound h =
     subst (λ (p : Tree × State). BothKept p.1) (sym (step-write job s c))
     (write_kept job.limit (base s.tree job.keeping) s.bases c (step job s c) sound (base_kept s.tree job.keeping h.0) h.1 (λ e. subst BothKept (sym (read_leaves job s c e)) h))
 
-after_kept : (job : Job) (s : State) (cs : List Step) → AllByRecursion Sound cs → BothKept s → BothKept (after job s cs)
+pub after_kept : (job : Job) (s : State) (cs : List Step) → AllByRecursion Sound cs → BothKept s → BothKept (after job s cs)
 after_kept job s [] sound h = h
 after_kept job s (c ∷ cs) sound h = after_kept job (step job s c).1 cs sound.1 (step_kept job s c sound.0 h)
 
@@ -140,6 +148,8 @@ module _ (script : List Step) (limit : ℕ) (a b : Keeping) where
   same_step s (type_of path) h = refl
   same_step s (len path) h = refl
   same_step s (keys path) h = refl
+  same_step s reload h = refl
+  same_step s reload_pp h = refl
   same_step s (insert path k v) h = ap (λ t. settled t s.bases (write_at t path (insertion (fits_below path v limit) k v))) (same_base s.tree a b h)
   same_step s (remove path k) h = ap (λ t. settled t s.bases (write_at t path (removal k))) (same_base s.tree a b h)
   same_step s (push path v) h = ap (λ t. settled t s.bases (write_at t path (pushing (fits_below path v limit) v))) (same_base s.tree a b h)

@@ -18,3 +18,5 @@ pub mod Accepted
 pub mod KeptAlong
 pub mod Shown
 pub mod LazyWrites
+pub mod Reloaded
+pub mod Readable

@@ -1,30 +1,9 @@
 -- The text of a list of elements, from one of them on.
-use Rattle.std.proofs.Common.{◌≡◌, ℕ, zero, suc, Bool, true, false, List, [], ◌∷◌, ◌++◌, append_assoc, refl, sym, ap, ◌∙◌, arith}
-use Rattle.std.specs.Prelude.{◌==◌}
-use Rattle.std.proofs.lemmas.Bool.{ne_eqb}
+use Rattle.std.proofs.Common.{◌≡◌, ℕ, Bool, true, false, List, [], ◌∷◌, ◌++◌, append_assoc, sym, ap, ◌∙◌}
 use Rattle.std.proofs.lemmas.List.{append-nil}
 use Rattle.sj_base.specs.Tree.{string, Items, no_items, item}
-use Rattle.sj_base.specs.Text.{text, quoted, items_text, more_items_text}
-use Rattle.sj_records.specs.inside.Documents.{separator}
-
--- what stands before the element at that index
-abbrev pub comma : ℕ → List ℕ
-comma zero = []
-comma (suc n) = 0x2c ∷ []
-
-pub separator_is : (place : ℕ) → separator (place == 0) ≡ comma place
-separator_is zero = refl
-separator_is (suc n) = ap separator (ne_eqb (suc n) 0 (λ e. absurd (omega arith)))
-
--- the text of the items from that place on
-abbrev pub items_from : ℕ → Items → List ℕ
-items_from n no_items = []
-items_from n (item t ts) = comma n ++ (text t ++ more_items_text ts)
-
--- the text of the items from the first of them on, or from another
-abbrev pub items_left : Bool → Items → List ℕ
-items_left true ts = items_text ts
-items_left false ts = more_items_text ts
+use Rattle.sj_base.specs.Text.{quoted, items_text, more_items_text}
+use Rattle.sj_records.specs.inside.Documents.{separator, items_left}
 
 -- one more string
 pub string_more : (b : Bool) (k : List ℕ) (ts : Items) (out mid new total : List ℕ) → mid ≡ out ++ separator b → new ≡ mid ++ quoted k → out ++ items_left b (item (string k) ts) ≡ total → new ++ more_items_text ts ≡ total

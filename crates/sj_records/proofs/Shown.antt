@@ -1,6 +1,6 @@
 -- No byte of a record is below 0x20.
 use Rattle.std.proofs.Common.{◌≡◌, ◌≢◌, ℕ, zero, suc, ◌/◌, ◌%◌, ◌≤◌, Bool, false, List, [], ◌∷◌, ◌++◌, Option, Some, None, Result, Ok, Err, refl, sym, ap, subst, inl, inr, arith}
-use Rattle.std.specs.Prelude.{◌==◌, nat_lt, codes, encode_utf8, is_some, ok_or, option_and_then, ⊤}
+use Rattle.std.specs.Prelude.{◌==◌, nat_lt, nat_le, length, codes, encode_utf8, is_some, ok_or, option_and_then, ⊤}
 use Rattle.std.specs.List.{AllByRecursion}
 use Rattle.std.specs.Fmt.{digits, digits_onto, digit_glyph, decimal}
 use Rattle.std.proofs.lemmas.Bool.{cond_both}
@@ -9,14 +9,15 @@ use Rattle.sj_base.specs.Path.{Part, key, member_at, child, at}
 use Rattle.sj_base.specs.Containers.{items_len, members_len, members_in}
 use Rattle.sj_base.specs.Edit.{last_item}
 use Rattle.sj_base.specs.Names.{name_of}
-use Rattle.sj_base.specs.Text.{quoted, text, items_text, more_items_text}
+use Rattle.sj_base.specs.Spelling.{longest}
+use Rattle.sj_base.specs.Text.{quoted, text, pretty, items_text, more_items_text}
 use Rattle.sj_base.specs.declared.error.Error.{Error}
 use Rattle.sj_base.proofs.Fronts.{AllByRecursion-weaker}
 use Rattle.sj_base.proofs.OneLine.{Visible, visible_append, quoted_visible}
 use Rattle.sj_base.specs.Laws.{OneLine}
 use Rattle.sj_base.proofs.Trees.{only_trees}
 use Rattle.sj_base.proofs.Valid.{valid_when_kept, valid_part, valid_last, valid_put, valid_with_member, valid_dropped, valid_pushed, valid_popped}
-use Rattle.sj_records.specs.Command.{Step, get, contains, type_of, len, keys, insert, remove, push, pop, set_at, ◌>>=◌}
+use Rattle.sj_records.specs.Command.{Step, get, contains, type_of, len, keys, insert, remove, push, pop, set_at, reload, reload_pp, ◌>>=◌}
 use Rattle.sj_records.specs.Step.{Job, Keeping, from_start, from_write, State, Word, Change, start, begun, base, answer, part_at, reply_of, type_name, count, key_items, fits, fits_below, insertion, removal, pushing, popping, setting, write_at, settled, written, step, replies, after}
 use Rattle.sj_records.specs.Record.{record_of, character_of, fault_record}
 use Rattle.sj_records.specs.Laws.{NoLineFeed}
@@ -135,7 +136,7 @@ module _ (text_visible : OneLine) where
   base_valid t from_start h = h
   base_valid t from_write h = valid_when_kept t h
 
-  start_valid : (t : Tree) (keeping : Keeping) → IsValidTree t → IsValidTree (start t keeping)
+  pub start_valid : (t : Tree) (keeping : Keeping) → IsValidTree t → IsValidTree (start t keeping)
   start_valid t from_start h = valid_when_kept t h
   start_valid t from_write h = h
 
@@ -159,6 +160,8 @@ module _ (text_visible : OneLine) where
   step_fine job s (type_of path) sound h = (bound_shown (part_at s.tree path) _ (λ part. quoted_visible (type_name part)), h)
   step_fine job s (len path) sound h = (bound_shown (part_at s.tree path) _ count_shown, h)
   step_fine job s (keys path) sound h = (bound_shown (part_at s.tree path) _ (λ part. key_list_shown (members_in part)), h)
+  step_fine job s reload sound h = (boolean_shown (nat_le (length (text s.tree)) longest), h)
+  step_fine job s reload_pp sound h = (boolean_shown (nat_le (length (pretty s.tree)) longest), h)
   step_fine job s (insert path k v) sound h = written_fine job s path _ (insertion_valid (fits_below path v job.limit) path k v sound) h
   step_fine job s (remove path k) sound h = written_fine job s path _ (removal_valid k) h
   step_fine job s (push path v) sound h = written_fine job s path _ (pushing_valid (fits_below path v job.limit) v sound.1) h
@@ -169,7 +172,7 @@ module _ (text_visible : OneLine) where
   replies_shown job s [] sound h = tt
   replies_shown job s (c ∷ cs) sound h = let fine = step_fine job s c sound.0 h in (fine.0, replies_shown job (step job s c).1 cs sound.1 fine.1)
 
-  after_valid : (job : Job) (s : State) (cs : List Step) → AllByRecursion Sound cs → IsValidTree s.tree → IsValidTree (after job s cs).tree
+  pub after_valid : (job : Job) (s : State) (cs : List Step) → AllByRecursion Sound cs → IsValidTree s.tree → IsValidTree (after job s cs).tree
   after_valid job s [] sound h = h
   after_valid job s (c ∷ cs) sound h = after_valid job (step job s c).1 cs sound.1 (step_fine job s c sound.0 h).1
 

@@ -7,7 +7,7 @@ use Rattle.sj_base.specs.declared.error.Error.{Error}
 use Rattle.sj_records.specs.declared.script.CommandFault.{CommandFault}
 use Rattle.sj_records.specs.declared.script.CommandFault.TheVariants.{NotAnArray, NoName, UnknownName, WrongCount, BadPath, BadKey}
 
--- a command, with its path, and then a key and a value where it has one
+-- a command, with a path, a key and a value where it has them
 pub data Step : Type 0 where
   get : List Part → Step
   contains : List Part → List ℕ → Step
@@ -19,6 +19,8 @@ pub data Step : Type 0 where
   push : List Part → Tree → Step
   pop : List Part → Step
   set_at : List Part → Tree → Step
+  reload : Step
+  reload_pp : Step
 
 -- why a script is refused
 pub data Refusal : Type 0 where
@@ -92,6 +94,11 @@ path_key_value (item t no_items) = Err WrongCount
 path_key_value (item t (item u no_items)) = Err WrongCount
 path_key_value (item t (item u (item v (item w ts)))) = Err WrongCount
 
+-- a command that takes nothing
+abbrev pub plain : Step → Items → Result Step CommandFault
+plain c no_items = Ok c
+plain c (item t ts) = Err WrongCount
+
 -- the command of a name, with these arguments
 abbrev pub named : List ℕ → Items → Result Step CommandFault
 named name arguments =
@@ -105,7 +112,9 @@ named name arguments =
     cond (bytes_eq name (codes "push")) (path_and_value arguments >>= λ a. Ok (push a.0 a.1)) (
     cond (bytes_eq name (codes "pop")) (path_alone arguments >>= λ path. Ok (pop path)) (
     cond (bytes_eq name (codes "set")) (path_and_value arguments >>= λ a. Ok (set_at a.0 a.1)) (
-    Err UnknownName))))))))))
+    cond (bytes_eq name (codes "reload")) (plain reload arguments) (
+    cond (bytes_eq name (codes "reload_pp")) (plain reload_pp arguments) (
+    Err UnknownName))))))))))))
 
 abbrev pub command_of : Tree → Result Step CommandFault
 command_of (list (item (string name) arguments)) = named name arguments

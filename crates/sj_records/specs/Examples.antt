@@ -11,7 +11,7 @@ use Rattle.sj_base.specs.Text.{text}
 use Rattle.sj_base.specs.declared.error.ErrorType.TheVariants.{Eof, ExpectedTrue, InternalError, Syntax}
 use Rattle.sj_records.specs.declared.script.CommandFault.TheVariants.{NotAnArray, NoName, UnknownName, WrongCount, BadPath, BadKey}
 use Rattle.sj_records.specs.Lines.{lines}
-use Rattle.sj_records.specs.Command.{Step, get, contains, type_of, len, keys, insert, remove, push, pop, set_at, json, command, not_an_array, commands_of}
+use Rattle.sj_records.specs.Command.{Step, get, contains, type_of, len, keys, insert, remove, push, pop, set_at, reload, reload_pp, json, command, not_an_array, commands_of}
 use Rattle.sj_records.specs.Step.{Job, Keeping, from_start, from_write, begun, after, fits, fits_below}
 use Rattle.sj_parse.specs.Descent.{value}
 use Rattle.sj_parse.specs.Fault.{generic}
@@ -155,8 +155,17 @@ number_as_key = refl
 path_before_key : commands_of (script_of (codes "remove") (two (number 7) (number 1))) ≡ Err (command 0 BadPath)
 path_before_key = refl
 
-no_reload : commands_of (script_of (codes "reload") no_items) ≡ Err (command 0 UnknownName)
-no_reload = refl
+reload_read : commands_of (script_of (codes "reload") no_items) ≡ Ok (reload ∷ [])
+reload_read = refl
+
+reload_pp_read : commands_of (script_of (codes "reload_pp") no_items) ≡ Ok (reload_pp ∷ [])
+reload_pp_read = refl
+
+reload_with_argument : commands_of (script_of (codes "reload") (one empty_list)) ≡ Err (command 0 WrongCount)
+reload_with_argument = refl
+
+no_undo : commands_of (script_of (codes "undo") no_items) ≡ Err (command 0 UnknownName)
+no_undo = refl
 
 -- the depth limit of writes: `[]` at the end of a path of one part
 
@@ -235,6 +244,23 @@ repeats_dropped_by_write = refl
 repeats_read : text (outcome (lazy (get (key (codes "a") ∷ []) ∷ keys [] ∷ [])) repeated_key) ≡ codes "{\"replies\":[[1],[\"a\",\"a\"]],\"document\":{\"a\":1,\"a\":2}}"
 unfolding digits
 repeats_read = refl
+
+-- repeats-reload
+abbrev reload_len : List Step
+reload_len = reload ∷ len [] ∷ []
+
+repeats_reloaded : text (outcome (lazy reload_len) repeated_key) ≡ codes "{\"replies\":[true,2],\"document\":{\"a\":1,\"a\":2}}"
+unfolding digits
+repeats_reloaded = refl
+
+kept_reloaded : text (outcome (owned reload_len) repeated_key) ≡ codes "{\"replies\":[true,1],\"document\":{\"a\":1}}"
+unfolding digits
+kept_reloaded = refl
+
+-- [["reload_pp"],["remove",[],"a"],["reload"]]
+reloaded_twice : text (outcome (owned (reload_pp ∷ remove [] (codes "a") ∷ reload ∷ [])) a_is_1) ≡ codes "{\"replies\":[true,[1],true],\"document\":{}}"
+unfolding digits
+reloaded_twice = refl
 
 -- depth-limits
 too_deep : text (outcome (job from_start 1 (push [] empty_list ∷ [])) empty_list) ≡ codes "{\"replies\":[\"TooDeep\"],\"document\":[]}"

@@ -1,14 +1,14 @@
--- Laws of the definitions: each line has one record, any bytes are read as a script in one way, and the depth limit holds
--- along a script.
-use Rattle.std.specs.Prelude.{◌≡◌, ◌≢◌, ℕ, ◌≤◌, Bool, true, false, ◌||◌, List, [], ◌∷◌, take, Ok}
+-- Laws of the definitions: each line has one record, any bytes are read as a script in one way, the depth limit holds along a
+-- script, and a reload changes nothing.
+use Rattle.std.specs.Prelude.{◌≡◌, ◌≢◌, ℕ, ◌≤◌, Bool, true, false, ◌||◌, List, [], ◌∷◌, ◌++◌, take}
 use Rattle.std.specs.List.{AllByRecursion}
-use Rattle.sj_base.specs.Tree.{Tree, depth}
+use Rattle.sj_base.specs.Tree.{Tree, Items, no_items, item, depth}
 use Rattle.sj_base.specs.Keep.{IsKept}
 use Rattle.sj_base.specs.Spelling.{Document}
-use Rattle.sj_records.specs.Command.{Step, get, contains, type_of, len, keys, insert, remove, push, pop, set_at}
-use Rattle.sj_records.specs.Step.{Job, Keeping, from_start, from_write, State, begun, after}
-use Rattle.sj_records.specs.Record.{IsRecord}
-use Rattle.sj_records.specs.Script.{IsReadAs}
+use Rattle.sj_records.specs.Command.{Step, get, contains, type_of, len, keys, insert, remove, push, pop, set_at, reload, reload_pp}
+use Rattle.sj_records.specs.Step.{Job, Keeping, from_start, from_write, State, begun, reload_reply, replies, after}
+use Rattle.sj_records.specs.Record.{IsRecord, record_of, outcome}
+use Rattle.sj_records.specs.Script.{IsReadAs, IsAccepted}
 
 -- exactly one x satisfies P
 abbrev pub ExactlyOne : {A : Type 0} → (A → Type 0) → Type 0
@@ -34,10 +34,6 @@ HoldsInState P s = P s.tree × AllByRecursion P s.bases
 abbrev pub DepthStays : Type 0
 DepthStays = (job : Job) (t : Tree) (n : ℕ) → depth t ≤ job.limit → HoldsInState (λ u. depth u ≤ job.limit) (state_at job t n)
 
--- a script that some bytes are read as
-abbrev pub IsAccepted : List Step → Type 0
-IsAccepted script = (bytes : List ℕ) × IsReadAs bytes (Ok script)
-
 abbrev pub is_write : Step → Bool
 is_write (insert path k v) = true
 is_write (remove path k) = true
@@ -49,6 +45,8 @@ is_write (contains path k) = false
 is_write (type_of path) = false
 is_write (len path) = false
 is_write (keys path) = false
+is_write reload = false
+is_write reload_pp = false
 
 -- whether repeated keys have been dropped: from the start, or once there was a write command
 abbrev pub has_dropped : Keeping → List Step → Bool
@@ -72,3 +70,24 @@ FormsAgree =
 -- No record under an accepted script holds a line feed.
 abbrev pub NoLineFeed : Type 0
 NoLineFeed = (job : Job) (line bytes : List ℕ) → IsAccepted job.script → IsRecord job line bytes → AllByRecursion (λ b. b ≢ 0x0a) bytes
+
+-- the job with another script
+abbrev pub with_script : Job → List Step → Job
+with_script job cs = record { script = cs; limit = job.limit; keeping = job.keeping }
+
+-- items, and others behind them
+abbrev pub items_then : Items → Items → Items
+items_then no_items us = us
+items_then (item t ts) us = item t (items_then ts us)
+
+-- Where the reload c, which prints texts like this, stands between other commands, a record has a reply more than without c. The
+-- other replies and the document are the same.
+abbrev pub ChangesNothing : Step → (Tree → List ℕ) → Type 0
+ChangesNothing c print =
+    (job : Job) (t : Tree) (before behind : List Step) →
+    let s = after job (begun job t) before in
+    let first = replies job (begun job t) before in
+    let rest = replies job s behind in
+    let last = (after job s behind).tree in
+    (outcome (with_script job (before ++ behind)) t ≡ record_of (items_then first rest) last)
+    × (outcome (with_script job (before ++ c ∷ behind)) t ≡ record_of (items_then first (item (reload_reply (print s.tree)) rest)) last)

@@ -1,4 +1,4 @@
--- What the values of the program stand for: the commands of a script, what is done to each line, and a script's fault.
+-- What the values of the program stand for: the commands of a script, and a script's fault.
 use Rattle.std.specs.Prelude.{◌≡◌, ◌⊎◌, ℕ, List, [], map, ◌++◌, codes, decimal, Result, Ok, Err, ⊤}
 use Rattle.std.specs.String.{string_bytes}
 use Rattle.sj_base.specs.Tree.{Tree}
@@ -8,17 +8,14 @@ use Rattle.sj_base.specs.Text.{text}
 use Rattle.sj_records.specs.declared.path.PathPart.{PathPart}
 use Rattle.sj_records.specs.declared.path.PathPart.TheVariants.{Key, Item}
 use Rattle.sj_records.specs.declared.script.Command.{Command}
-use Rattle.sj_records.specs.declared.script.Command.TheVariants.{Get, Contains, TypeOf, Len, Keys, Insert, Remove, Push, Pop, SetAt}
+use Rattle.sj_records.specs.declared.script.Command.TheVariants.{Get, Contains, TypeOf, Len, Keys, Insert, Remove, Push, Pop, SetAt, Reload, ReloadPp}
 use Rattle.sj_records.specs.declared.script.CommandFault.{CommandFault}
 use Rattle.sj_records.specs.declared.script.CommandFault.TheVariants as faults
-use Rattle.sj_records.specs.declared.script.Script.{Script}
 use Rattle.sj_records.specs.declared.script.ScriptFault.{ScriptFault}
 use Rattle.sj_records.specs.declared.script.ScriptFault.TheVariants.{Json, NotAnArray, Command as CommandAt, Memory}
-use Rattle.sj_records.specs.declared.form.Form.{Form}
-use Rattle.sj_records.specs.declared.form.Form.TheVariants.{Owned, Borrowed, Lazy}
 use Rattle.sj_records.specs.Values.{document_tree}
-use Rattle.sj_records.specs.Command.{Step, get, contains, type_of, len, keys, insert, remove, push, pop, set_at, Refusal, json, not_an_array, command, commands_of}
-use Rattle.sj_records.specs.Step.{Job, Keeping, from_start, from_write, base, Change, settled, write_at}
+use Rattle.sj_records.specs.Command.{Step, get, contains, type_of, len, keys, insert, remove, push, pop, set_at, reload, reload_pp, Refusal, json, not_an_array, command, commands_of}
+use Rattle.sj_records.specs.Step.{Keeping, base, Change, settled, write_at}
 use Rattle.sj_records.specs.Record.{ComesOf}
 
 abbrev pub part_view : PathPart → Part
@@ -39,22 +36,11 @@ command_view (Remove path k) = remove (path_view path.items) (string_bytes k)
 command_view (Push path v) = push (path_view path.items) (document_tree v.value)
 command_view (Pop path) = pop (path_view path.items)
 command_view (SetAt path v) = set_at (path_view path.items) (document_tree v.value)
+command_view Reload = reload
+command_view ReloadPp = reload_pp
 
 abbrev pub commands_view : List Command → List Step
 commands_view commands = map command_view commands
-
-abbrev pub steps_of : Script → List Step
-steps_of script = commands_view script.commands.items
-
--- how a form keeps a document
-abbrev pub keeping_of : Form → Keeping
-keeping_of Owned = from_start
-keeping_of Borrowed = from_start
-keeping_of Lazy = from_write
-
--- a run of the script under the depth limit, with documents in the form
-abbrev pub job_of : Script → ℕ → Form → Job
-job_of script limit form = record { script = steps_of script; limit = limit; keeping = keeping_of form }
 
 -- the most levels that a script nests
 abbrev pub script_limit : ℕ
@@ -63,6 +49,10 @@ script_limit = 1024
 -- What a script's bytes are read as: the commands of its document, or the first refusal.
 abbrev pub IsReadAs : List ℕ → Result (List Step) Refusal → Type 0
 IsReadAs bytes r = ComesOf commands_of (λ e. Err (json e)) bytes script_limit r
+
+-- a script that some bytes are read as
+abbrev pub IsAccepted : List Step → Type 0
+IsAccepted script = (bytes : List ℕ) × IsReadAs bytes (Ok script)
 
 -- The bytes are refused with this fault. `Memory` says nothing of the bytes.
 abbrev pub IsRefusedAs : ScriptFault → List ℕ → Type 0

@@ -5,7 +5,9 @@ use Rattle.sj_base.specs.Keep.{keep}
 use Rattle.sj_base.specs.Path.{Part, key, member_at, child, at, put}
 use Rattle.sj_base.specs.Containers.{items_len, members_len, items_in, members_in}
 use Rattle.sj_base.specs.Edit.{put_member, drop_member, push_item, last_item, pop_item}
-use Rattle.sj_records.specs.Command.{Step, get, contains, type_of, len, keys, insert, remove, push, pop, set_at, ◌>>=◌}
+use Rattle.sj_base.specs.Spelling.{longest}
+use Rattle.sj_base.specs.Text.{text, pretty}
+use Rattle.sj_records.specs.Command.{Step, get, contains, type_of, len, keys, insert, remove, push, pop, set_at, reload, reload_pp, ◌>>=◌}
 
 -- From when on a document keeps only the first of members with equal keys: from its start, or from the first write
 -- command on, also where that is refused.
@@ -140,7 +142,12 @@ settled t bases (Err word) = (string word, record { tree = t; bases = bases })
 abbrev pub written : Job → State → List Part → Change → Tree × State
 written job s path change = let t = base s.tree job.keeping in settled t s.bases (write_at t path change)
 
--- ---- the reply to a command, and the state after it, which a read doesn't change
+-- ---- reloads: whether the text of the document isn't too long to be read again
+
+abbrev pub reload_reply : List ℕ → Tree
+reload_reply bytes = boolean (nat_le (length bytes) longest)
+
+-- ---- the reply to a command, and the state after it, which neither a read nor a reload changes
 abbrev pub step : Job → State → Step → Tree × State
 step job s (get path) = (reply_of (at s.tree path), s)
 step job s (contains path k) = (contains_reply s.tree path k, s)
@@ -152,6 +159,8 @@ step job s (remove path k) = written job s path (removal k)
 step job s (push path v) = written job s path (pushing (fits_below path v job.limit) v)
 step job s (pop path) = written job s path popping
 step job s (set_at path v) = written job s path (setting (fits path v job.limit) v)
+step job s reload = (reload_reply (text s.tree), s)
+step job s reload_pp = (reload_reply (pretty s.tree), s)
 
 -- the replies to these commands, in order, and the state after them
 abbrev pub replies : Job → State → List Step → Items

@@ -2,5 +2,6 @@
 pub mod ReadErrors
 pub mod Documents
 pub mod Progress
+pub mod Reloads
 pub mod KeptValues
 pub mod LazyDocuments

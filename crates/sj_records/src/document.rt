@@ -7,8 +7,7 @@ ghost use Rattle.sj_owned.specs.Views.{value_tree, members_view};
 ghost use Rattle.sj_records.specs.Step.{Keeping, from_start, reply_of, part_at, type_name, keys_at, key_items, contains_reply, type_reply, len_reply, keys_reply};
 ghost use Rattle.sj_records.specs.Step.{fits, fits_below, insertion, removal, pushing, popping, setting};
 ghost use Rattle.sj_records.specs.Values.{document_tree};
-ghost use Rattle.sj_records.specs.inside.Documents.{GivesReply, reply_view, ShowsEdit};
-ghost use Rattle.sj_records.specs.inside.Progress.{AppendsOrGrows};
+ghost use Rattle.sj_records.specs.inside.Documents.{GivesReply, reply_view, ShowsEdit, AppendsOrGrows};
 ghost use Rattle.sj_records.specs.Script.{part_view, path_view, AppendsOrLeaves, Settles};
 
 use crate::edit::{Edit, ScriptText, edit_at, is_within, is_within_below};

@@ -3,7 +3,7 @@ ghost use Rattle.std.specs.Prelude.{◌≡◌, ◌+◌, ◌≤◌, ◌^◌, [], 
 ghost use Rattle.std.specs.Io.KnownBytes.{IsAtEnd};
 ghost use Rattle.sj_records.specs.Lines.{ended, unended, if_any};
 ghost use Rattle.sj_records.specs.Run.{Transfers, Leaves, ReadsFor, WritesFor};
-ghost use Rattle.sj_records.specs.Script.{job_of};
+ghost use Rattle.sj_records.specs.Job.{job_of};
 ghost use Rattle.sj_records.specs.inside.Progress.{HasNoLineFeed, LeavesLines, LeavesBytes, task_job, scratch_limit};
 
 use crate::form::Form;

@@ -1,5 +1,7 @@
 //! Laws of the definitions: each function does nothing but to call other laws, and its contract is the law.
-ghost use Rattle.sj_records.specs.Laws.{OneRecord, OneReading, DepthStays, BasesAreKept, TreesAreKept, FormsAgree, NoLineFeed};
+ghost use Rattle.sj_records.specs.Laws.{OneRecord, OneReading, DepthStays, BasesAreKept, TreesAreKept, FormsAgree, NoLineFeed, ChangesNothing};
+ghost use Rattle.sj_records.specs.Command.{reload, reload_pp};
+ghost use Rattle.sj_base.specs.Text.{text, pretty};
 
 /// Each line has exactly one record, whatever the script, the limit of levels and the form.
 pub fn one_record()
@@ -25,6 +27,12 @@ pub fn forms_agree()
 pub fn kept_along()
     ensures bases { BasesAreKept }
     ensures trees { TreesAreKept }
+{}
+
+/// A reload changes nothing: without it, the replies to the other commands and the document at the end are the same.
+pub fn reload_changes_nothing()
+    ensures compact { ChangesNothing reload text }
+    ensures indented { ChangesNothing reload_pp pretty }
 {}
 
 /// No record holds a line feed, for any script that `Script::read` accepts.

@@ -8,8 +8,7 @@ ghost use Rattle.sj_owned.specs.Views.{value_tree, members_view};
 ghost use Rattle.sj_tape.specs.Views.{value_tree as view_tree, object_members};
 ghost use Rattle.sj_records.specs.Step.{count, key_items, type_name};
 ghost use Rattle.sj_records.specs.Script.{part_view, AppendsOrLeaves};
-ghost use Rattle.sj_records.specs.inside.Documents.{PutsKeys};
-ghost use Rattle.sj_records.specs.inside.Progress.{AppendsOrGrows};
+ghost use Rattle.sj_records.specs.inside.Documents.{PutsKeys, AppendsOrGrows};
 
 use crate::path::PathPart;
 use crate::reads::put_separator;

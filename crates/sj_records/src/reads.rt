@@ -4,8 +4,7 @@ ghost use Rattle.sj_base.specs.Path.{at};
 ghost use Rattle.sj_base.specs.Text.{text};
 ghost use Rattle.sj_records.specs.Step.{reply_of, part_at, contains_reply, type_reply, len_reply, keys_reply};
 ghost use Rattle.sj_records.specs.Script.{path_view, AppendsOrLeaves};
-ghost use Rattle.sj_records.specs.inside.Documents.{GivesReply, reply_view, separator};
-ghost use Rattle.sj_records.specs.inside.Progress.{AppendsOrGrows};
+ghost use Rattle.sj_records.specs.inside.Documents.{GivesReply, reply_view, separator, AppendsOrGrows};
 
 use crate::part::Part;
 use crate::path::PathPart;

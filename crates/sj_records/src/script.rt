@@ -1,8 +1,8 @@
 //! Scripts: their commands, and why bytes are no script.
 ghost use Rattle.std.specs.Prelude.{◌≡◌, ◌<◌, Ok, length, slice_get, Some, IfOk, IfErr, IsTrue, ◌↔◌};
 ghost use Rattle.sj_records.specs.declared.script.ScriptFault.TheVariants.{Memory};
-ghost use Rattle.sj_records.specs.Script.{IsReadAs, command_view, steps_of, IsRefusedAs, AppendsOrLeaves, fault_text, command_fault_name};
-ghost use Rattle.sj_records.specs.inside.Progress.{AppendsOrGrows};
+ghost use Rattle.sj_records.specs.Script.{IsReadAs, command_view, commands_view, IsAccepted, IsRefusedAs, AppendsOrLeaves, fault_text, command_fault_name};
+ghost use Rattle.sj_records.specs.inside.Documents.{AppendsOrGrows};
 ghost use Rattle.sj_records.specs.inside.ReadErrors.{IsScriptFault};
 
 use crate::commands::read_commands;
@@ -14,8 +14,8 @@ use std::alloc::{AllocError, AllocFailed, Global};
 
 /// One command of a script.
 ///
-/// All but `Get` reply `"NoSuchPath"` if the path selects nothing. `Insert`, `Remove`, `Push`, `Pop` and `SetAt` are the
-/// write commands.
+/// All but `Get` and the reloads reply `"NoSuchPath"` if the path selects nothing. `Insert`, `Remove`, `Push`, `Pop` and
+/// `SetAt` are the write commands.
 #[derive(Debug, Drop)]
 pub enum Command {
     /// Replies with an array of the value that the path selects, or with an empty array.
@@ -39,6 +39,11 @@ pub enum Command {
     Pop(Vec<PathPart>),
     /// Replaces the value that the path selects. Replies with an array of the old value, or else `"TooDeep"`.
     SetAt(Vec<PathPart>, ScriptValue),
+    /// Prints the document as compact text, and reads that text in its place. The document stays the same. Replies with
+    /// `true`, or with `false` if the text has more than `u32::MAX` bytes, which are not read.
+    Reload,
+    /// As `Reload`, with the indented text.
+    ReloadPp,
 }
 
 /// Why a command of a script is refused.
@@ -166,9 +171,12 @@ fn put_parts(fault: &ScriptFault, out: &mut Vec<u8>) -> Result<(), AllocError>
 #[derive(Debug, Drop)]
 pub struct Script {
     commands: Vec<Command>,
+    ghost is_accepted: { ∥ IsAccepted (commands_view commands.items) ∥₁ },
 }
 
 impl Script {
+    ghost use Rattle.sj_records.specs.Job.{steps_of};
+
     /// Reads a script: a JSON array of commands, each an array of its name and its arguments.
     ///
     /// The bytes are rewritten. A script nests at most 1024 levels.
@@ -208,8 +216,9 @@ impl Script {
     }
 
     pub(crate) fn commands(&self) -> &[Command]
-        ensures { result.now ≡ self.now.commands.items }
+        ensures commands { commands_view result.now ≡ steps_of self.now }
+        ensures accepted { ∥ IsAccepted (steps_of self.now) ∥₁ }
     {
-        &self.commands
+        self.commands.as_slice()
     }
 }

@@ -1,16 +1,20 @@
 //! The record of one line, in bytes.
-ghost use Rattle.std.specs.Prelude.{◌≡◌, ◌≢◌, ℕ, List, ◌∷◌, [], ◌++◌, Some, OnOk, IfOk, IfErr};
-ghost use Rattle.sj_base.specs.Tree.{list};
+ghost use Rattle.std.specs.Prelude.{◌≡◌, ◌≢◌, ℕ, nat_le, true, false, List, ◌∷◌, [], ◌++◌, length, Some, OnOk, IfOk, IfErr};
+ghost use Rattle.std.specs.Option.{option_copied};
+ghost use Rattle.sj_base.specs.Spelling.{longest};
+ghost use Rattle.sj_base.specs.Tree.{Tree};
 ghost use Rattle.sj_base.specs.Keep.{keep};
-ghost use Rattle.sj_base.specs.Text.{text};
+ghost use Rattle.sj_base.specs.Text.{text as text_of};
 ghost use Rattle.sj_parse.specs.Answers.{IsTapeOf, buffer_limit};
 ghost use Rattle.sj_parse.specs.Fault.{fault};
-ghost use Rattle.sj_records.specs.Record.{IsRecord, outcome, fault_record, record_of, character_of};
+ghost use Rattle.sj_records.specs.Record.{IsRecord, outcome, fault_record, character_of};
 ghost use Rattle.sj_owned.specs.Views.{value_tree};
-ghost use Rattle.sj_records.specs.Script.{command_view};
+ghost use Rattle.sj_records.specs.Script.{command_view, commands_view};
+ghost use Rattle.sj_records.specs.Step.{State, start, reload_reply};
 ghost use Rattle.sj_tape.specs.Views.{tape_nodes, nodes_tree};
 ghost use Rattle.sj_records.specs.inside.ReadErrors.{IfRefused};
-ghost use Rattle.sj_records.specs.inside.Progress.{task_job, replies_to, tree_after, scratch_limit, IsStep};
+ghost use Rattle.sj_records.specs.inside.Progress.{task_job, scratch_limit, IsStep};
+ghost use Rattle.sj_records.specs.inside.Reloads.{IsReadable, IsPrinted, Runs};
 
 use crate::document::Document;
 use crate::form::Form;
@@ -18,9 +22,11 @@ use crate::lazy_document::LazyDocument;
 use crate::read_error::ReadError;
 use crate::reads::put_separator;
 use crate::script::{Command, Script};
+use sj_base::laws::printing_reads_back;
 use sj_base::{DecimalBuf, DecimalCow, Error, put_int, put_string};
 use sj_object::MakeKey;
 use sj_owned::{MakeLiteral, Value, build_tape, build_value};
+use sj_parse::laws::printed_texts;
 use sj_parse::{Buffers, fill_tape};
 use sj_tape::Tape;
 use std::alloc::{AllocError, Global};
@@ -41,8 +47,18 @@ pub(crate) struct Task<'s> {
 pub(crate) struct Scratch {
     /// Room to read a line in, and the limit of levels.
     pub(crate) buffers: Buffers,
+    /// Room for the texts of a document that is read again.
+    pub(crate) texts: Texts,
     /// The record of the last line.
     pub(crate) out: Vec<u8>,
+}
+
+/// Two texts, of which one is read while the other is printed.
+#[derive(Drop)]
+pub(crate) struct Texts {
+    /// What was printed last.
+    pub(crate) printed: Vec<u8>,
+    pub(crate) next: Vec<u8>,
 }
 
 impl Scratch {
@@ -53,6 +69,10 @@ impl Scratch {
         Ok(Scratch {
             // No line is known yet, so no room is taken.
             buffers: Buffers::with_max_depth(alloc, 0, depth)?,
+            texts: Texts {
+                printed: Vec::new(alloc),
+                next: Vec::new(alloc),
+            },
             out: Vec::new(alloc),
         })
     }
@@ -72,9 +92,13 @@ pub(crate) fn make_record<'de>(
         × IsRecord (task_job task.entry) line.entry.now bytes) }
     ensures limit { scratch_limit scratch.new ≡ scratch_limit scratch.old }
 {
-    let Scratch { buffers, out } = scratch;
+    let Scratch {
+        buffers,
+        texts,
+        out,
+    } = scratch;
     out.clear();
-    put_record(alloc, buffers, tape, out, line, task)?;
+    put_record(alloc, buffers, texts, tape, out, line, task)?;
     out.push(b'\n')?;
     Ok(())
 }
@@ -82,6 +106,7 @@ pub(crate) fn make_record<'de>(
 fn put_record<'de>(
     alloc: Global,
     buffers: &mut Buffers,
+    texts: &mut Texts,
     tape: &mut Tape<'de>,
     out: &mut Vec<u8>,
     line: &'de mut [u8],
@@ -93,7 +118,7 @@ fn put_record<'de>(
     ensures limit { buffer_limit buffers.new ≡ buffer_limit buffers.old }
 {
     match read_tape(alloc, buffers, tape, line) {
-        Ok(()) => put_document_record(alloc, tape, task, out),
+        Ok(()) => put_document_record(alloc, buffers, texts, tape, task, out),
         Err(ReadError::Refused(fault)) => put_fault_record(fault, out),
         Err(ReadError::Memory) => Err(AllocError),
     }
@@ -132,25 +157,26 @@ fn release(alloc: Global, buffers: &mut Buffers) -> Result<(), AllocError>
 /// Appends the record of the document of a tape, in the task's form.
 fn put_document_record(
     alloc: Global,
+    buffers: &mut Buffers,
+    texts: &mut Texts,
     tape: &mut Tape<'_>,
     task: Task<'_>,
     out: &mut Vec<u8>,
 ) -> Result<(), AllocError>
-    requires { tape_nodes tape.old ≢ [] }
-    ensures { OnOk result (out.new.items ≡ out.old.items
-        ++ text (outcome (task_job task.entry) (nodes_tree (tape_nodes tape.old)))) }
+    requires limit { buffer_limit buffers.old ≡ task.depth }
+    requires not_empty { tape_nodes tape.old ≢ [] }
+    requires readable { IsReadable task.depth (nodes_tree (tape_nodes tape.old)) }
+    ensures holds { OnOk result (out.new.items ≡ out.old.items
+        ++ text_of (outcome (task_job task.entry) (nodes_tree (tape_nodes tape.old)))) }
+    ensures limit { buffer_limit buffers.new ≡ buffer_limit buffers.old }
 {
-    match task.form {
-        Form::Owned => {
-            let mut document = build::<String, DecimalBuf>(alloc, tape)?;
-            put_outcome(&mut document, task, out)
-        }
-        Form::Borrowed => {
-            let mut document = build::<CowStr<'_>, DecimalCow<'_>>(alloc, tape)?;
-            put_outcome(&mut document, task, out)
-        }
-        Form::Lazy => put_outcome(&mut LazyDocument::new(tape.as_value()), task, out),
+    out.extend_from_slice(b"{\"replies\":[")?;
+    let commands = task.script.commands();
+    let mut left = run_on_tape(alloc, tape, task, commands, true, &mut texts.printed, out)?;
+    while let Some(commands) = left {
+        left = run_on_text(alloc, buffers, texts, task, commands, out)?;
     }
+    Ok(())
 }
 
 /// The most nodes of a tape whose room is kept for the next line.
@@ -171,67 +197,150 @@ fn build<'de, K: MakeKey<'de> + Drop, D: MakeLiteral<'de> + Drop>(
     build_value::<Value<K, D>, K>(alloc, tape.as_value())
 }
 
-/// Appends the record of a document: the replies to the script's commands, and then the document.
-fn put_outcome<T: Document>(
+/// Runs commands on the text of a document in place of the document. Answers which of them are left behind the next reload,
+/// for which the document is printed again.
+fn run_on_text<'s>(
+    alloc: Global,
+    buffers: &mut Buffers,
+    texts: &mut Texts,
+    task: Task<'_>,
+    commands: &'s [Command],
+    out: &mut Vec<u8>,
+) -> Result<Option<&'s [Command]>, AllocError>
+    requires limit { buffer_limit buffers.old ≡ task.depth }
+    requires readable { (t : Tree) × IsReadable task.depth t × IsPrinted t texts.old.printed.items }
+    ensures runs { IfOk result (λ left. (s : State) → IsReadable task.entry.depth s.tree → IsPrinted s.tree texts.old.printed.items → start s.tree (task_job task.entry).keeping ≡ s.tree
+        → Runs (task_job task.entry) s (commands_view commands.now) false (option_copied left) texts.new.printed.items out.old.items out.new.items) }
+    ensures limit { buffer_limit buffers.new ≡ buffer_limit buffers.old }
+{
+    printing_reads_back();
+    printed_texts();
+    let Texts { printed, next } = texts;
+    let mut tape = Tape::empty(alloc);
+    match read_tape(alloc, buffers, &mut tape, printed) {
+        Ok(()) => {}
+        Err(ReadError::Refused(_)) => unreachable!(),
+        Err(ReadError::Memory) => return Err(AllocError),
+    }
+    let left = run_on_tape(alloc, &mut tape, task, commands, false, next, out)?;
+    drop(tape);
+    mem::swap(printed, next);
+    Ok(left)
+}
+
+/// Runs commands on the document of a tape, in the task's form. `is_first` tells whether their first reply is the first of
+/// the record.
+///
+/// The record is ended behind the last command. Behind a reload that is to be read, the text is in `text`, and the answer
+/// is the commands that are left.
+fn run_on_tape<'s>(
+    alloc: Global,
+    tape: &mut Tape<'_>,
+    task: Task<'_>,
+    commands: &'s [Command],
+    is_first: bool,
+    text: &mut Vec<u8>,
+    out: &mut Vec<u8>,
+) -> Result<Option<&'s [Command]>, AllocError>
+    requires { tape_nodes tape.old ≢ [] }
+    ensures { IfOk result (λ left. (s : State) → s.tree ≡ start (nodes_tree (tape_nodes tape.old)) (task_job task.entry).keeping
+        → Runs (task_job task.entry) s (commands_view commands.now) is_first (option_copied left) text.new.items out.old.items out.new.items) }
+{
+    match task.form {
+        Form::Owned => {
+            let mut document = build::<String, DecimalBuf>(alloc, tape)?;
+            run_commands(&mut document, task, commands, is_first, text, out)
+        }
+        Form::Borrowed => {
+            let mut document = build::<CowStr<'_>, DecimalCow<'_>>(alloc, tape)?;
+            run_commands(&mut document, task, commands, is_first, text, out)
+        }
+        Form::Lazy => {
+            let mut document = LazyDocument::new(tape.as_value());
+            run_commands(&mut document, task, commands, is_first, text, out)
+        }
+    }
+}
+
+/// Runs commands on a document, as `run_on_tape`.
+fn run_commands<'s, T: Document>(
     document: &mut T,
     task: Task<'_>,
+    commands: &'s [Command],
+    is_first: bool,
+    text: &mut Vec<u8>,
     out: &mut Vec<u8>,
-) -> Result<(), AllocError>
+) -> Result<Option<&'s [Command]>, AllocError>
     requires { T.keeping ≡ (task_job task).keeping }
-    ensures { OnOk result (out.new.items ≡ out.old.items
-        ++ text (record_of (replies_to task.entry (T.tree document.old)) (tree_after task.entry (T.tree document.old)))) }
+    ensures { IfOk result (λ left. (s : State) → s.tree ≡ T.tree document.old
+        → Runs (task_job task.entry) s (commands_view commands.now) is_first (option_copied left) text.new.items out.old.items out.new.items) }
 {
-    out.extend_from_slice(b"{\"replies\":")?;
-    put_replies(document, task, out)?;
-    out.extend_from_slice(b",\"document\":")?;
+    let mut left = commands;
+    let mut is_next_first = is_first;
+    while let Some((command, behind)) = left.split_first() {
+        put_separator(is_next_first, out)?;
+        let is_read_again = run_command(document, command, task.depth, text, out)?;
+        left = behind;
+        is_next_first = false;
+        if is_read_again {
+            return Ok(Some(left));
+        }
+    }
+    out.extend_from_slice(b"],\"document\":")?;
     document.text(out)?;
     out.push(b'}')?;
-    Ok(())
+    Ok(None)
 }
 
-fn put_replies<T: Document>(
-    document: &mut T,
-    task: Task<'_>,
-    out: &mut Vec<u8>,
-) -> Result<(), AllocError>
-    requires { T.keeping ≡ (task_job task).keeping }
-    ensures { OnOk result ((out.new.items ≡ out.old.items ++ text (list (replies_to task.entry (T.tree document.old))))
-        × (T.tree document.new ≡ tree_after task.entry (T.tree document.old))) }
-{
-    out.push(b'[')?;
-    for (place, command) in task.script.commands().iter().enumerate() {
-        put_separator(place == 0, out)?;
-        put_command(document, command, task.depth, out)?;
-    }
-    out.push(b']')?;
-    Ok(())
-}
-
-/// Runs one command, and appends its reply.
-fn put_command<T: Document>(
+/// Runs one command, and appends its reply. Answers whether it is a reload whose text, which is in `text`, is to be read.
+fn run_command<T: Document>(
     document: &mut T,
     command: &Command,
     depth: usize,
+    text: &mut Vec<u8>,
     out: &mut Vec<u8>,
-) -> Result<(), AllocError>
-    ensures { OnOk result (IsStep T.keeping depth (T.tree document.old) (T.tree document.new) out.old.items out.new.items (command_view command.now)) }
+) -> Result<bool, AllocError>
+    ensures step { OnOk result (IsStep T.keeping depth (T.tree document.old) (T.tree document.new) out.old.items out.new.items (command_view command.now)) }
+    ensures printed { IfOk result (λ again. again ≡ true → IsPrinted (T.tree document.new) text.new.items) }
 {
     match command {
-        Command::Get(path) => document.get(path, out),
-        Command::Contains(path, key) => document.contains(path, key, out),
-        Command::TypeOf(path) => document.type_of(path, out),
-        Command::Len(path) => document.len(path, out),
-        Command::Keys(path) => document.keys(path, out),
-        Command::Insert(path, key, value) => document.insert(path, key, value, depth, out),
-        Command::Remove(path, key) => document.remove(path, key, out),
-        Command::Push(path, value) => document.push(path, value, depth, out),
-        Command::Pop(path) => document.pop(path, out),
-        Command::SetAt(path, value) => document.set_at(path, value, depth, out),
+        Command::Get(path) => document.get(path, out)?,
+        Command::Contains(path, key) => document.contains(path, key, out)?,
+        Command::TypeOf(path) => document.type_of(path, out)?,
+        Command::Len(path) => document.len(path, out)?,
+        Command::Keys(path) => document.keys(path, out)?,
+        Command::Insert(path, key, value) => document.insert(path, key, value, depth, out)?,
+        Command::Remove(path, key) => document.remove(path, key, out)?,
+        Command::Push(path, value) => document.push(path, value, depth, out)?,
+        Command::Pop(path) => document.pop(path, out)?,
+        Command::SetAt(path, value) => document.set_at(path, value, depth, out)?,
+        Command::Reload => {
+            text.clear();
+            document.text(text)?;
+            return put_reload(text, out);
+        }
+        Command::ReloadPp => {
+            text.clear();
+            document.pretty(text)?;
+            return put_reload(text, out);
+        }
     }
+    Ok(false)
+}
+
+/// Appends the reply to a reload, and answers the same: whether the text can be read.
+fn put_reload(text: &[u8], out: &mut Vec<u8>) -> Result<bool, AllocError>
+    ensures answers { IfOk result (λ is_read. is_read ≡ nat_le (length text.now) longest) }
+    ensures replies { OnOk result (out.new.items ≡ out.old.items ++ text_of (reload_reply text.now)) }
+{
+    let is_read = text.len() <= u32::MAX as usize;
+    let reply: &[u8] = if is_read { b"true" } else { b"false" };
+    out.extend_from_slice(reply)?;
+    Ok(is_read)
 }
 
 fn put_fault_record(fault: Error, out: &mut Vec<u8>) -> Result<(), AllocError>
-    ensures { OnOk result (out.new.items ≡ out.old.items ++ text (fault_record fault)) }
+    ensures { OnOk result (out.new.items ≡ out.old.items ++ text_of (fault_record fault)) }
 {
     out.extend_from_slice(b"{\"error\":")?;
     put_string(out, fault.error().name())?;
@@ -244,7 +353,7 @@ fn put_fault_record(fault: Error, out: &mut Vec<u8>) -> Result<(), AllocError>
 }
 
 fn put_character(character: Option<char>, out: &mut Vec<u8>) -> Result<(), AllocError>
-    ensures { OnOk result (out.new.items ≡ out.old.items ++ text (character_of character)) }
+    ensures { OnOk result (out.new.items ≡ out.old.items ++ text_of (character_of character)) }
 {
     match character {
         Some(character) => put_string(out, character.encode_utf8(&mut [0; 4])),

@@ -86,7 +86,10 @@ fn places(rt: HostRuntime) -> Result<(), Fail> {
     assert_eq!(rt; object.remove("k0"), Some(0));
     assert_eq!(rt; (object.get("k32"), object.len()), (Some(&32), 32));
     assert_eq!(rt; object.insert(String::from_str(alloc, "k0")?, 7)?, None);
-    assert_eq!(rt; (object.place("k1"), object.place("k0")), (Some(0), Some(32)));
+    assert_eq!(rt;
+        (object.place("k1"), object.place("k0")),
+        (Some(0), Some(32))
+    );
     assert_eq!(rt; (object.remove("k1"), object.place("k1")), (Some(1), None));
     let key = String::from_str(alloc, "k1")?;
     if object.contains_key(&key) {

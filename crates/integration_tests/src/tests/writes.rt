@@ -7,7 +7,7 @@ use std::process::Abort;
 use std::test::Fail;
 
 // Looks for the record of one line under a script.
-fn check(
+pub(super) fn check(
     rt: &impl Abort,
     alloc: Global,
     script: &str,
@@ -23,52 +23,55 @@ fn check(
     Ok(())
 }
 
+// A script, a line and its record, the same in each form.
+pub(super) const WORKED: [(&str, &str, &str); 7] = [
+    (
+        r#"[["get",["key"]],["insert",[],"new",42],["get",["new"]]]"#,
+        r#"{"key": "value", "snot": 42}"#,
+        r#"{"replies":[["value"],[],[42]],"document":{"key":"value","snot":42,"new":42}}"#,
+    ),
+    (
+        r#"[["type",[]]]"#,
+        "null",
+        r#"{"replies":["null"],"document":null}"#,
+    ),
+    (
+        r#"[["insert",[],"x",{"a":1,"a":2}]]"#,
+        "{}",
+        r#"{"replies":[[]],"document":{"x":{"a":1}}}"#,
+    ),
+    (
+        r#"[["contains",[],"b"],["contains",["a"],"b"],["type",["a",1]],["keys",[]],["keys",["a"]],["len",["b"]],["pop",["a"]],["remove",[],"b"],["remove",[],"b"],["set",["a",0],2.50],["type",["a",0]],["get",["z"]],["len",["z"]]]"#,
+        r#"{"a":[1,"x"],"b":null}"#,
+        r#"{"replies":[true,false,"string",["a","b"],"NotAnObject","NotAContainer",["x"],[null],[],[1],"decimal",[],"NoSuchPath"],"document":{"a":[2.50]}}"#,
+    ),
+    (
+        r#"[["set",[],[1,2]],["type",[]],["set",[5],0],["pop",[]]]"#,
+        "{}",
+        r#"{"replies":[[{}],"array","NoSuchPath",[2]],"document":[1]}"#,
+    ),
+    (
+        r#"[["insert",["o","i",1],"s","t\u0001"],["set",["o","i",1,"s"],"é"],["push",["o","i"],[{"k":1.50}]],["get",["o"]],["remove",["o"],"i"]]"#,
+        r#"{"o":{"i":[0,{}]}}"#,
+        r#"{"replies":[[],["t\u0001"],[],[{"i":[0,{"s":"é"},[{"k":1.50}]]}],[[0,{"s":"é"},[{"k":1.50}]]]],"document":{"o":{}}}"#,
+    ),
+    (
+        r#"[["type",[0]],["type",[1]],["type",[2]],["type",[3]],["type",[4]],["type",[5]],["type",[6]],["type",[7]],["type",[8]]]"#,
+        r#"[null,true,-1,1,1.0,"",[],{}]"#,
+        r#"{"replies":["null","bool","integer","integer","decimal","string","array","object","NoSuchPath"],"document":[null,true,-1,1,1.0,"",[],{}]}"#,
+    ),
+];
+
 #[test]
 fn worked_scripts(rt: HostRuntime) -> Result<(), Fail> {
-    for (script, line, record) in [
-        (
-            r#"[["get",["key"]],["insert",[],"new",42],["get",["new"]]]"#,
-            r#"{"key": "value", "snot": 42}"#,
-            r#"{"replies":[["value"],[],[42]],"document":{"key":"value","snot":42,"new":42}}"#,
-        ),
-        (
-            r#"[["type",[]]]"#,
-            "null",
-            r#"{"replies":["null"],"document":null}"#,
-        ),
-        (
-            r#"[["insert",[],"x",{"a":1,"a":2}]]"#,
-            "{}",
-            r#"{"replies":[[]],"document":{"x":{"a":1}}}"#,
-        ),
-        (
-            r#"[["contains",[],"b"],["contains",["a"],"b"],["type",["a",1]],["keys",[]],["keys",["a"]],["len",["b"]],["pop",["a"]],["remove",[],"b"],["remove",[],"b"],["set",["a",0],2.50],["type",["a",0]],["get",["z"]],["len",["z"]]]"#,
-            r#"{"a":[1,"x"],"b":null}"#,
-            r#"{"replies":[true,false,"string",["a","b"],"NotAnObject","NotAContainer",["x"],[null],[],[1],"decimal",[],"NoSuchPath"],"document":{"a":[2.50]}}"#,
-        ),
-        (
-            r#"[["set",[],[1,2]],["type",[]],["set",[5],0],["pop",[]]]"#,
-            "{}",
-            r#"{"replies":[[{}],"array","NoSuchPath",[2]],"document":[1]}"#,
-        ),
-        (
-            r#"[["insert",["o","i",1],"s","t\u0001"],["set",["o","i",1,"s"],"é"],["push",["o","i"],[{"k":1.50}]],["get",["o"]],["remove",["o"],"i"]]"#,
-            r#"{"o":{"i":[0,{}]}}"#,
-            r#"{"replies":[[],["t\u0001"],[],[{"i":[0,{"s":"é"},[{"k":1.50}]]}],[[0,{"s":"é"},[{"k":1.50}]]]],"document":{"o":{}}}"#,
-        ),
-        (
-            r#"[["type",[0]],["type",[1]],["type",[2]],["type",[3]],["type",[4]],["type",[5]],["type",[6]],["type",[7]],["type",[8]]]"#,
-            r#"[null,true,-1,1,1.0,"",[],{}]"#,
-            r#"{"replies":["null","bool","integer","integer","decimal","string","array","object","NoSuchPath"],"document":[null,true,-1,1,1.0,"",[],{}]}"#,
-        ),
-    ] {
+    for (script, line, record) in &WORKED {
         check(&rt, rt.alloc(), script, line, LIMIT, record)?;
     }
     Ok(())
 }
 
 // A script, a line in which a key stands twice, its record where only the first member is kept, and that of the form `Lazy`.
-const REPEATED_KEYS: [(&str, &str, &str, &str); 5] = [
+pub(super) const REPEATED_KEYS: [(&str, &str, &str, &str); 5] = [
     (
         "[]",
         r#"{"a":1,"\u0061":2}"#,

@@ -90,7 +90,7 @@ fn faulty_lines(rt: HostRuntime) {
 }
 
 // Each command of the README on `{"a":[1,2],"b":"x"}`, its reply, and the document after it.
-const EXAMPLES: [(&str, &str, &str); 10] = [
+const EXAMPLES: [(&str, &str, &str); 12] = [
     (r#"["get",["a",1]]"#, r#"[2]"#, r#"{"a":[1,2],"b":"x"}"#),
     (
         r#"["contains",[],"b"]"#,
@@ -113,6 +113,8 @@ const EXAMPLES: [(&str, &str, &str); 10] = [
         r#"["x"]"#,
         r#"{"a":[1,2],"b":null}"#,
     ),
+    (r#"["reload"]"#, r#"true"#, r#"{"a":[1,2],"b":"x"}"#),
+    (r#"["reload_pp"]"#, r#"true"#, r#"{"a":[1,2],"b":"x"}"#),
 ];
 
 #[test]

@@ -1,8 +1,8 @@
--- The edits of documents, what is appended of them, and how the elements of an array are kept apart in
--- its text.
-use Rattle.std.specs.Prelude.{◌≡◌, ℕ, Bool, true, false, List, [], ◌∷◌, Option, Some, None, option_map, Result, Ok, Err, IsErr, codes}
+-- The edits of documents, what is appended of them, and how the elements of an array are kept apart in its text.
+use Rattle.std.specs.Prelude.{◌≡◌, ℕ, Bool, true, false, List, [], ◌∷◌, Option, Some, None, option_map, Result, Ok, Err, IsErr, codes, ◌++◌}
+use Rattle.std.specs.Io.{StartsWith}
 use Rattle.sj_base.specs.Containers.{members_in}
-use Rattle.sj_base.specs.Tree.{Tree, Members, string, list}
+use Rattle.sj_base.specs.Tree.{Tree, Items, Members, string, list}
 use Rattle.sj_base.specs.Scalar.{scalar_tree}
 use Rattle.sj_base.specs.declared.scalar.Scalar.{Scalar}
 use Rattle.sj_records.specs.declared.edit.Edit.{Edit}
@@ -12,16 +12,25 @@ use Rattle.sj_records.specs.declared.refusal.Refusal.TheVariants.{NoSuchPath, No
 use Rattle.sj_records.specs.declared.read_error.ReadError.{ReadError}
 use Rattle.sj_records.specs.declared.read_error.ReadError.TheVariants.{Memory, Refused}
 use Rattle.std.specs.declared.alloc.AllocError.{AllocError}
-use Rattle.sj_base.specs.Text.{text}
+use Rattle.sj_base.specs.Text.{text, items_text, more_items_text}
 use Rattle.sj_records.specs.Values.{document_tree}
 use Rattle.sj_records.specs.Script.{AppendsOrLeaves}
-use Rattle.sj_records.specs.inside.Progress.{AppendsOrGrows}
 use Rattle.sj_records.specs.Step.{Word, Change, reply_of, insertion, removal, pushing, popping, setting, key_items}
 
 -- what stands before an element that is the first or another
 abbrev pub separator : Bool → List ℕ
 separator true = []
 separator false = 0x2c ∷ []
+
+-- the text of the items from the first of them on, or from another
+abbrev pub items_left : Bool → Items → List ℕ
+items_left true ts = items_text ts
+items_left false ts = more_items_text ts
+
+-- The bytes were appended, or nothing that stood before was changed.
+abbrev pub AppendsOrGrows : {E : Type 0} → Result Unit E → List ℕ → List ℕ → List ℕ → Type 0
+AppendsOrGrows (Ok done) old new bytes = new ≡ old ++ bytes
+AppendsOrGrows (Err e) old new bytes = StartsWith new old
 
 -- the word of a refusal
 abbrev pub refusal_name : Refusal → Word

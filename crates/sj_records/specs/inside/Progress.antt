@@ -1,25 +1,19 @@
--- What has been written: of a text, and of the lines that were cut so far.
+-- What has been written of the lines that were cut so far, and by one command.
 use Rattle.std.specs.Prelude.{◌≡◌, ◌≢◌, ℕ, List, ◌++◌, [], take, Option, Result, Ok, Err}
 use Rattle.std.specs.List.{AllByRecursion}
-use Rattle.std.specs.Io.{StartsWith}
 use Rattle.std.specs.Io.KnownBytes.{Appends}
 use Rattle.sj_base.specs.Output.{AppendsPrefix}
-use Rattle.sj_base.specs.Tree.{Tree, Items}
+use Rattle.sj_base.specs.Tree.{Tree}
 use Rattle.sj_records.specs.declared.run_error.RunError.{RunError}
 use Rattle.sj_records.specs.declared.run_error.RunError.TheVariants.{Memory, Write, Read, TooManyReads}
 use Rattle.sj_records.specs.declared.task.Task.{Task}
 use Rattle.sj_records.specs.declared.task.Scratch.{Scratch}
 use Rattle.sj_parse.specs.Answers.{buffer_limit}
-use Rattle.sj_records.specs.Step.{Job, Keeping, State, step, replies, after}
+use Rattle.sj_records.specs.Step.{Job, Keeping, State, step}
 use Rattle.sj_records.specs.Command.{Step}
 use Rattle.sj_base.specs.Text.{text}
 use Rattle.sj_records.specs.Record.{AreRecords}
-use Rattle.sj_records.specs.Script.{job_of}
-
--- The bytes were appended, or nothing that stood before was changed.
-abbrev pub AppendsOrGrows : {E : Type 0} → Result Unit E → List ℕ → List ℕ → List ℕ → Type 0
-AppendsOrGrows (Ok done) old new bytes = new ≡ old ++ bytes
-AppendsOrGrows (Err e) old new bytes = StartsWith new old
+use Rattle.sj_records.specs.Job.{job_of}
 
 abbrev pub HasNoLineFeed : List ℕ → Type 0
 HasNoLineFeed bs = AllByRecursion (λ b. b ≢ 0x0a) bs
@@ -62,14 +56,6 @@ LeavesBytes (Err TooManyReads) old new bytes = ⊥
 -- the state of a document on which no command has run
 abbrev pub first_state : Tree → State
 first_state t = record { tree = t; bases = [] }
-
--- the replies to the task's script
-abbrev pub replies_to : Task → Tree → Items
-replies_to task t = replies (task_job task) (first_state t) (task_job task).script
-
--- the document after the task's script
-abbrev pub tree_after : Task → Tree → Tree
-tree_after task t = (after (task_job task) (first_state t) (task_job task).script).tree
 
 -- The reply to a command on the tree t was appended, and u is the tree after it.
 abbrev pub IsStep : Keeping → ℕ → Tree → Tree → List ℕ → List ℕ → Step → Type 0

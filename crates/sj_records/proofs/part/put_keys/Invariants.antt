@@ -4,7 +4,7 @@ use Rattle.sj_base.specs.Text.{items_text}
 use Rattle.sj_object.specs.Iterators.{entries_left}
 use Rattle.sj_owned.specs.Views.{members_view}
 use Rattle.sj_records.specs.Step.{key_items}
-use Rattle.sj_records.proofs.Printed.{items_left}
+use Rattle.sj_records.specs.inside.Documents.{items_left}
 use Rattle.sj_records.proofs.part.put_keys.Given as goal
 
 abbrev pub invariant-loop-key : goal.invariant-loop-key

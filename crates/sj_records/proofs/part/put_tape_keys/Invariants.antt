@@ -3,7 +3,7 @@ use Rattle.std.specs.Io.{StartsWith}
 use Rattle.sj_base.specs.Text.{items_text}
 use Rattle.sj_tape.specs.Views.{pairs_left, pair_tree, object_members}
 use Rattle.sj_records.specs.Step.{key_items}
-use Rattle.sj_records.proofs.Printed.{items_left}
+use Rattle.sj_records.specs.inside.Documents.{items_left}
 use Rattle.sj_records.proofs.TapeKeys.{keys_of}
 use Rattle.sj_records.proofs.part.put_tape_keys.Given as goal
 

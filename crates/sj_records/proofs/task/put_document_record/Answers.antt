@@ -1,34 +1,48 @@
-use Rattle.std.proofs.Common.{List, ℕ, ◌++◌, sym, ap, ◌∙◌}
-use Rattle.std.proofs.lemmas.Result.{on_ok_weaker}
+use Rattle.std.proofs.Common.{true, false, ap, ◌∙◌, arith}
+use Rattle.std.specs.Option.{option_copied}
 use Rattle.sj_tape.specs.Views.{tape_nodes, nodes_tree}
-use Rattle.sj_records.specs.Script.{keeping_of}
-use Rattle.sj_records.specs.Step.{start}
-use Rattle.sj_records.proofs.RecordText.{outcome-started}
+use Rattle.sj_records.specs.Script.{commands_view}
+use Rattle.sj_records.specs.Step.{begun, after}
+use Rattle.sj_records.specs.inside.Progress.{task_job}
+use Rattle.sj_records.proofs.Readable.{script_found, readable_after, started_again}
+use Rattle.sj_records.proofs.RecordText.{record_begun, Runs-on, left_len, fewer_left}
 use Rattle.sj_records.proofs.task.put_document_record.Goals as goal
 
-pub put_outcome-requires : goal.put_outcome-requires
-put_outcome-requires c = sym (ap keeping_of c.in-Owned.is)
+pub run_on_text-requires-clause-readable : goal.run_on_text-requires-clause-readable
+run_on_text-requires-clause-readable c =
+    let job = task_job c.args.task in
+    let t = nodes_tree (tape_nodes c.args.tape.now) in
+    let r = rw c.in-Some.is at c.loop-left.invariant.0 in
+    let sound = script_found job.script c.commands-commands.ensures.accepted in
+    ((after job (begun job t) r.ran).tree, readable_after job t r.ran (commands_view c.in-Some.commands.now) r.parts sound c.requires.readable, r.is_printed)
 
-pub put_outcome-requires-in-Borrowed : goal.put_outcome-requires-in-Borrowed
-put_outcome-requires-in-Borrowed c = sym (ap keeping_of c.in-Borrowed.is)
+pub loop-left-smaller : goal.loop-left-smaller
+loop-left-smaller c =
+    let job = task_job c.args.task in
+    let t = nodes_tree (tape_nodes c.args.tape.now) in
+    let left = commands_view c.in-Some.commands.now in
+    let r = rw c.in-Some.is at c.loop-left.invariant.0 in
+    let sound = script_found job.script c.commands-commands.ensures.accepted in
+    let s = after job (begun job t) r.ran in
+    let runs = c.in_ok-left-2.ensures.runs s (readable_after job t r.ran left r.parts sound c.requires.readable) r.is_printed (started_again job t r.ran left r.parts sound) in
+    let fewer = fewer_left job s left false (option_copied c.in_ok-left-2.left) _ _ _ runs in
+    let before = ap (λ o. left_len (option_copied o)) c.in-Some.is in
+    omega arith
 
-pub put_outcome-requires-in-Lazy : goal.put_outcome-requires-in-Lazy
-put_outcome-requires-in-Lazy c = sym (ap keeping_of c.in-Lazy.is)
+pub loop-left-preserved : goal.loop-left-preserved
+loop-left-preserved c =
+    let job = task_job c.args.task in
+    let t = nodes_tree (tape_nodes c.args.tape.now) in
+    let left = commands_view c.in-Some.commands.now in
+    let r = rw c.in-Some.is at c.loop-left.invariant.0 in
+    let sound = script_found job.script c.commands-commands.ensures.accepted in
+    let s = after job (begun job t) r.ran in
+    let runs = c.in_ok-left-2.ensures.runs s (readable_after job t r.ran left r.parts sound c.requires.readable) r.is_printed (started_again job t r.ran left r.parts sound) in
+    (Runs-on job (begun job t) job.script left true (option_copied c.in_ok-left-2.left) _ _ _ _ _ r runs, c.in_ok-left-2.ensures.limit ∙ c.loop-left.invariant.1)
 
-pub returns-in_ok-document-in-Owned : goal.returns-in_ok-document-in-Owned
-returns-in_ok-document-in-Owned c =
-    let tree = nodes_tree (tape_nodes c.args.tape.now) in
-    let begins = c.in_ok-document-in-Owned.ensures ∙ ap (start tree) (sym (ap keeping_of c.in-Owned.is)) in
-    on_ok_weaker c.put_outcome.result (λ put. put ∙ ap (λ (bs : List ℕ). c.args.out.now.items ++ bs) (outcome-started c.args.task tree _ begins)) c.put_outcome.ensures
-
-pub returns-in_ok-document-in-Borrowed : goal.returns-in_ok-document-in-Borrowed
-returns-in_ok-document-in-Borrowed c =
-    let tree = nodes_tree (tape_nodes c.args.tape.now) in
-    let begins = c.in_ok-document-in-Borrowed.ensures ∙ ap (start tree) (sym (ap keeping_of c.in-Borrowed.is)) in
-    on_ok_weaker c.put_outcome-in-Borrowed.result (λ put. put ∙ ap (λ (bs : List ℕ). c.args.out.now.items ++ bs) (outcome-started c.args.task tree _ begins)) c.put_outcome-in-Borrowed.ensures
-
-pub returns-in-Lazy : goal.returns-in-Lazy
-returns-in-Lazy c =
-    let tree = nodes_tree (tape_nodes c.args.tape.now) in
-    let begins = c.new.ensures ∙ ap nodes_tree c.as_value.ensures.nodes ∙ ap (start tree) (sym (ap keeping_of c.in-Lazy.is)) in
-    on_ok_weaker c.put_outcome-in-Lazy.result (λ put. put ∙ ap (λ (bs : List ℕ). c.args.out.now.items ++ bs) (outcome-started c.args.task tree _ begins)) c.put_outcome-in-Lazy.ensures
+pub returns-clause-holds : goal.returns-clause-holds
+returns-clause-holds c =
+    let job = task_job c.args.task in
+    let t = nodes_tree (tape_nodes c.args.tape.now) in
+    let ended = rw c.in_default.is at c.loop-left.invariant.0 in
+    ended ∙ record_begun job (begun job t) job.script c.args.out.now.items

@@ -1,14 +1,25 @@
-use Rattle.std.proofs.Common.{◌≡◌, ℕ, Some, inl, inr, refl, subst, ap}
+use Rattle.std.proofs.Common.{◌≡◌, ℕ, Some, inl, inr, refl, sym, subst, ap}
 use Rattle.std.proofs.lemmas.Result.{on_ok_weaker}
 use Rattle.sj_base.specs.Spelling.{Document}
 use Rattle.sj_base.specs.Text.{text}
+use Rattle.sj_base.specs.Tree.{Tree}
+use Rattle.sj_base.proofs.Trees.{only_trees}
 use Rattle.sj_parse.specs.Fault.{fault}
 use Rattle.sj_tape.specs.Nodes.{entries}
 use Rattle.sj_tape.specs.Views.{tape_nodes, nodes_tree}
 use Rattle.sj_tape.proofs.Listings.{tree_from}
 use Rattle.sj_records.specs.Record.{outcome, fault_record}
 use Rattle.sj_records.specs.inside.Progress.{task_job}
+use Rattle.sj_records.specs.inside.Reloads.{IsReadable}
 use Rattle.sj_records.proofs.task.put_record.Goals as goal
+
+pub put_document_record-requires-clause-readable : goal.put_document_record-requires-clause-readable
+put_document_record-requires-clause-readable c =
+    let found = c.in-Ok.ensures.found in
+    let nodes = tape_nodes c.read_tape.new.tape in
+    let document = subst (λ (limit : ℕ). Document c.args.line.now limit found.0) c.requires found.1 in
+    let is : nodes_tree nodes ≡ found.0 = tree_from (entries nodes) found.0 found.2 in
+    subst (λ (t : Tree). IsReadable c.args.task.depth t) (sym is) (only_trees c.args.line.now found.0 document.spells, document.shallow)
 
 pub returns-in-Ok-clause-holds : goal.returns-in-Ok-clause-holds
 returns-in-Ok-clause-holds c =
@@ -17,7 +28,7 @@ returns-in-Ok-clause-holds c =
     let nodes = tape_nodes c.read_tape.new.tape in
     let document = subst (λ (limit : ℕ). Document c.args.line.now limit found.0) c.requires found.1 in
     let is : nodes_tree nodes ≡ found.0 = tree_from (entries nodes) found.0 found.2 in
-    on_ok_weaker c.put_document_record.result (λ put. (text (outcome job (nodes_tree nodes)), put, inl (found.0, document, ap (λ t. text (outcome job t)) is))) c.put_document_record.ensures
+    on_ok_weaker c.put_document_record.result (λ put. (text (outcome job (nodes_tree nodes)), put, inl (found.0, document, ap (λ t. text (outcome job t)) is))) c.put_document_record.ensures.holds
 
 pub returns-in-Err-Refused-clause-holds : goal.returns-in-Err-Refused-clause-holds
 returns-in-Err-Refused-clause-holds c =

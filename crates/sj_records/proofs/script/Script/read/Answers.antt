@@ -27,3 +27,7 @@ returns-in_err-commands-clause-refused c =
 pub returns-clause-ok : goal.returns-clause-ok
 returns-clause-ok c =
     read_as c.args.bytes.now (document_tree c.in_ok-document.document) _ c.in_ok-document.ensures.answers c.in_ok-commands.ensures
+
+pub invariant_of-result : goal.invariant_of-result
+invariant_of-result c =
+    record { is_accepted = ∣ (c.args.bytes.now, read_as c.args.bytes.now (document_tree c.in_ok-document.document) _ c.in_ok-document.ensures.answers c.in_ok-commands.ensures) ∣₁ }

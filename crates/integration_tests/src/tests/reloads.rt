@@ -1,0 +1,189 @@
+//! Reloads: worked rows, and what stays the same with a reload at each place of a script.
+use super::writes::{REPEATED_KEYS, WORKED, check};
+use super::{LIMIT, expect, expect_in};
+use sj_owned::{OwnedValue, to_owned_value};
+use sj_records::Form;
+use std::alloc::{AllocError, Global};
+use std::test::Fail;
+
+const RELOADS: [&str; 2] = [r#"["reload"]"#, r#"["reload_pp"]"#];
+
+#[test]
+fn worked_reloads(rt: HostRuntime) -> Result<(), Fail> {
+    for (script, line, depth, record) in [
+        (
+            r#"[["reload_pp"],["remove",[],"a"],["reload"]]"#,
+            r#"{"a":1.0e5,"b":"\u001F"}"#,
+            LIMIT,
+            r#"{"replies":[true,[1.0e5],true],"document":{"b":"\u001f"}}"#,
+        ),
+        (
+            r#"[["reload"]]"#,
+            "7",
+            0,
+            r#"{"replies":[true],"document":7}"#,
+        ),
+        (
+            r#"[["reload"],["push",[],7],["get",[0]]]"#,
+            "[-0, 1.50]",
+            LIMIT,
+            r#"{"replies":[true,[],[0]],"document":[0,1.50,7]}"#,
+        ),
+        (
+            r#"[["push",[],[]],["reload"],["push",[0],[]],["reload_pp"],["set",[],[8]]]"#,
+            "[]",
+            2,
+            r#"{"replies":[[],true,"TooDeep",true,[[[]]]],"document":[8]}"#,
+        ),
+    ] {
+        check(&rt, rt.alloc(), script, line, depth, record)?;
+    }
+    Ok(())
+}
+
+// A reload of repeated keys leaves them as the form has them.
+#[test]
+fn reloaded_repeats(rt: HostRuntime) -> Result<(), Fail> {
+    let alloc = rt.alloc();
+    for (form, record) in [
+        (Form::Owned, r#"{"replies":[true,1],"document":{"a":1}}"#),
+        (Form::Borrowed, r#"{"replies":[true,1],"document":{"a":1}}"#),
+        (
+            Form::Lazy,
+            r#"{"replies":[true,2],"document":{"a":1,"a":2}}"#,
+        ),
+    ] {
+        let script = r#"[["reload"],["len",[]]]"#;
+        let records = format!(in alloc; "{record}\n")?;
+        expect_in(
+            form,
+            &rt,
+            alloc,
+            script,
+            "{\"a\":1,\"a\":2}\n",
+            LIMIT,
+            65536,
+            &records,
+        );
+    }
+    Ok(())
+}
+
+// A reload reads under the run's limit of levels.
+#[test]
+fn deep_reload(rt: HostRuntime) -> Result<(), Fail> {
+    let alloc = rt.alloc();
+    let mut line = String::new(alloc);
+    for bracket in ['[', ']'] {
+        for _ in 0..LIMIT + 1 {
+            line.push(bracket)?;
+        }
+    }
+    let record = format!(in alloc; "{{\"replies\":[true],\"document\":{line}}}")?;
+    check(&rt, alloc, r#"[["reload_pp"]]"#, &line, LIMIT + 1, &record)
+}
+
+fn put_item(text: &mut String, item: &str) -> Result<(), AllocError> {
+    if text.len() > 1 {
+        text.push(',')?;
+    }
+    text.push_str(item)
+}
+
+// The text of an array with one more item, at this place.
+fn with_item(alloc: Global, array: &OwnedValue, place: usize, item: &str) -> Result<String, Fail> {
+    let mut text = String::from_str(alloc, "[")?;
+    let mut is_put = false;
+    for (at, other) in array.as_array().ok_or("no array")?.iter().enumerate() {
+        if at == place {
+            put_item(&mut text, item)?;
+            is_put = true;
+        }
+        put_item(&mut text, &other.to_string(alloc)?)?;
+    }
+    if !is_put {
+        put_item(&mut text, item)?;
+    }
+    text.push(']')?;
+    Ok(text)
+}
+
+fn read(alloc: Global, text: &str) -> Result<OwnedValue, Fail> {
+    let mut bytes = text.as_bytes().to_vec(alloc)?;
+    Ok(to_owned_value(alloc, &mut bytes)?)
+}
+
+// The record with the reply of a reload at this place.
+fn with_reply(alloc: Global, record: &str, place: usize) -> Result<String, Fail> {
+    let (front, document) = record.split_once(",\"document\":").ok_or("no document")?;
+    let replies = front.strip_prefix("{\"replies\":").ok_or("no replies")?;
+    let replies = with_item(alloc, &read(alloc, replies)?, place, "true")?;
+    Ok(format!(in alloc; "{{\"replies\":{replies},\"document\":{document}")?)
+}
+
+fn len(array: &OwnedValue) -> Result<usize, Fail> {
+    Ok(array.as_array().ok_or("no array")?.len())
+}
+
+#[test]
+fn reloads_change_nothing(rt: HostRuntime) -> Result<(), Fail> {
+    let alloc = rt.alloc();
+    for (script, line, record) in &WORKED {
+        let commands = read(alloc, script)?;
+        for reload in RELOADS {
+            for place in 0..len(&commands)? + 1 {
+                let script = with_item(alloc, &commands, place, reload)?;
+                let record = with_reply(alloc, record, place)?;
+                check(&rt, alloc, &script, line, LIMIT, &record)?;
+            }
+        }
+    }
+    Ok(())
+}
+
+// Where a key stands twice, in each form.
+#[test]
+fn reloads_keep_repeats(rt: HostRuntime) -> Result<(), Fail> {
+    let alloc = rt.alloc();
+    for (script, line, kept, lazy) in &REPEATED_KEYS {
+        let commands = read(alloc, script)?;
+        let stream = format!(in alloc; "{line}\n")?;
+        for reload in RELOADS {
+            for place in 0..len(&commands)? + 1 {
+                let script = with_item(alloc, &commands, place, reload)?;
+                for (form, record) in [
+                    (Form::Owned, *kept),
+                    (Form::Borrowed, *kept),
+                    (Form::Lazy, *lazy),
+                ] {
+                    let record = with_reply(alloc, record, place)?;
+                    let records = format!(in alloc; "{record}\n")?;
+                    expect_in(form, &rt, alloc, &script, &stream, LIMIT, 65536, &records);
+                }
+            }
+        }
+    }
+    Ok(())
+}
+
+// Texts of the lines before leave nothing, nor do lines with a fault.
+#[test]
+fn reloads_of_lines(rt: HostRuntime) {
+    let script = r#"[["reload_pp"],["push",[],"x"],["reload"],["reload_pp"],["pop",[]]]"#;
+    let stream = r#"["a long text that is printed first"]
+[1]
+[1,]
+[]
+{"a":1}
+"#;
+    let records =
+        r#"{"replies":[true,[],true,true,["x"]],"document":["a long text that is printed first"]}
+{"replies":[true,[],true,true,["x"]],"document":[1]}
+{"error":"InternalError","index":3,"character":"]"}
+{"replies":[true,[],true,true,["x"]],"document":[]}
+{"replies":[true,"NotAnArray",true,true,"NotAnArray"],"document":{"a":1}}
+"#;
+    for step in [1, 65536] {
+        expect(&rt, rt.alloc(), script, stream, LIMIT, step, records);
+    }
+}

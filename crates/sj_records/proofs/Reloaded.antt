@@ -1,0 +1,52 @@
+-- A reload changes nothing.
+use Rattle.std.proofs.Common.{◌≡◌, List, [], ◌∷◌, ◌++◌, refl, ap, ap₂, ◌∙◌}
+use Rattle.sj_base.specs.Tree.{Tree, Items, item}
+use Rattle.sj_base.specs.Text.{text, pretty}
+use Rattle.sj_records.specs.Command.{Step, get, contains, type_of, len, keys, insert, remove, push, pop, set_at, reload, reload_pp}
+use Rattle.sj_records.specs.Step.{Job, State, begun, step, replies, after}
+use Rattle.sj_records.specs.Record.{record_of, outcome}
+use Rattle.sj_records.specs.Laws.{with_script, items_then, ChangesNothing}
+use Rattle.sj_records.proofs.RecordText.{after_join}
+
+replies_join : (job : Job) (s : State) (cs ds : List Step) → replies job s (cs ++ ds) ≡ items_then (replies job s cs) (replies job (after job s cs) ds)
+replies_join job s [] ds = refl
+replies_join job s (c ∷ cs) ds = ap (item (step job s c).0) (replies_join job (step job s c).1 cs ds)
+
+-- what a command does hangs on no script
+same_step : (job : Job) (script : List Step) (s : State) (c : Step) → step (with_script job script) s c ≡ step job s c
+same_step job script s (get path) = refl
+same_step job script s (contains path k) = refl
+same_step job script s (type_of path) = refl
+same_step job script s (len path) = refl
+same_step job script s (keys path) = refl
+same_step job script s (insert path k v) = refl
+same_step job script s (remove path k) = refl
+same_step job script s (push path v) = refl
+same_step job script s (pop path) = refl
+same_step job script s (set_at path v) = refl
+same_step job script s reload = refl
+same_step job script s reload_pp = refl
+
+same_replies : (job : Job) (script : List Step) (s : State) (cs : List Step) → replies (with_script job script) s cs ≡ replies job s cs
+same_replies job script s [] = refl
+same_replies job script s (c ∷ cs) =
+    ap (λ (p : Tree × State). item p.0 (replies (with_script job script) p.1 cs)) (same_step job script s c) ∙ ap (item (step job s c).0) (same_replies job script (step job s c).1 cs)
+
+same_after : (job : Job) (script : List Step) (s : State) (cs : List Step) → after (with_script job script) s cs ≡ after job s cs
+same_after job script s [] = refl
+same_after job script s (c ∷ cs) =
+    ap (λ (p : Tree × State). after (with_script job script) p.1 cs) (same_step job script s c) ∙ same_after job script (step job s c).1 cs
+
+-- the record of two scripts, one behind the other
+joined : (job : Job) (t : Tree) (cs ds : List Step) → let s = after job (begun job t) cs in
+    outcome (with_script job (cs ++ ds)) t ≡ record_of (items_then (replies job (begun job t) cs) (replies job s ds)) (after job s ds).tree
+joined job t cs ds =
+    ap₂ (λ (rs : Items) (s : State). record_of rs s.tree)
+    (same_replies job (cs ++ ds) (begun job t) (cs ++ ds) ∙ replies_join job (begun job t) cs ds)
+    (same_after job (cs ++ ds) (begun job t) (cs ++ ds) ∙ after_join job (begun job t) cs ds)
+
+pub reload_changes_nothing : ChangesNothing reload text
+reload_changes_nothing job t before behind = (joined job t before behind, joined job t before (reload ∷ behind))
+
+pub reload_pp_changes_nothing : ChangesNothing reload_pp pretty
+reload_pp_changes_nothing job t before behind = (joined job t before behind, joined job t before (reload_pp ∷ behind))

@@ -1,0 +1,16 @@
+use Rattle.std.proofs.Common.{◌≡◌, length}
+use Rattle.sj_records.specs.Step.{State, after}
+use Rattle.sj_records.specs.Script.{commands_view}
+use Rattle.sj_records.specs.inside.Progress.{task_job}
+use Rattle.sj_records.proofs.RecordText.{Running}
+use Rattle.sj_records.proofs.task.run_commands.Given as goal
+
+-- from any state with the tree that the document began with
+abbrev pub invariant-loop-command : goal.invariant-loop-command
+invariant-loop-command g l =
+    (s : State) → s.tree ≡ g.T.Document.tree l.initial.document
+    → (r : Running (task_job l.task) s (commands_view l.commands) (commands_view l.left) l.is_first l.is_next_first l.initial.out.items l.out.items)
+    × ((after (task_job l.task) s r.ran).tree ≡ g.T.Document.tree l.document)
+
+abbrev pub decreases-loop-command : goal.decreases-loop-command
+decreases-loop-command g l = length l.left
