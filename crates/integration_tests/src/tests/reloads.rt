@@ -4,6 +4,7 @@ use super::{LIMIT, expect, expect_in};
 use sj_owned::{OwnedValue, to_owned_value};
 use sj_records::Form;
 use std::alloc::{AllocError, Global};
+use std::str;
 use std::test::Fail;
 
 const RELOADS: [&str; 2] = [r#"["reload"]"#, r#"["reload_pp"]"#];
@@ -99,7 +100,9 @@ fn with_item(alloc: Global, array: &OwnedValue, place: usize, item: &str) -> Res
             put_item(&mut text, item)?;
             is_put = true;
         }
-        put_item(&mut text, &other.to_string(alloc)?)?;
+        let mut shown = Vec::new(alloc);
+        other.encode(&mut shown)?;
+        put_item(&mut text, str::from_utf8(&shown).ok().ok_or("no text")?)?;
     }
     if !is_put {
         put_item(&mut text, item)?;
