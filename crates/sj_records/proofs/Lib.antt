@@ -20,3 +20,4 @@ pub mod Shown
 pub mod LazyWrites
 pub mod Reloaded
 pub mod Readable
+pub mod Continued

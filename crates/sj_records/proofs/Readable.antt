@@ -64,14 +64,11 @@ script_found script h = all_found script (∥∥₁_map h (accepted_sound script
 
 -- ---- what the first commands of a script come to
 
-front_sound : (cs ds : List Step) → AllByRecursion Sound (cs ++ ds) → AllByRecursion Sound cs
-front_sound [] ds h = tt
-front_sound (c ∷ cs) ds h = (h.0, front_sound cs ds h.1)
+pub front_sound : (script cs ds : List Step) → script ≡ cs ++ ds → AllByRecursion Sound script → AllByRecursion Sound cs
+front_sound script [] ds is h = tt
+front_sound script (c ∷ cs) ds is h = let sound = subst (λ (ls : List Step). AllByRecursion Sound ls) is h in (sound.0, front_sound (cs ++ ds) cs ds refl sound.1)
 
-module _ (job : Job) (t : Tree) (ran left : List Step) (is : job.script ≡ ran ++ left) (sounds : AllByRecursion Sound job.script) where
-  sound : AllByRecursion Sound ran
-  sound = front_sound ran left (subst (λ (cs : List Step). AllByRecursion Sound cs) is sounds)
-
+module _ (job : Job) (t : Tree) (ran : List Step) (sound : AllByRecursion Sound ran) where
   pub readable_after : IsReadable job.limit t → IsReadable job.limit (after job (begun job t) ran).tree
   readable_after h = (
     after_valid text_visible job (begun job t) ran sound (start_valid text_visible t job.keeping h.0),

@@ -27,18 +27,18 @@ same_step job script s (set_at path v) = refl
 same_step job script s reload = refl
 same_step job script s reload_pp = refl
 
-same_replies : (job : Job) (script : List Step) (s : State) (cs : List Step) → replies (with_script job script) s cs ≡ replies job s cs
+pub same_replies : (job : Job) (script : List Step) (s : State) (cs : List Step) → replies (with_script job script) s cs ≡ replies job s cs
 same_replies job script s [] = refl
 same_replies job script s (c ∷ cs) =
     ap (λ (p : Tree × State). item p.0 (replies (with_script job script) p.1 cs)) (same_step job script s c) ∙ ap (item (step job s c).0) (same_replies job script (step job s c).1 cs)
 
-same_after : (job : Job) (script : List Step) (s : State) (cs : List Step) → after (with_script job script) s cs ≡ after job s cs
+pub same_after : (job : Job) (script : List Step) (s : State) (cs : List Step) → after (with_script job script) s cs ≡ after job s cs
 same_after job script s [] = refl
 same_after job script s (c ∷ cs) =
     ap (λ (p : Tree × State). after (with_script job script) p.1 cs) (same_step job script s c) ∙ same_after job script (step job s c).1 cs
 
 -- the record of two scripts, one behind the other
-joined : (job : Job) (t : Tree) (cs ds : List Step) → let s = after job (begun job t) cs in
+pub joined : (job : Job) (t : Tree) (cs ds : List Step) → let s = after job (begun job t) cs in
     outcome (with_script job (cs ++ ds)) t ≡ record_of (items_then (replies job (begun job t) cs) (replies job s ds)) (after job s ds).tree
 joined job t cs ds =
     ap₂ (λ (rs : Items) (s : State). record_of rs s.tree)

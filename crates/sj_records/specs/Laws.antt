@@ -1,10 +1,11 @@
 -- Laws of the definitions: each line has one record, any bytes are read as a script in one way, the depth limit holds along a
--- script, and a reload changes nothing.
-use Rattle.std.specs.Prelude.{◌≡◌, ◌≢◌, ℕ, ◌≤◌, Bool, true, false, ◌||◌, List, [], ◌∷◌, ◌++◌, take}
+-- script, a second script continues the first, and a reload changes nothing.
+use Rattle.std.specs.Prelude.{◌≡◌, ◌≢◌, ℕ, ◌≤◌, Bool, true, false, ◌||◌, List, [], ◌∷◌, ◌++◌, length, take}
 use Rattle.std.specs.List.{AllByRecursion}
 use Rattle.sj_base.specs.Tree.{Tree, Items, no_items, item, depth}
 use Rattle.sj_base.specs.Keep.{IsKept}
-use Rattle.sj_base.specs.Spelling.{Document}
+use Rattle.sj_base.specs.Spelling.{longest, Document}
+use Rattle.sj_base.specs.Text.{text}
 use Rattle.sj_records.specs.Command.{Step, get, contains, type_of, len, keys, insert, remove, push, pop, set_at, reload, reload_pp}
 use Rattle.sj_records.specs.Step.{Job, Keeping, from_start, from_write, State, begun, reload_reply, replies, after}
 use Rattle.sj_records.specs.Record.{IsRecord, record_of, outcome}
@@ -79,6 +80,18 @@ with_script job cs = record { script = cs; limit = job.limit; keeping = job.keep
 abbrev pub items_then : Items → Items → Items
 items_then no_items us = us
 items_then (item t ts) us = item t (items_then ts us)
+
+-- A second script on the text that the first comes to, as a line, gives what it gives behind the first: the same replies and the
+-- same document.
+abbrev pub ScriptsContinue : Type 0
+ScriptsContinue =
+    (job : Job) (line : List ℕ) (t : Tree) (first second : List Step) → IsAccepted first → Document line job.limit t →
+    let s = after job (begun job t) first in
+    let rest = replies job s second in
+    let last = (after job s second).tree in
+    length (text s.tree) ≤ longest
+    → (outcome (with_script job (first ++ second)) t ≡ record_of (items_then (replies job (begun job t) first) rest) last)
+    × IsRecord (with_script job second) (text s.tree) (text (record_of rest last))
 
 -- Where the reload c, which prints texts like this, stands between other commands, a record has a reply more than without c. The
 -- other replies and the document are the same.

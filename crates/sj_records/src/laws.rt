@@ -1,5 +1,5 @@
 //! Laws of the definitions: each function does nothing but to call other laws, and its contract is the law.
-ghost use Rattle.sj_records.specs.Laws.{OneRecord, OneReading, DepthStays, BasesAreKept, TreesAreKept, FormsAgree, NoLineFeed, ChangesNothing};
+ghost use Rattle.sj_records.specs.Laws.{OneRecord, OneReading, DepthStays, BasesAreKept, TreesAreKept, FormsAgree, NoLineFeed, ChangesNothing, ScriptsContinue};
 ghost use Rattle.sj_records.specs.Command.{reload, reload_pp};
 ghost use Rattle.sj_base.specs.Text.{text, pretty};
 
@@ -28,6 +28,14 @@ pub fn kept_along()
     ensures bases { BasesAreKept }
     ensures trees { TreesAreKept }
 {}
+
+/// A second script continues the first: on the text that the first comes to, it gives the replies and the document that it gives
+/// behind the first, under the same limit of levels and in the same form.
+pub fn scripts_continue()
+    ensures { ScriptsContinue }
+{
+    sj_base::laws::printing_reads_back();
+}
 
 /// A reload changes nothing: without it, the replies to the other commands and the document at the end are the same.
 pub fn reload_changes_nothing()
