@@ -201,11 +201,12 @@ fn split_row(row: &str) -> Result<(&str, &str), Fail> {
     Ok(row.split_once(" => ").ok_or("a row without ` => `")?)
 }
 
-// A stream of lines, and their records.
+// A stream of lines, their records under the empty script, and those under a reload.
 #[derive(Drop)]
 struct Stream {
     bytes: Vec<u8>,
     records: String,
+    reloaded: String,
 }
 
 impl Stream {
@@ -213,6 +214,7 @@ impl Stream {
         Stream {
             bytes: Vec::new(alloc),
             records: String::new(alloc),
+            reloaded: String::new(alloc),
         }
     }
 
@@ -224,19 +226,46 @@ impl Stream {
         self.bytes.extend_from_slice(line)?;
         self.bytes.push(b'\n')?;
         self.records.push_str(record)?;
-        self.records.push('\n')
+        self.records.push('\n')?;
+        match record.strip_prefix(r#"{"replies":[]"#) {
+            Some(document) => {
+                self.reloaded.push_str(r#"{"replies":[true]"#)?;
+                self.reloaded.push_str(document)?;
+            }
+            None => self.reloaded.push_str(record)?,
+        }
+        self.reloaded.push('\n')
     }
 
     // Looks for the records under the empty script, where the lines come in pieces of `step` bytes.
     fn check(&self, rt: &impl Abort, alloc: Global, depth: usize, step: usize) {
-        let script = script_of(alloc, "[]").expect(rt, "a script");
+        self.check_under("[]", &self.records, rt, alloc, depth, step);
+    }
+
+    // Looks for the records under a reload of each kind.
+    fn check_reloads(&self, rt: &impl Abort, alloc: Global, depth: usize) {
+        for script in [r#"[["reload"]]"#, r#"[["reload_pp"]]"#] {
+            self.check_under(script, &self.reloaded, rt, alloc, depth, 65536);
+        }
+    }
+
+    fn check_under(
+        &self,
+        script: &str,
+        records: &str,
+        rt: &impl Abort,
+        alloc: Global,
+        depth: usize,
+        step: usize,
+    ) {
+        let script = script_of(alloc, script).expect(rt, "a script");
         for form in FORMS {
             let mut output = Vec::new(alloc);
             let input = Pieces::new(&self.bytes, step);
             let result = run_on(alloc, input, &mut output, &script, depth, form);
             assert_eq!(rt; result, Ok(()));
             let written = std::str::from_utf8(&output);
-            assert_eq!(rt; written, Ok(self.records.as_str()), "by {step} in {form:?}");
+            assert_eq!(rt; written, Ok(records), "by {step} in {form:?}");
         }
     }
 }

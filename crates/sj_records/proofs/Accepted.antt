@@ -11,7 +11,7 @@ use Rattle.sj_base.proofs.Kept.{list_parts, item_parts}
 use Rattle.sj_base.proofs.Trees.{only_trees}
 use Rattle.sj_base.proofs.Valid.{valid_when_kept}
 use Rattle.sj_records.specs.declared.script.CommandFault.{CommandFault}
-use Rattle.sj_records.specs.Command.{Step, get, contains, type_of, len, keys, insert, remove, push, pop, set_at, reload, reload_pp, ◌>>=◌, path_of, key_of, path_alone, path_and_key, path_and_value, path_key_value, plain, named, command_of, placed, commands_from, commands_in}
+use Rattle.sj_records.specs.Command.{Step, get, contains, type_of, len, keys, insert, remove, push, pop, set_at, reload, reload_pp, ◌>>=◌, path_of, key_of, path_alone, path_and_key, path_and_value, path_key_value, nullary, named, command_of, placed, commands_from, commands_in}
 use Rattle.sj_records.specs.Script.{IsAccepted}
 use Rattle.sj_records.proofs.Along.{bind_ok, same_ok}
 
@@ -47,9 +47,9 @@ bind_sound : {A F : Type 0} (r : Result A F) (f : A → Step) → ((a : A) → r
 bind_sound (Ok a) f h = h a refl
 bind_sound (Err w) f h = tt
 
-plain_sound : (c : Step) (ts : Items) → Sound c → OkSound (plain c ts)
-plain_sound c no_items h = h
-plain_sound c (item t ts) h = tt
+nullary_sound : (c : Step) (ts : Items) → Sound c → OkSound (nullary c ts)
+nullary_sound c no_items h = h
+nullary_sound c (item t ts) h = tt
 
 key_utf8 : (u : Tree) (k : List ℕ) → key_of u ≡ Ok k → IsValidTree u → IsUtf8 k
 key_utf8 (string s) k e h = subst IsUtf8 (same_ok s k _ _ refl refl e) h
@@ -94,8 +94,8 @@ named_sound name ts h =
     cond_both (bytes_eq name (codes "push")) _ _ P (λ _. bind_sound (path_and_value ts) (λ a. push a.0 a.1) (λ a e. good_value ts a e h)) (λ _.
     cond_both (bytes_eq name (codes "pop")) _ _ P (λ _. bind_sound (path_alone ts) (λ path. pop path) (λ a e. tt)) (λ _.
     cond_both (bytes_eq name (codes "set")) _ _ P (λ _. bind_sound (path_and_value ts) (λ a. set_at a.0 a.1) (λ a e. good_value ts a e h)) (λ _.
-    cond_both (bytes_eq name (codes "reload")) _ _ P (λ _. plain_sound reload ts tt) (λ _.
-    cond_both (bytes_eq name (codes "reload_pp")) _ _ P (λ _. plain_sound reload_pp ts tt) (λ _. tt))))))))))))
+    cond_both (bytes_eq name (codes "reload")) _ _ P (λ _. nullary_sound reload ts tt) (λ _.
+    cond_both (bytes_eq name (codes "reload_pp")) _ _ P (λ _. nullary_sound reload_pp ts tt) (λ _. tt))))))))))))
 
 command_sound : (t : Tree) → Good t → OkSound (command_of t)
 command_sound (list (item (string name) ts)) h = named_sound name ts (good_item (string name) ts h).1

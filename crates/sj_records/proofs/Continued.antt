@@ -8,7 +8,7 @@ use Rattle.sj_records.specs.Command.{Step}
 use Rattle.sj_records.specs.Step.{Job, State, begun, start, step, replies, after}
 use Rattle.sj_records.specs.Record.{record_of, outcome}
 use Rattle.sj_records.specs.Laws.{with_script, ScriptsContinue}
-use Rattle.sj_records.specs.inside.Progress.{first_state}
+use Rattle.sj_records.specs.inside.Progress.{without_bases}
 use Rattle.sj_records.proofs.Accepted.{accepted_sound}
 use Rattle.sj_records.proofs.Readable.{readable_after, started_again}
 use Rattle.sj_records.proofs.RecordText.{bare, step-reply, step-tree}
@@ -18,7 +18,7 @@ use Rattle.sj_records.proofs.Reloaded.{same_replies, same_after, joined}
 module _ (job : Job) where
   alike_step : (s u : State) (c : Step) → s.tree ≡ u.tree → ((step job s c).0 ≡ (step job u c).0) × ((step job s c).1.tree ≡ (step job u c).1.tree)
   alike_step s u c is =
-      let on = λ (t : Tree). step (bare job.keeping job.limit) (first_state t) c in (
+      let on = λ (t : Tree). step (bare job.keeping job.limit) (without_bases t) c in (
         step-reply job s c ∙ ap (λ t. (on t).0) is ∙ sym (step-reply job u c),
         step-tree job s c ∙ ap (λ t. (on t).1.tree) is ∙ sym (step-tree job u c),
       )
@@ -42,6 +42,6 @@ scripts_continue prints job line t first second accepted document short =
     ap₂ record_of
     (alike_replies job s again second begins ∙ sym (same_replies job second again second))
     (alike_after job s again second begins ∙ sym (ap (λ (u : State). u.tree) (same_after job second again second))) in (
-      joined job t first second,
+      inl (t, document, ap text (sym (joined job t first second))),
       inl (s.tree, record { short = short; spells = prints s.tree readable.0; shallow = readable.1 }, ap text same),
     )

@@ -9,7 +9,7 @@ use Rattle.sj_records.specs.Step.{Job, Keeping, State, Word, base, fits, fits_be
 use Rattle.sj_records.specs.Record.{record_of}
 use Rattle.sj_records.specs.Script.{commands_view}
 use Rattle.sj_records.specs.inside.Documents.{separator, items_left}
-use Rattle.sj_records.specs.inside.Progress.{first_state, IsStep}
+use Rattle.sj_records.specs.inside.Progress.{without_bases, IsStep}
 use Rattle.sj_records.specs.inside.Reloads.{record_from, IsPrinted, Reloads, Runs}
 
 -- the text of a record whose first commands are still to be run
@@ -31,7 +31,7 @@ abbrev pub bare : Keeping → ℕ → Job
 bare keeping limit = record { script = []; limit = limit; keeping = keeping }
 
 -- a step is made by the tree, the limit and how the document is kept
-pub step-reply : (job : Job) (s : State) (c : Step) → (step job s c).0 ≡ (step (bare job.keeping job.limit) (first_state s.tree) c).0
+pub step-reply : (job : Job) (s : State) (c : Step) → (step job s c).0 ≡ (step (bare job.keeping job.limit) (without_bases s.tree) c).0
 step-reply job s (get path) = refl
 step-reply job s (contains path k) = refl
 step-reply job s (type_of path) = refl
@@ -45,7 +45,7 @@ step-reply job s (push path v) = settled-reply _ s.bases (write_at (base s.tree 
 step-reply job s (pop path) = settled-reply _ s.bases (write_at (base s.tree job.keeping) path popping)
 step-reply job s (set_at path v) = settled-reply _ s.bases (write_at (base s.tree job.keeping) path (setting (fits path v job.limit) v))
 
-pub step-tree : (job : Job) (s : State) (c : Step) → (step job s c).1.tree ≡ (step (bare job.keeping job.limit) (first_state s.tree) c).1.tree
+pub step-tree : (job : Job) (s : State) (c : Step) → (step job s c).1.tree ≡ (step (bare job.keeping job.limit) (without_bases s.tree) c).1.tree
 step-tree job s (get path) = refl
 step-tree job s (contains path k) = refl
 step-tree job s (type_of path) = refl
@@ -63,8 +63,8 @@ step-tree job s (set_at path v) = settled-tree _ s.bases (write_at (base s.tree 
 pub step-on : (job : Job) (s : State) (keeping : Keeping) (t u : Tree) (old new : List ℕ) (c : Step) → s.tree ≡ t → keeping ≡ job.keeping → IsStep keeping job.limit t u old new c
     → (new ≡ old ++ text (step job s c).0) × ((step job s c).1.tree ≡ u)
 step-on job s keeping t u old new c at same done =
-    let replied : (step job s c).0 ≡ (step (bare keeping job.limit) (first_state t) c).0 = step-reply job s c ∙ ap₂ (λ (k : Keeping) (v : Tree). (step (bare k job.limit) (first_state v) c).0) (sym same) at in
-    let changed : (step job s c).1.tree ≡ (step (bare keeping job.limit) (first_state t) c).1.tree = step-tree job s c ∙ ap₂ (λ (k : Keeping) (v : Tree). (step (bare k job.limit) (first_state v) c).1.tree) (sym same) at in
+    let replied : (step job s c).0 ≡ (step (bare keeping job.limit) (without_bases t) c).0 = step-reply job s c ∙ ap₂ (λ (k : Keeping) (v : Tree). (step (bare k job.limit) (without_bases v) c).0) (sym same) at in
+    let changed : (step job s c).1.tree ≡ (step (bare keeping job.limit) (without_bases t) c).1.tree = step-tree job s c ∙ ap₂ (λ (k : Keeping) (v : Tree). (step (bare k job.limit) (without_bases v) c).1.tree) (sym same) at in
     (done.0 ∙ ap (λ r. old ++ text r) (sym replied), changed ∙ sym done.1)
 
 -- ---- a script, one command after the other

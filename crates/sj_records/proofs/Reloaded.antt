@@ -1,9 +1,9 @@
 -- A reload changes nothing.
-use Rattle.std.proofs.Common.{◌≡◌, List, [], ◌∷◌, ◌++◌, refl, ap, ap₂, ◌∙◌}
+use Rattle.std.proofs.Common.{◌≡◌, ℕ, List, [], ◌∷◌, ◌++◌, refl, sym, ap, ap₂, ◌∙◌, inl, inr}
 use Rattle.sj_base.specs.Tree.{Tree, Items, item}
 use Rattle.sj_base.specs.Text.{text, pretty}
 use Rattle.sj_records.specs.Command.{Step, get, contains, type_of, len, keys, insert, remove, push, pop, set_at, reload, reload_pp}
-use Rattle.sj_records.specs.Step.{Job, State, begun, step, replies, after}
+use Rattle.sj_records.specs.Step.{Job, State, begun, reload_reply, step, replies, after}
 use Rattle.sj_records.specs.Record.{record_of, outcome}
 use Rattle.sj_records.specs.Laws.{with_script, items_then, ChangesNothing}
 use Rattle.sj_records.proofs.RecordText.{after_join}
@@ -45,8 +45,20 @@ joined job t cs ds =
     (same_replies job (cs ++ ds) (begun job t) (cs ++ ds) ∙ replies_join job (begun job t) cs ds)
     (same_after job (cs ++ ds) (begun job t) (cs ++ ds) ∙ after_join job (begun job t) cs ds)
 
+-- c takes nothing from the state
+changes_nothing : (c : Step) (print : Tree → List ℕ) → ((job : Job) (s : State) → step job s c ≡ (reload_reply (print s.tree), s)) → ChangesNothing c print
+changes_nothing c print stays job line before behind = (
+  λ t document.
+      let s = after job (begun job t) before in
+      let first = replies job (begun job t) before in
+      let with_reload = joined job t before (c ∷ behind)
+      ∙ ap (λ (p : Tree × State). record_of (items_then first (item p.0 (replies job p.1 behind))) (after job p.1 behind).tree) (stays job s) in
+      (inl (t, document, ap text (sym (joined job t before behind))), inl (t, document, ap text (sym with_reload))),
+  λ e first. (inr (e, first, refl), inr (e, first, refl)),
+)
+
 pub reload_changes_nothing : ChangesNothing reload text
-reload_changes_nothing job t before behind = (joined job t before behind, joined job t before (reload ∷ behind))
+reload_changes_nothing = changes_nothing reload text (λ job s. refl)
 
 pub reload_pp_changes_nothing : ChangesNothing reload_pp pretty
-reload_pp_changes_nothing job t before behind = (joined job t before behind, joined job t before (reload_pp ∷ behind))
+reload_pp_changes_nothing = changes_nothing reload_pp pretty (λ job s. refl)

@@ -7,7 +7,7 @@ use Rattle.sj_records.specs.declared.script.CommandFault.{CommandFault}
 use Rattle.sj_records.specs.declared.script.CommandFault.TheVariants.{WrongCount}
 use Rattle.sj_records.specs.declared.read_error.ReadError.{ReadError}
 use Rattle.sj_records.specs.declared.read_error.ReadError.TheVariants as errors
-use Rattle.sj_records.specs.Command.{Step, Refusal, ◌>>=◌, part_of, parts_of, path_of, key_of, path_alone, path_and_key, path_and_value, path_key_value, plain, command_of, commands_from}
+use Rattle.sj_records.specs.Command.{Step, Refusal, ◌>>=◌, part_of, parts_of, path_of, key_of, path_alone, path_and_key, path_and_value, path_key_value, nullary, command_of, commands_from}
 use Rattle.sj_records.specs.inside.ReadErrors.{IsFaultOf}
 use Rattle.sj_records.specs.declared.script.Command.{Command}
 use Rattle.sj_records.specs.Script.{command_view, commands_view}
@@ -65,9 +65,9 @@ commands-more n m d all left front step total is next found so_far =
 
 -- ---- another number of arguments
 
-pub plain-other : (c : Step) (vs : List Document) → (vs ≡ [] → ⊥) → plain c (items_view vs) ≡ Err WrongCount
-plain-other c [] h = absurd (h refl)
-plain-other c (v ∷ vs) h = refl
+pub nullary-other : (c : Step) (vs : List Document) → (vs ≡ [] → ⊥) → nullary c (items_view vs) ≡ Err WrongCount
+nullary-other c [] h = absurd (h refl)
+nullary-other c (v ∷ vs) h = refl
 
 pub alone-other : (ds : List Document) → (length ds ≡ 1 → ⊥) → path_alone (items_view ds) ≡ Err WrongCount
 alone-other [] other = refl

@@ -94,10 +94,10 @@ path_key_value (item t no_items) = Err WrongCount
 path_key_value (item t (item u no_items)) = Err WrongCount
 path_key_value (item t (item u (item v (item w ts)))) = Err WrongCount
 
--- a command that takes nothing
-abbrev pub plain : Step → Items → Result Step CommandFault
-plain c no_items = Ok c
-plain c (item t ts) = Err WrongCount
+-- a command without arguments
+abbrev pub nullary : Step → Items → Result Step CommandFault
+nullary c no_items = Ok c
+nullary c (item t ts) = Err WrongCount
 
 -- the command of a name, with these arguments
 abbrev pub named : List ℕ → Items → Result Step CommandFault
@@ -112,8 +112,8 @@ named name arguments =
     cond (bytes_eq name (codes "push")) (path_and_value arguments >>= λ a. Ok (push a.0 a.1)) (
     cond (bytes_eq name (codes "pop")) (path_alone arguments >>= λ path. Ok (pop path)) (
     cond (bytes_eq name (codes "set")) (path_and_value arguments >>= λ a. Ok (set_at a.0 a.1)) (
-    cond (bytes_eq name (codes "reload")) (plain reload arguments) (
-    cond (bytes_eq name (codes "reload_pp")) (plain reload_pp arguments) (
+    cond (bytes_eq name (codes "reload")) (nullary reload arguments) (
+    cond (bytes_eq name (codes "reload_pp")) (nullary reload_pp arguments) (
     Err UnknownName))))))))))))
 
 abbrev pub command_of : Tree → Result Step CommandFault

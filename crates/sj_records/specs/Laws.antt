@@ -1,14 +1,16 @@
 -- Laws of the definitions: each line has one record, any bytes are read as a script in one way, the depth limit holds along a
 -- script, a second script continues the first, and a reload changes nothing.
-use Rattle.std.specs.Prelude.{◌≡◌, ◌≢◌, ℕ, ◌≤◌, Bool, true, false, ◌||◌, List, [], ◌∷◌, ◌++◌, length, take}
+use Rattle.std.specs.Prelude.{◌≡◌, ◌≢◌, ℕ, ◌≤◌, Bool, true, false, ◌||◌, List, [], ◌∷◌, ◌++◌, length, take, Some}
 use Rattle.std.specs.List.{AllByRecursion}
 use Rattle.sj_base.specs.Tree.{Tree, Items, no_items, item, depth}
 use Rattle.sj_base.specs.Keep.{IsKept}
 use Rattle.sj_base.specs.Spelling.{longest, Document}
 use Rattle.sj_base.specs.Text.{text}
+use Rattle.sj_base.specs.declared.error.Error.{Error}
+use Rattle.sj_parse.specs.Fault.{fault}
 use Rattle.sj_records.specs.Command.{Step, get, contains, type_of, len, keys, insert, remove, push, pop, set_at, reload, reload_pp}
 use Rattle.sj_records.specs.Step.{Job, Keeping, from_start, from_write, State, begun, reload_reply, replies, after}
-use Rattle.sj_records.specs.Record.{IsRecord, record_of, outcome}
+use Rattle.sj_records.specs.Record.{IsRecord, record_of, fault_record}
 use Rattle.sj_records.specs.Script.{IsReadAs, IsAccepted}
 
 -- exactly one x satisfies P
@@ -90,17 +92,20 @@ ScriptsContinue =
     let rest = replies job s second in
     let last = (after job s second).tree in
     length (text s.tree) ≤ longest
-    → (outcome (with_script job (first ++ second)) t ≡ record_of (items_then (replies job (begun job t) first) rest) last)
+    → IsRecord (with_script job (first ++ second)) line (text (record_of (items_then (replies job (begun job t) first) rest) last))
     × IsRecord (with_script job second) (text s.tree) (text (record_of rest last))
 
--- Where the reload c, which prints texts like this, stands between other commands, a record has a reply more than without c. The
--- other replies and the document are the same.
+-- With the reload c, whose text is `print`, between other commands, the record of a document has one reply more than without it.
+-- The other replies and the document are the same. A record of a fault stays as it is.
 abbrev pub ChangesNothing : Step → (Tree → List ℕ) → Type 0
 ChangesNothing c print =
-    (job : Job) (t : Tree) (before behind : List Step) →
+    (job : Job) (line : List ℕ) (before behind : List Step) →
+    ((t : Tree) → Document line job.limit t →
     let s = after job (begun job t) before in
     let first = replies job (begun job t) before in
     let rest = replies job s behind in
     let last = (after job s behind).tree in
-    (outcome (with_script job (before ++ behind)) t ≡ record_of (items_then first rest) last)
-    × (outcome (with_script job (before ++ c ∷ behind)) t ≡ record_of (items_then first (item (reload_reply (print s.tree)) rest)) last)
+    IsRecord (with_script job (before ++ behind)) line (text (record_of (items_then first rest) last))
+    × IsRecord (with_script job (before ++ c ∷ behind)) line (text (record_of (items_then first (item (reload_reply (print s.tree)) rest)) last)))
+    × ((e : Error) → fault line job.limit ≡ Some e →
+    IsRecord (with_script job (before ++ behind)) line (text (fault_record e)) × IsRecord (with_script job (before ++ c ∷ behind)) line (text (fault_record e)))

@@ -1,5 +1,5 @@
 //! Reading the commands of a script from its document.
-ghost use Rattle.sj_records.specs.Command.{part_of, parts_of, path_of, key_of, path_alone, path_and_key, path_and_value, path_key_value, plain, command_of, commands_from, commands_in, named};
+ghost use Rattle.sj_records.specs.Command.{part_of, parts_of, path_of, key_of, path_alone, path_and_key, path_and_value, path_key_value, nullary, command_of, commands_from, commands_in, named};
 ghost use Rattle.std.specs.String.{string_bytes};
 ghost use Rattle.sj_base.specs.Tree.{list};
 ghost use Rattle.sj_base.specs.Scalar.{static_tree};
@@ -122,12 +122,12 @@ fn read_path_key_value(
     Ok((path, key, ScriptValue::new(value)?))
 }
 
-/// Takes a command that has no arguments.
-fn read_plain(
+/// Returns the command, if there are no arguments.
+fn read_nullary(
     command: Command,
     arguments: &[OwnedValue],
 ) -> Result<Command, ReadError<CommandFault>>
-    ensures { GivesCommand command_view result (plain (command_view command) (items_view arguments.now)) }
+    ensures { GivesCommand command_view result (nullary (command_view command) (items_view arguments.now)) }
 {
     if !arguments.is_empty() {
         return Err(ReadError::Refused(CommandFault::WrongCount));
@@ -193,8 +193,8 @@ fn read_named_command(
             let (path, value) = read_path_and_value(alloc, arguments)?;
             Ok(Command::SetAt(path, value))
         }
-        "reload" => read_plain(Command::Reload, &arguments),
-        "reload_pp" => read_plain(Command::ReloadPp, &arguments),
+        "reload" => read_nullary(Command::Reload, &arguments),
+        "reload_pp" => read_nullary(Command::ReloadPp, &arguments),
         _ => Err(ReadError::Refused(CommandFault::UnknownName)),
     }
 }

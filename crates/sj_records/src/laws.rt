@@ -1,4 +1,4 @@
-//! Laws of the definitions: each function does nothing but to call other laws, and its contract is the law.
+//! Laws of the definitions: each function does nothing but call other laws, and its contract is the law.
 ghost use Rattle.sj_records.specs.Laws.{OneRecord, OneReading, DepthStays, BasesAreKept, TreesAreKept, FormsAgree, NoLineFeed, ChangesNothing, ScriptsContinue};
 ghost use Rattle.sj_records.specs.Command.{reload, reload_pp};
 ghost use Rattle.sj_base.specs.Text.{text, pretty};
@@ -37,7 +37,7 @@ pub fn scripts_continue()
     sj_base::laws::printing_reads_back();
 }
 
-/// A reload changes nothing: without it, the replies to the other commands and the document at the end are the same.
+/// A reload changes nothing: a record with replies has one more with it, and any other record is the same.
 pub fn reload_changes_nothing()
     ensures compact { ChangesNothing reload text }
     ensures indented { ChangesNothing reload_pp pretty }

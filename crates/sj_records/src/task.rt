@@ -14,7 +14,7 @@ ghost use Rattle.sj_records.specs.Step.{State, start, reload_reply};
 ghost use Rattle.sj_tape.specs.Views.{tape_nodes, nodes_tree};
 ghost use Rattle.sj_records.specs.inside.ReadErrors.{IfRefused};
 ghost use Rattle.sj_records.specs.inside.Progress.{task_job, scratch_limit, IsStep};
-ghost use Rattle.sj_records.specs.inside.Reloads.{IsReadable, IsPrinted, Runs};
+ghost use Rattle.sj_records.specs.inside.Reloads.{IsReadable, IsPrinted, Runs, is_reload};
 
 use crate::document::Document;
 use crate::form::Form;
@@ -53,11 +53,12 @@ pub(crate) struct Scratch {
     pub(crate) out: Vec<u8>,
 }
 
-/// Two texts, of which one is read while the other is printed.
+/// Two texts, of which one is read while the other is printed into.
 #[derive(Drop)]
 pub(crate) struct Texts {
-    /// What was printed last.
+    /// The text that was printed last.
     pub(crate) printed: Vec<u8>,
+    /// Room for the one after it.
     pub(crate) next: Vec<u8>,
 }
 
@@ -173,6 +174,10 @@ fn put_document_record(
     out.extend_from_slice(b"{\"replies\":[")?;
     let commands = task.script.commands();
     let mut left = run_on_tape(alloc, tape, task, commands, true, &mut texts.printed, out)?;
+    if left.is_some() && tape.nodes().len() > KEPT_NODES {
+        // The tape and that of the text are never both in memory as a whole.
+        *tape = Tape::empty(alloc);
+    }
     while let Some(commands) = left {
         left = run_on_text(alloc, buffers, texts, task, commands, out)?;
     }
@@ -197,8 +202,7 @@ fn build<'de, K: MakeKey<'de> + Drop, D: MakeLiteral<'de> + Drop>(
     build_value::<Value<K, D>, K>(alloc, tape.as_value())
 }
 
-/// Runs commands on the text of a document in place of the document. Answers which of them are left behind the next reload,
-/// for which the document is printed again.
+/// Reads the text that was printed last, and runs commands on its document, as `run_on_tape`.
 fn run_on_text<'s>(
     alloc: Global,
     buffers: &mut Buffers,
@@ -231,8 +235,8 @@ fn run_on_text<'s>(
 /// Runs commands on the document of a tape, in the task's form. `is_first` tells whether their first reply is the first of
 /// the record.
 ///
-/// The record is ended behind the last command. Behind a reload that is to be read, the text is in `text`, and the answer
-/// is the commands that are left.
+/// Returns the commands behind the first reload that replied `true`, whose text is in `text` then, or `None` once all have
+/// run and the record is complete.
 fn run_on_tape<'s>(
     alloc: Global,
     tape: &mut Tape<'_>,
@@ -292,7 +296,7 @@ fn run_commands<'s, T: Document>(
     Ok(None)
 }
 
-/// Runs one command, and appends its reply. Answers whether it is a reload whose text, which is in `text`, is to be read.
+/// Runs one command, and appends its reply. Returns `true` for a reload whose text can be read. The text is in `text` then.
 fn run_command<T: Document>(
     document: &mut T,
     command: &Command,
@@ -301,42 +305,60 @@ fn run_command<T: Document>(
     out: &mut Vec<u8>,
 ) -> Result<bool, AllocError>
     ensures step { OnOk result (IsStep T.keeping depth (T.tree document.old) (T.tree document.new) out.old.items out.new.items (command_view command.now)) }
-    ensures printed { IfOk result (λ again. again ≡ true → IsPrinted (T.tree document.new) text.new.items) }
+    ensures printed { IfOk result (λ is_readable. is_readable ≡ true → IsPrinted (T.tree document.new) text.new.items) }
 {
     match command {
-        Command::Get(path) => document.get(path, out)?,
-        Command::Contains(path, key) => document.contains(path, key, out)?,
-        Command::TypeOf(path) => document.type_of(path, out)?,
-        Command::Len(path) => document.len(path, out)?,
-        Command::Keys(path) => document.keys(path, out)?,
-        Command::Insert(path, key, value) => document.insert(path, key, value, depth, out)?,
-        Command::Remove(path, key) => document.remove(path, key, out)?,
-        Command::Push(path, value) => document.push(path, value, depth, out)?,
-        Command::Pop(path) => document.pop(path, out)?,
-        Command::SetAt(path, value) => document.set_at(path, value, depth, out)?,
         Command::Reload => {
             text.clear();
             document.text(text)?;
-            return put_reload(text, out);
+            put_reload(text, out)
         }
         Command::ReloadPp => {
             text.clear();
             document.pretty(text)?;
-            return put_reload(text, out);
+            put_reload(text, out)
+        }
+        _ => {
+            put_reply(document, command, depth, out)?;
+            Ok(false)
         }
     }
-    Ok(false)
 }
 
-/// Appends the reply to a reload, and answers the same: whether the text can be read.
+/// Appends the reply to a reload, and returns it: whether the text is short enough to be read.
 fn put_reload(text: &[u8], out: &mut Vec<u8>) -> Result<bool, AllocError>
-    ensures answers { IfOk result (λ is_read. is_read ≡ nat_le (length text.now) longest) }
+    ensures answers { IfOk result (λ is_readable. is_readable ≡ nat_le (length text.now) longest) }
     ensures replies { OnOk result (out.new.items ≡ out.old.items ++ text_of (reload_reply text.now)) }
 {
-    let is_read = text.len() <= u32::MAX as usize;
-    let reply: &[u8] = if is_read { b"true" } else { b"false" };
+    let is_readable = text.len() <= u32::MAX as usize;
+    let reply: &[u8] = if is_readable { b"true" } else { b"false" };
     out.extend_from_slice(reply)?;
-    Ok(is_read)
+    Ok(is_readable)
+}
+
+/// Runs one command that is no reload, and appends its reply.
+fn put_reply<T: Document>(
+    document: &mut T,
+    command: &Command,
+    depth: usize,
+    out: &mut Vec<u8>,
+) -> Result<(), AllocError>
+    requires { is_reload (command_view command.now) ≡ false }
+    ensures { OnOk result (IsStep T.keeping depth (T.tree document.old) (T.tree document.new) out.old.items out.new.items (command_view command.now)) }
+{
+    match command {
+        Command::Get(path) => document.get(path, out),
+        Command::Contains(path, key) => document.contains(path, key, out),
+        Command::TypeOf(path) => document.type_of(path, out),
+        Command::Len(path) => document.len(path, out),
+        Command::Keys(path) => document.keys(path, out),
+        Command::Insert(path, key, value) => document.insert(path, key, value, depth, out),
+        Command::Remove(path, key) => document.remove(path, key, out),
+        Command::Push(path, value) => document.push(path, value, depth, out),
+        Command::Pop(path) => document.pop(path, out),
+        Command::SetAt(path, value) => document.set_at(path, value, depth, out),
+        Command::Reload | Command::ReloadPp => unreachable!(),
+    }
 }
 
 fn put_fault_record(fault: Error, out: &mut Vec<u8>) -> Result<(), AllocError>

@@ -1,9 +1,10 @@
 //! Reloads: worked rows, and what stays the same with a reload at each place of a script.
-use super::writes::{REPEATED_KEYS, WORKED, check};
+use super::writes::{LIMITS, REPEATED_KEYS, WORKED, check};
 use super::{LIMIT, expect, expect_in};
 use sj_owned::{OwnedValue, to_owned_value};
 use sj_records::Form;
 use std::alloc::{AllocError, Global};
+use std::process::Abort;
 use std::str;
 use std::test::Fail;
 
@@ -128,18 +129,33 @@ fn len(array: &OwnedValue) -> Result<usize, Fail> {
     Ok(array.as_array().ok_or("no array")?.len())
 }
 
+// Looks for the record with a reload of each kind at each place of the script.
+pub(super) fn check_reloads(
+    rt: &impl Abort,
+    alloc: Global,
+    script: &str,
+    line: &str,
+    depth: usize,
+    record: &str,
+) -> Result<(), Fail> {
+    let commands = read(alloc, script)?;
+    for reload in RELOADS {
+        for place in 0..len(&commands)? + 1 {
+            let script = with_item(alloc, &commands, place, reload)?;
+            let record = with_reply(alloc, record, place)?;
+            check(rt, alloc, &script, line, depth, &record)?;
+        }
+    }
+    Ok(())
+}
+
 #[test]
 fn reloads_change_nothing(rt: HostRuntime) -> Result<(), Fail> {
-    let alloc = rt.alloc();
     for (script, line, record) in &WORKED {
-        let commands = read(alloc, script)?;
-        for reload in RELOADS {
-            for place in 0..len(&commands)? + 1 {
-                let script = with_item(alloc, &commands, place, reload)?;
-                let record = with_reply(alloc, record, place)?;
-                check(&rt, alloc, &script, line, LIMIT, &record)?;
-            }
-        }
+        check_reloads(&rt, rt.alloc(), script, line, LIMIT, record)?;
+    }
+    for (script, line, depth, record) in &LIMITS {
+        check_reloads(&rt, rt.alloc(), script, line, *depth, record)?;
     }
     Ok(())
 }
@@ -169,7 +185,7 @@ fn reloads_keep_repeats(rt: HostRuntime) -> Result<(), Fail> {
     Ok(())
 }
 
-// Texts of the lines before leave nothing, nor do lines with a fault.
+// Neither the texts of earlier lines nor faulty lines show in later records.
 #[test]
 fn reloads_of_lines(rt: HostRuntime) {
     let script = r#"[["reload_pp"],["push",[],"x"],["reload"],["reload_pp"],["pop",[]]]"#;

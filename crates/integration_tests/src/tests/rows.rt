@@ -1,4 +1,4 @@
-//! Worked lines, each with its record under the empty script.
+//! Worked lines, each with its record under the empty script and under a reload.
 use super::{LIMIT, Stream, split_row};
 use std::alloc::Global;
 use std::process::Abort;
@@ -72,6 +72,7 @@ fn of_worked_lines(rt: HostRuntime) -> Result<(), Fail> {
     for step in [1, 63, 65536] {
         all.check(&rt, rt.alloc(), LIMIT, step);
     }
+    all.check_reloads(&rt, rt.alloc(), LIMIT);
     Ok(())
 }
 
@@ -87,6 +88,7 @@ fn of_limits(rt: HostRuntime) -> Result<(), Fail> {
         let mut lines = Stream::new(rt.alloc());
         lines.add(0, line.as_bytes(), record)?;
         lines.check(&rt, rt.alloc(), depth, 65536);
+        lines.check_reloads(&rt, rt.alloc(), depth);
     }
     Ok(())
 }

@@ -1,4 +1,5 @@
 //! Worked rows of scripts that read and write, in each form.
+use super::reloads::check_reloads;
 use super::{LIMIT, expect, expect_in, script_of};
 use sj_owned::to_owned_value;
 use sj_records::{Command, Document, Form};
@@ -121,36 +122,39 @@ fn repeated_keys(rt: HostRuntime) -> Result<(), Fail> {
     Ok(())
 }
 
-// Path, kind and depth are tested in this order, and the value's levels count.
+// A script, a line, a limit of levels and the record. Path, kind and depth are tested in this order, and the value's levels
+// count.
+pub(super) const LIMITS: [(&str, &str, usize, &str); 4] = [
+    (
+        r#"[["push",[],[]]]"#,
+        "[]",
+        1,
+        r#"{"replies":["TooDeep"],"document":[]}"#,
+    ),
+    (
+        r#"[["push",[],[]],["push",[0],[]],["push",[0],7]]"#,
+        "[]",
+        2,
+        r#"{"replies":[[],"TooDeep",[]],"document":[[7]]}"#,
+    ),
+    (
+        r#"[["insert",["a"],"k",[[]]],["insert",["x"],"k",1],["set",["a"],[]],["insert",[],"k",[]],["push",["a"],[]]]"#,
+        r#"{"a":1}"#,
+        1,
+        r#"{"replies":["NotAnObject","NoSuchPath","TooDeep","TooDeep","NotAnArray"],"document":{"a":1}}"#,
+    ),
+    (
+        r#"[["set",[],[]],["set",[],8],["push",[],1]]"#,
+        "7",
+        0,
+        r#"{"replies":["TooDeep",[7],"NotAnArray"],"document":8}"#,
+    ),
+];
+
 #[test]
 fn depth_limits(rt: HostRuntime) -> Result<(), Fail> {
-    for (script, line, depth, record) in [
-        (
-            r#"[["push",[],[]]]"#,
-            "[]",
-            1,
-            r#"{"replies":["TooDeep"],"document":[]}"#,
-        ),
-        (
-            r#"[["push",[],[]],["push",[0],[]],["push",[0],7]]"#,
-            "[]",
-            2,
-            r#"{"replies":[[],"TooDeep",[]],"document":[[7]]}"#,
-        ),
-        (
-            r#"[["insert",["a"],"k",[[]]],["insert",["x"],"k",1],["set",["a"],[]],["insert",[],"k",[]],["push",["a"],[]]]"#,
-            r#"{"a":1}"#,
-            1,
-            r#"{"replies":["NotAnObject","NoSuchPath","TooDeep","TooDeep","NotAnArray"],"document":{"a":1}}"#,
-        ),
-        (
-            r#"[["set",[],[]],["set",[],8],["push",[],1]]"#,
-            "7",
-            0,
-            r#"{"replies":["TooDeep",[7],"NotAnArray"],"document":8}"#,
-        ),
-    ] {
-        check(&rt, rt.alloc(), script, line, depth, record)?;
+    for (script, line, depth, record) in &LIMITS {
+        check(&rt, rt.alloc(), script, line, *depth, record)?;
     }
     Ok(())
 }
@@ -186,7 +190,8 @@ fn forty_equal_hashes(rt: HostRuntime) -> Result<(), Fail> {
     let left = forty(alloc, 1)?;
     let record = format!(in alloc; "{{\"replies\":[[39],[0],39],\"document\":{left}}}")?;
     let script = r#"[["get",["BBAaAaBBBBBB"]],["remove",[],"AaAaAaAaAaAa"],["len",[]]]"#;
-    check(&rt, alloc, script, &line, LIMIT, &record)
+    check(&rt, alloc, script, &line, LIMIT, &record)?;
+    check_reloads(&rt, alloc, script, &line, LIMIT, &record)
 }
 
 // A write call appends its reply, or on want of memory nothing. Then the document is as it was or as the write leaves it.

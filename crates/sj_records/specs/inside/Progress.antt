@@ -53,12 +53,12 @@ LeavesBytes (Err Memory) old new bytes = ⊥
 LeavesBytes (Err Read) old new bytes = ⊥
 LeavesBytes (Err TooManyReads) old new bytes = ⊥
 
--- the state of a document on which no command has run
-abbrev pub first_state : Tree → State
-first_state t = record { tree = t; bases = [] }
+-- a state in which no write can be taken back
+abbrev pub without_bases : Tree → State
+without_bases t = record { tree = t; bases = [] }
 
 -- The reply to a command on the tree t was appended, and u is the tree after it.
 abbrev pub IsStep : Keeping → ℕ → Tree → Tree → List ℕ → List ℕ → Step → Type 0
 IsStep keeping limit t u old new c =
-    let s = step (record { script = []; limit = limit; keeping = keeping }) (first_state t) c in
+    let s = step (record { script = []; limit = limit; keeping = keeping }) (without_bases t) c in
     (new ≡ old ++ text s.0) × (u ≡ s.1.tree)

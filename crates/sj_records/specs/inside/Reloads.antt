@@ -1,16 +1,16 @@
 -- What stands of a record where the commands of a script have been run up to a reload, or to the end.
-use Rattle.std.specs.Prelude.{◌≡◌, ◌⊎◌, ℕ, ◌<◌, ◌≤◌, Bool, false, List, [], ◌∷◌, ◌++◌, length, Option, Some, None, codes}
+use Rattle.std.specs.Prelude.{◌≡◌, ◌⊎◌, ℕ, ◌<◌, ◌≤◌, Bool, true, false, List, [], ◌∷◌, ◌++◌, length, Option, Some, None, codes}
 use Rattle.sj_base.specs.Spelling.{longest}
 use Rattle.sj_base.specs.Text.{text, pretty}
 use Rattle.sj_base.specs.Tree.{Tree, IsValidTree, depth}
 use Rattle.sj_records.specs.declared.script.Command.{Command}
-use Rattle.sj_records.specs.Command.{Step}
+use Rattle.sj_records.specs.Command.{Step, get, contains, type_of, len, keys, insert, remove, push, pop, set_at, reload, reload_pp}
 use Rattle.sj_records.specs.Step.{Job, State, replies, after}
 use Rattle.sj_records.specs.Script.{commands_view}
 use Rattle.sj_records.specs.inside.Documents.{items_left}
 
--- the text of a record from the reply to the first of these commands on. They run from the state s, and it is told whether
--- their first reply is that of the record
+-- the text of a record from the replies to these commands on, which run from the state s. `is_first`: their first reply is the
+-- first of the record
 abbrev pub record_from : Job → State → List Step → Bool → List ℕ
 record_from job s cs is_first = items_left is_first (replies job s cs) ++ (codes "],\"document\":" ++ (text (after job s cs).tree ++ 0x7d ∷ []))
 
@@ -22,8 +22,8 @@ IsReadable limit t = IsValidTree t × (depth t ≤ limit)
 abbrev pub IsPrinted : Tree → List ℕ → Type 0
 IsPrinted t bytes = ((bytes ≡ text t) ⊎ (bytes ≡ pretty t)) × (length bytes ≤ longest)
 
--- Of the commands cs, from the state s on, those up to a reload were run, which stand before `left`. Their replies were appended,
--- and the tree that they came to was printed.
+-- Some of the commands cs were run from the state s on, and `left` are left. The replies were appended, and the tree that was
+-- reached was printed. (That fewer are left shows that a loop ends.)
 pub record Reloads (job : Job) (s : State) (cs left : List Step) (is_first : Bool) (printed old new : List ℕ) : Type 0 where
   pub ran : List Step
   pub parts : cs ≡ ran ++ left
@@ -31,7 +31,21 @@ pub record Reloads (job : Job) (s : State) (cs left : List Step) (is_first : Boo
   pub is_printed : IsPrinted (after job s ran).tree printed
   pub written : new ++ record_from job (after job s ran) left false ≡ old ++ record_from job s cs is_first
 
--- All of the commands were run and the record was ended, or those up to a reload.
+-- What was run, by the commands that are left: all of them, and the record was ended; or some of them.
 abbrev pub Runs : Job → State → List Step → Bool → Option (List Command) → List ℕ → List ℕ → List ℕ → Type 0
 Runs job s cs is_first None printed old new = new ≡ old ++ record_from job s cs is_first
 Runs job s cs is_first (Some left) printed old new = Reloads job s cs (commands_view left) is_first printed old new
+
+abbrev pub is_reload : Step → Bool
+is_reload reload = true
+is_reload reload_pp = true
+is_reload (get path) = false
+is_reload (contains path k) = false
+is_reload (type_of path) = false
+is_reload (len path) = false
+is_reload (keys path) = false
+is_reload (insert path k v) = false
+is_reload (remove path k) = false
+is_reload (push path v) = false
+is_reload (pop path) = false
+is_reload (set_at path v) = false
