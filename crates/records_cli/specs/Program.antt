@@ -8,7 +8,8 @@ use Rattle.sj_records.specs.Command.{Step}
 use Rattle.sj_records.specs.Step.{Job}
 use Rattle.sj_records.specs.Record.{IsOutput}
 use Rattle.sj_records.specs.Run.{Transfers, Leaves, RecordsOfSome, RecordsOfEnded, RecordsPrefix}
-use Rattle.sj_records.specs.Script.{IsReadAs, IsRefusedAs, keeping_of}
+use Rattle.sj_records.specs.Job.{keeping_of}
+use Rattle.sj_records.specs.Script.{IsReadAs, IsRefusedAs}
 use Rattle.sj_records.specs.declared.run_error.RunError.{RunError}
 use Rattle.sj_records.specs.declared.script.ScriptFault.{ScriptFault}
 use Rattle.sj_records.specs.declared.script.ScriptFault.TheVariants.{Memory as NoMemory}
