@@ -140,7 +140,7 @@ pub(super) fn check_reloads(
 ) -> Result<(), Fail> {
     let commands = read(alloc, script)?;
     for reload in RELOADS {
-        for place in 0..len(&commands)? + 1 {
+        for place in 0..len(&commands)?.saturating_add(1) {
             let script = with_item(alloc, &commands, place, reload)?;
             let record = with_reply(alloc, record, place)?;
             check(rt, alloc, &script, line, depth, &record)?;
@@ -168,7 +168,7 @@ fn reloads_keep_repeats(rt: HostRuntime) -> Result<(), Fail> {
         let commands = read(alloc, script)?;
         let stream = format!(in alloc; "{line}\n")?;
         for reload in RELOADS {
-            for place in 0..len(&commands)? + 1 {
+            for place in 0..len(&commands)?.saturating_add(1) {
                 let script = with_item(alloc, &commands, place, reload)?;
                 for (form, record) in [
                     (Form::Owned, *kept),
