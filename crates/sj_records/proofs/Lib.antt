@@ -21,3 +21,4 @@ pub mod LazyWrites
 pub mod Reloaded
 pub mod Readable
 pub mod Continued
+pub mod Inverses

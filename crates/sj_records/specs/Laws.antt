@@ -1,6 +1,6 @@
 -- Laws of the definitions: each line has one record, any bytes are read as a script in one way, the depth limit holds along a
 -- script, a second script continues the first, and a reload changes nothing.
-use Rattle.std.specs.Prelude.{◌≡◌, ◌≢◌, ℕ, ◌≤◌, Bool, true, false, ◌||◌, List, [], ◌∷◌, ◌++◌, length, take, Some}
+use Rattle.std.specs.Prelude.{◌≡◌, ◌≢◌, ℕ, ◌≤◌, Bool, true, false, ◌||◌, List, [], ◌∷◌, ◌++◌, length, take, Option, Some, Ok}
 use Rattle.std.specs.List.{AllByRecursion}
 use Rattle.sj_base.specs.Tree.{Tree, Items, no_items, item, depth}
 use Rattle.sj_base.specs.Keep.{IsKept}
@@ -9,7 +9,9 @@ use Rattle.sj_base.specs.Text.{text}
 use Rattle.sj_base.specs.declared.error.Error.{Error}
 use Rattle.sj_parse.specs.Fault.{fault}
 use Rattle.sj_records.specs.Command.{Step, get, contains, type_of, len, keys, insert, remove, push, pop, set_at, reload, reload_pp}
-use Rattle.sj_records.specs.Step.{Job, Keeping, from_start, from_write, State, begun, reload_reply, replies, after}
+use Rattle.sj_records.specs.Step.{Job, Keeping, from_start, from_write, State, begun, reload_reply, replies, after, Change as Write, reply_of, insertion, removal, pushing, popping, setting, write_at}
+use Rattle.sj_records.specs.Inverse.{Change, drop_item, place_in, back, insertion_back, removal_back, popping_back, setting_back}
+use Rattle.sj_base.specs.Path.{Part, at}
 use Rattle.sj_records.specs.Record.{IsRecord, record_of, fault_record}
 use Rattle.sj_records.specs.Script.{IsReadAs, IsAccepted}
 
@@ -109,3 +111,24 @@ ChangesNothing c print =
     × IsRecord (with_script job (before ++ c ∷ behind)) line (text (record_of (items_then first (item (reload_reply (print s.tree)) rest)) last)))
     × ((e : Error) → fault line job.limit ≡ Some e →
     IsRecord (with_script job (before ++ behind)) line (text (fault_record e)) × IsRecord (with_script job (before ++ c ∷ behind)) line (text (fault_record e)))
+
+-- A write on a kept base that isn't refused replies what `found` says, and this change takes it back.
+abbrev pub Undoes : List Part → Write → (Tree → Option Tree → Change) → Type 0
+Undoes path write inverse =
+    (t reply u : Tree) → IsKept t → write_at t path write ≡ Ok (reply, u)
+    → (part : Tree) × (found : Option Tree) × (at t path ≡ Some part) × (reply ≡ reply_of found) × (back path (inverse part found) u ≡ Some t)
+
+abbrev pub InsertUndone : Type 0
+InsertUndone = (path : List Part) (k : List ℕ) (v : Tree) (test : Bool) → Undoes path (insertion test k v) (λ part found. insertion_back k found)
+
+abbrev pub RemoveUndone : Type 0
+RemoveUndone = (path : List Part) (k : List ℕ) → Undoes path (removal k) (λ part found. removal_back (place_in part k) k found)
+
+abbrev pub PushUndone : Type 0
+PushUndone = (path : List Part) (v : Tree) (test : Bool) → Undoes path (pushing test v) (λ part found. drop_item)
+
+abbrev pub PopUndone : Type 0
+PopUndone = (path : List Part) → Undoes path popping (λ part found. popping_back found)
+
+abbrev pub SetUndone : Type 0
+SetUndone = (path : List Part) (v : Tree) (test : Bool) → Undoes path (setting test v) (λ part found. setting_back found)

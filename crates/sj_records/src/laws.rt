@@ -1,5 +1,6 @@
 //! Laws of the definitions: each function does nothing but call other laws, and its contract is the law.
 ghost use Rattle.sj_records.specs.Laws.{OneRecord, OneReading, DepthStays, BasesAreKept, TreesAreKept, FormsAgree, NoLineFeed, ChangesNothing, ScriptsContinue};
+ghost use Rattle.sj_records.specs.Laws.{InsertUndone, RemoveUndone, PushUndone, PopUndone, SetUndone};
 ghost use Rattle.sj_records.specs.Command.{reload, reload_pp};
 ghost use Rattle.sj_base.specs.Text.{text, pretty};
 
@@ -41,6 +42,16 @@ pub fn scripts_continue()
 pub fn reload_changes_nothing()
     ensures compact { ChangesNothing reload text }
     ensures indented { ChangesNothing reload_pp pretty }
+{}
+
+/// A write that isn't refused, on a tree that repeats no key, is taken back by a change at its path, which is made of its key,
+/// the key's place before the write, and the value of its reply.
+pub fn inverse_undoes()
+    ensures insert { InsertUndone }
+    ensures remove { RemoveUndone }
+    ensures push { PushUndone }
+    ensures pop { PopUndone }
+    ensures set { SetUndone }
 {}
 
 /// No record holds a line feed, for any script that `Script::read` accepts.
