@@ -1,6 +1,7 @@
 #!/usr/bin/env bash
 # Counts the requests for memory of `records` over 1 and over 100 equal lines that come in one piece, and fails where the
-# lazy form makes more of them for 100 lines than for one:
+# lazy form makes more of them for 100 lines than for one. Counts those for an array of four strings with three and with four
+# reloads, and fails where the owned form doesn't make at least four more with four, as it does if each reload reads its text:
 #
 #     bench/allocations.sh
 #
@@ -21,18 +22,25 @@ fi
 line='{"id":917128462,"name":"liuyjopbck","size":31.694,"tags":["a","b\u0063"],"more":{"ok":true,"note":null}}'
 echo "$line" > "$work/1"
 yes "$line" | head -n 100 > "$work/100"
-echo '[["get",["more","note"]],["keys",[]]]' > "$work/script.json"
+echo '[["get",["more","note"]],["keys",[]]]' > "$work/reads"
+echo '["a","b","c","d"]' > "$work/strings"
+echo '[["reload"],["reload"],["reload"]]' > "$work/three"
+echo '[["reload"],["reload"],["reload"],["reload"]]' > "$work/four"
 
-count() { # count FORM LINES
-    valgrind "$RECORDS" --form "$1" "$work/script.json" < "$work/$2" 2>&1 > "$work/records" |
+count() { # count FORM SCRIPT LINES
+    valgrind "$RECORDS" --form "$1" "$work/$2" < "$work/$3" 2>&1 > "$work/records" |
         sed -n 's/.*total heap usage: \([0-9,]*\) allocs.*/\1/p' | tr -d ,
 }
 
 failed=0
 for form in owned borrowed lazy; do
-    one=$(count $form 1)
-    hundred=$(count $form 100)
+    one=$(count $form reads 1)
+    hundred=$(count $form reads 100)
     echo "$form: $one requests for 1 line, $hundred for 100"
     if [ $form = lazy ] && [ "$one" != "$hundred" ]; then failed=1; fi
 done
+three=$(count owned three strings)
+four=$(count owned four strings)
+echo "owned: $three requests for 3 reloads, $four for 4"
+if [ "$((four - three))" -lt 4 ]; then failed=1; fi
 exit $failed

@@ -40,7 +40,7 @@ pub enum Command {
     /// Replaces the value that the path selects. Replies with an array of the old value, or else `"TooDeep"`.
     SetAt(Vec<PathPart>, ScriptValue),
     /// Prints the document as compact text, and reads that text in its place. The document stays the same. Replies with
-    /// `true`, or with `false` if the text has more than `u32::MAX` bytes, which are not read.
+    /// `true`, or with `false` if the text has more than `u32::MAX` bytes; such a text is not read.
     Reload,
     /// As `Reload`, with the indented text.
     ReloadPp,
