@@ -1,4 +1,4 @@
-//! Laws of the definitions that the contracts cite: each function has no code, and its contract is the law.
+//! Laws of the definitions that the contracts cite: each function does nothing but call other laws, and its contract is the law.
 ghost use Rattle.sj_base.specs.Text.{text, pretty};
 ghost use Rattle.sj_parse.specs.Laws.{FaultOrTree, PrintsNoFault};
 

@@ -247,9 +247,11 @@ remove_undone path k = undone path (removal k) _ (λ part n kept e.
     let i = removed k part n e in
     let is = ap (λ (p : Tree × Tree). p.1) i.2 in
     let ms_kept = object_parts (keep_members i.0) i.0 (subst IsKept i.1 kept) in
-    let found = member_at i.0 k in
-    (found, sym (ap (λ (p : Tree × Tree). p.0) i.2),
-    ap (λ (whole : Tree). changed (removal_back (place_in whole k) k found) n.1) i.1 ∙ renamed (removal_back (place_of i.0 k) k found) part (object i.0) _ n.1 (sym i.1) is (remove_back i.0 k found ms_kept refl)))
+    let found = member_at i.0 k in (
+      found,
+      sym (ap (λ (p : Tree × Tree). p.0) i.2),
+      ap (λ (whole : Tree). changed (removal_back (place_in whole k) k found) n.1) i.1 ∙ renamed (removal_back (place_of i.0 k) k found) part (object i.0) _ n.1 (sym i.1) is (remove_back i.0 k found ms_kept refl),
+    ))
 
 pub push_undone : PushUndone
 push_undone path v test = undone path (pushing test v) (λ part found. drop_item) (λ part n kept e.
