@@ -26,7 +26,7 @@ use Rattle.sj_records.specs.Command.{Step, get, contains, type_of, len, keys, in
 use Rattle.sj_records.specs.Step.{Job, Keeping, from_start, from_write, start, begun, after}
 use Rattle.sj_records.specs.Script.{IsAccepted}
 use Rattle.sj_records.specs.inside.KeptValues.{is_kept}
-use Rattle.sj_records.specs.inside.Reloads.{IsReadable, IsPrinted}
+use Rattle.sj_records.specs.inside.Reloads.{IsReadable, IsPrinted, Reloads}
 use Rattle.sj_records.proofs.Accepted.{Good, Sound, accepted_sound}
 use Rattle.sj_records.proofs.Along.{after_within, start_within}
 use Rattle.sj_records.proofs.KeptAlong.{after_kept}
@@ -59,12 +59,12 @@ all_found : (cs : List Step) → ∥ AllByRecursion Sound cs ∥₁ → AllByRec
 all_found [] h = tt
 all_found (c ∷ cs) h = (step_found c (∥∥₁_map h (λ p. p.0)), all_found cs (∥∥₁_map h (λ p. p.1)))
 
-pub script_found : (script : List Step) → ∥ IsAccepted script ∥₁ → AllByRecursion Sound script
+script_found : (script : List Step) → ∥ IsAccepted script ∥₁ → AllByRecursion Sound script
 script_found script h = all_found script (∥∥₁_map h (accepted_sound script))
 
 -- ---- what the first commands of a script come to
 
-pub front_sound : (script cs ds : List Step) → script ≡ cs ++ ds → AllByRecursion Sound script → AllByRecursion Sound cs
+front_sound : (script cs ds : List Step) → script ≡ cs ++ ds → AllByRecursion Sound script → AllByRecursion Sound cs
 front_sound script [] ds is h = tt
 front_sound script (c ∷ cs) ds is h = let sound = subst (λ (ls : List Step). AllByRecursion Sound ls) is h in (sound.0, front_sound (cs ++ ds) cs ds refl sound.1)
 
@@ -83,6 +83,13 @@ module _ (job : Job) (t : Tree) (ran : List Step) (sound : AllByRecursion Sound 
   pub started_again : start (after job (begun job t) ran).tree job.keeping ≡ (after job (begun job t) ran).tree
   started_again =
       kept_again job.keeping (after job (begun job t) ran).tree (λ e. (after_kept job (begun job t) ran sound (subst (λ (k : Keeping). IsKept (start t k)) (sym e) (keeps_once t), tt)).0)
+
+-- what stands before the next command of an accepted script, behind a reload
+pub reached_again : (job : Job) (t : Tree) (left : List Step) (printed old new : List ℕ) (r : Reloads job (begun job t) job.script left true printed old new) → ∥ IsAccepted job.script ∥₁ → IsReadable job.limit t
+    → IsReadable job.limit (after job (begun job t) r.ran).tree × (start (after job (begun job t) r.ran).tree job.keeping ≡ (after job (begun job t) r.ran).tree)
+reached_again job t left printed old new r accepted readable =
+    let sound = front_sound job.script r.ran left r.parts (script_found job.script accepted) in
+    (readable_after job t r.ran sound readable, started_again job t r.ran sound)
 
 -- ---- a printed text
 

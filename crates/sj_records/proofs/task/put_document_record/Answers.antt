@@ -4,7 +4,7 @@ use Rattle.sj_tape.specs.Views.{tape_nodes, nodes_tree}
 use Rattle.sj_records.specs.Script.{commands_view}
 use Rattle.sj_records.specs.Step.{begun, after}
 use Rattle.sj_records.specs.inside.Progress.{task_job}
-use Rattle.sj_records.proofs.Readable.{script_found, front_sound, readable_after, started_again}
+use Rattle.sj_records.proofs.Readable.{reached_again}
 use Rattle.sj_records.proofs.RecordText.{record_begun, Runs-on, left_len, fewer_left}
 use Rattle.sj_records.proofs.task.put_document_record.Goals as goal
 
@@ -13,19 +13,18 @@ run_on_text-requires-clause-readable c =
     let job = task_job c.args.task in
     let t = nodes_tree (tape_nodes c.args.tape.now) in
     let r = rw c.in-Some.is at c.loop-left.invariant.0 in
-    let sound = front_sound job.script r.ran (commands_view c.in-Some.commands.now) r.parts (script_found job.script c.commands-commands.ensures.accepted) in
-    ((after job (begun job t) r.ran).tree, readable_after job t r.ran sound c.requires.readable, r.is_printed)
+    let again = reached_again job t _ _ _ _ r c.commands-commands.ensures.accepted c.requires.readable in
+    ((after job (begun job t) r.ran).tree, again.0, r.is_printed)
 
 pub loop-left-smaller : goal.loop-left-smaller
 loop-left-smaller c =
     let job = task_job c.args.task in
     let t = nodes_tree (tape_nodes c.args.tape.now) in
-    let left = commands_view c.in-Some.commands.now in
     let r = rw c.in-Some.is at c.loop-left.invariant.0 in
-    let sound = front_sound job.script r.ran left r.parts (script_found job.script c.commands-commands.ensures.accepted) in
+    let again = reached_again job t _ _ _ _ r c.commands-commands.ensures.accepted c.requires.readable in
     let s = after job (begun job t) r.ran in
-    let runs = c.in_ok-left-2.ensures.runs s (readable_after job t r.ran sound c.requires.readable) r.is_printed (started_again job t r.ran sound) in
-    let fewer = fewer_left job s left false (option_copied c.in_ok-left-2.left) _ _ _ runs in
+    let runs = c.in_ok-left-2.ensures.runs s again.0 r.is_printed again.1 in
+    let fewer = fewer_left job s (commands_view c.in-Some.commands.now) false (option_copied c.in_ok-left-2.left) _ _ _ runs in
     let before = ap (λ o. left_len (option_copied o)) c.in-Some.is in
     omega arith
 
@@ -33,12 +32,10 @@ pub loop-left-preserved : goal.loop-left-preserved
 loop-left-preserved c =
     let job = task_job c.args.task in
     let t = nodes_tree (tape_nodes c.args.tape.now) in
-    let left = commands_view c.in-Some.commands.now in
     let r = rw c.in-Some.is at c.loop-left.invariant.0 in
-    let sound = front_sound job.script r.ran left r.parts (script_found job.script c.commands-commands.ensures.accepted) in
-    let s = after job (begun job t) r.ran in
-    let runs = c.in_ok-left-2.ensures.runs s (readable_after job t r.ran sound c.requires.readable) r.is_printed (started_again job t r.ran sound) in
-    (Runs-on job (begun job t) job.script left true (option_copied c.in_ok-left-2.left) _ _ _ _ _ r runs, c.in_ok-left-2.ensures.limit ∙ c.loop-left.invariant.1)
+    let again = reached_again job t _ _ _ _ r c.commands-commands.ensures.accepted c.requires.readable in
+    let runs = c.in_ok-left-2.ensures.runs (after job (begun job t) r.ran) again.0 r.is_printed again.1 in
+    (Runs-on job (begun job t) job.script (commands_view c.in-Some.commands.now) true (option_copied c.in_ok-left-2.left) _ _ _ _ _ r runs, c.in_ok-left-2.ensures.limit ∙ c.loop-left.invariant.1)
 
 pub returns-clause-holds : goal.returns-clause-holds
 returns-clause-holds c =
