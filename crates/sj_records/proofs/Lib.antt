@@ -1,4 +1,3 @@
-pub mod Printed
 pub mod Cut
 pub mod Written
 pub mod Total
