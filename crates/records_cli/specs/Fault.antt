@@ -1,7 +1,7 @@
 -- The statuses and the lines of the program's faults.
 use Rattle.std.specs.Prelude.{ℕ, List, [], ◌∷◌, ◌++◌, codes, string_bytes, Result, Ok, Err}
-use Rattle.sj_records.specs.Script.{fault_text}
-use Rattle.sj_records.specs.declared.script.ScriptFault.{ScriptFault}
+use Rattle.sj_scripts.specs.Script.{fault_text}
+use Rattle.sj_scripts.specs.declared.script.ScriptFault.{ScriptFault}
 use Rattle.records_cli.specs.declared.fault.Fault.{Fault}
 use Rattle.records_cli.specs.declared.load.LoadFault.{LoadFault}
 use Rattle.records_cli.specs.declared.load.LoadFault.TheVariants.{Memory as NoRoom, Unreadable as NoFile}

@@ -4,15 +4,15 @@ use Rattle.std.specs.Io.KnownBytes.{Appends, IsAtEnd, Keeps}
 use Rattle.std.specs.declared.alloc.Global.{Global}
 use Rattle.sj_base.specs.Calls.{Calls}
 use Rattle.sj_base.specs.Output.{AppendsPrefix, WritesAll, WritesPrefix}
-use Rattle.sj_records.specs.Command.{Step}
-use Rattle.sj_records.specs.Step.{Job}
+use Rattle.sj_scripts.specs.Command.{Step}
+use Rattle.sj_scripts.specs.Step.{Job}
 use Rattle.sj_records.specs.Record.{IsOutput}
 use Rattle.sj_records.specs.Run.{Transfers, Leaves, RecordsOfSome, RecordsOfEnded, RecordsPrefix}
 use Rattle.sj_records.specs.Job.{keeping_of}
-use Rattle.sj_records.specs.Script.{IsReadAs, IsRefusedAs}
+use Rattle.sj_scripts.specs.Script.{IsReadAs, IsRefusedAs}
 use Rattle.sj_records.specs.declared.run_error.RunError.{RunError}
-use Rattle.sj_records.specs.declared.script.ScriptFault.{ScriptFault}
-use Rattle.sj_records.specs.declared.script.ScriptFault.TheVariants.{Memory as NoMemory}
+use Rattle.sj_scripts.specs.declared.script.ScriptFault.{ScriptFault}
+use Rattle.sj_scripts.specs.declared.script.ScriptFault.TheVariants.{Memory as NoMemory}
 use Rattle.records_cli.specs.Arguments.{AskForRun, AskForHelp, AreRefused}
 use Rattle.records_cli.specs.Fault.{line_of, refusal_line}
 use Rattle.records_cli.specs.declared.arguments.RunArguments.{RunArguments}

@@ -10,10 +10,10 @@ use Rattle.sj_base.proofs.Keeping.{keeps_once}
 use Rattle.sj_base.proofs.Kept.{list_parts, item_parts}
 use Rattle.sj_base.proofs.Trees.{only_trees}
 use Rattle.sj_base.proofs.Valid.{valid_when_kept}
-use Rattle.sj_records.specs.declared.script.CommandFault.{CommandFault}
-use Rattle.sj_records.specs.Command.{Step, get, contains, type_of, len, keys, insert, remove, push, pop, set_at, reload, reload_pp, ◌>>=◌, path_of, key_of, path_alone, path_and_key, path_and_value, path_key_value, nullary, named, command_of, placed, commands_from, commands_in}
-use Rattle.sj_records.specs.Script.{IsAccepted}
-use Rattle.sj_records.proofs.Along.{bind_ok, same_ok}
+use Rattle.sj_scripts.specs.declared.script.CommandFault.{CommandFault}
+use Rattle.sj_scripts.specs.Command.{Step, get, contains, type_of, len, keys, insert, remove, push, pop, set_at, reload, reload_pp, ◌>>=◌, path_of, key_of, path_alone, path_and_key, path_and_value, path_key_value, nullary, named, command_of, placed, commands_from, commands_in}
+use Rattle.sj_scripts.specs.Script.{IsAccepted}
+use Rattle.sj_scripts.proofs.Changes.{bind_ok, same_ok}
 
 -- valid, and without repeated keys
 abbrev pub Good : Tree → Type 0

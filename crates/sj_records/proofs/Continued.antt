@@ -4,8 +4,8 @@ use Rattle.sj_base.specs.Laws.{PrintsBack}
 use Rattle.sj_base.specs.Text.{text}
 use Rattle.sj_base.specs.Tree.{Tree, item}
 use Rattle.sj_base.proofs.Trees.{only_trees}
-use Rattle.sj_records.specs.Command.{Step}
-use Rattle.sj_records.specs.Step.{Job, State, begun, start, step, replies, after}
+use Rattle.sj_scripts.specs.Command.{Step}
+use Rattle.sj_scripts.specs.Step.{Job, State, begun, start, step, replies, after}
 use Rattle.sj_records.specs.Record.{record_of, outcome}
 use Rattle.sj_records.specs.Laws.{with_script, ScriptsContinue}
 use Rattle.sj_records.specs.inside.Progress.{without_bases}

@@ -22,15 +22,15 @@ use Rattle.sj_tape.specs.Views.{nodes_tree}
 use Rattle.sj_tape.specs.declared.node.Node.{Node}
 use Rattle.sj_tape.proofs.Listings.{tree_from}
 use Rattle.sj_tape.proofs.ValidTrees.{tree_found}
-use Rattle.sj_records.specs.Command.{Step, get, contains, type_of, len, keys, insert, remove, push, pop, set_at, reload, reload_pp}
-use Rattle.sj_records.specs.Step.{Job, Keeping, from_start, from_write, start, begun, after}
-use Rattle.sj_records.specs.Script.{IsAccepted}
-use Rattle.sj_records.specs.inside.KeptValues.{is_kept}
+use Rattle.sj_scripts.specs.Command.{Step, get, contains, type_of, len, keys, insert, remove, push, pop, set_at, reload, reload_pp}
+use Rattle.sj_scripts.specs.Step.{Job, Keeping, from_start, from_write, start, begun, after}
+use Rattle.sj_scripts.specs.Script.{IsAccepted}
+use Rattle.sj_scripts.specs.inside.KeptValues.{is_kept}
 use Rattle.sj_records.specs.inside.Reloads.{IsReadable, IsPrinted, Reloads}
 use Rattle.sj_records.proofs.Accepted.{Good, Sound, accepted_sound}
 use Rattle.sj_records.proofs.Along.{after_within, start_within}
 use Rattle.sj_records.proofs.KeptAlong.{after_kept}
-use Rattle.sj_records.proofs.KeptTrees.{kept-found, kept-told}
+use Rattle.sj_scripts.proofs.KeptTrees.{kept-found, kept-told}
 use Rattle.sj_records.proofs.Shown.{after_valid, start_valid}
 
 -- ---- what an accepted script writes, taken out of a truncation: each part is decidable

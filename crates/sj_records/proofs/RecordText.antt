@@ -3,12 +3,12 @@ use Rattle.std.proofs.Common.{◌≡◌, ℕ, suc, ◌<◌, ◌≤◌, Bool, tru
 use Rattle.std.proofs.lemmas.List.{append-nil}
 use Rattle.sj_base.specs.Tree.{Tree, Items, no_items, item}
 use Rattle.sj_base.specs.Text.{text, more_items_text}
-use Rattle.sj_records.specs.declared.script.Command.{Command}
-use Rattle.sj_records.specs.Command.{Step, get, contains, type_of, len, keys, insert, remove, push, pop, set_at, reload, reload_pp}
-use Rattle.sj_records.specs.Step.{Job, Keeping, State, Word, base, fits, fits_below, insertion, removal, pushing, popping, setting, write_at, settled, step, replies, after}
+use Rattle.sj_scripts.specs.declared.script.Command.{Command}
+use Rattle.sj_scripts.specs.Command.{Step, get, contains, type_of, len, keys, insert, remove, push, pop, set_at, reload, reload_pp}
+use Rattle.sj_scripts.specs.Step.{Job, Keeping, State, Word, base, fits, fits_below, insertion, removal, pushing, popping, setting, write_at, settled, step, replies, after}
 use Rattle.sj_records.specs.Record.{record_of}
-use Rattle.sj_records.specs.Script.{commands_view}
-use Rattle.sj_records.specs.inside.Documents.{separator, items_left}
+use Rattle.sj_scripts.specs.Script.{commands_view}
+use Rattle.sj_scripts.specs.inside.Documents.{separator, items_left}
 use Rattle.sj_records.specs.inside.Progress.{without_bases, IsStep}
 use Rattle.sj_records.specs.inside.Reloads.{record_from, IsPrinted, Reloads, Runs}
 

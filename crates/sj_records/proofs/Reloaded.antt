@@ -2,8 +2,8 @@
 use Rattle.std.proofs.Common.{◌≡◌, ℕ, List, [], ◌∷◌, ◌++◌, refl, sym, ap, ap₂, ◌∙◌, inl, inr}
 use Rattle.sj_base.specs.Tree.{Tree, Items, item}
 use Rattle.sj_base.specs.Text.{text, pretty}
-use Rattle.sj_records.specs.Command.{Step, get, contains, type_of, len, keys, insert, remove, push, pop, set_at, reload, reload_pp}
-use Rattle.sj_records.specs.Step.{Job, State, begun, reload_reply, step, replies, after}
+use Rattle.sj_scripts.specs.Command.{Step, get, contains, type_of, len, keys, insert, remove, push, pop, set_at, reload, reload_pp}
+use Rattle.sj_scripts.specs.Step.{Job, State, begun, reload_reply, step, replies, after}
 use Rattle.sj_records.specs.Record.{record_of, outcome}
 use Rattle.sj_records.specs.Laws.{with_script, items_then, ChangesNothing}
 use Rattle.sj_records.proofs.RecordText.{after_join}

@@ -1,23 +1,21 @@
--- Worked values: lines, the commands of scripts, the depth limit of writes, records, and changes that take writes back.
-use Rattle.std.specs.Prelude.{◌≡◌, refl, ℕ, List, pos, negsuc, true, false, [], ◌∷◌, ◌++◌, Ok, Err, Some, None, codes}
+-- Worked values: lines, and records.
+use Rattle.std.specs.Prelude.{◌≡◌, refl, ℕ, List, pos, true, false, [], ◌∷◌, ◌++◌, Some, codes}
 use Rattle.std.specs.Char.{encode_utf8}
 use Rattle.std.specs.Fmt.{digits}
 use Rattle.std.specs.Str.{chars, is_utf8}
 use Rattle.std.proofs.Common.{inr}
-use Rattle.sj_base.specs.Tree.{Tree, null, boolean, integer, decimal, string, list, object, Items, no_items, item, no_members, member}
+use Rattle.sj_base.specs.Tree.{Tree, null, boolean, integer, decimal, string, list, object, item, no_members, member}
 use Rattle.sj_base.specs.Path.{key, place}
 use Rattle.sj_base.specs.Number.{signed}
 use Rattle.sj_base.specs.Text.{text}
 use Rattle.sj_base.specs.declared.error.ErrorType.TheVariants.{Eof, ExpectedTrue, InternalError, Syntax}
-use Rattle.sj_records.specs.declared.script.CommandFault.TheVariants.{NotAnArray, NoName, UnknownName, WrongCount, BadPath, BadKey}
 use Rattle.sj_records.specs.Lines.{lines}
-use Rattle.sj_records.specs.Command.{Step, get, contains, type_of, len, keys, insert, remove, push, pop, set_at, reload, reload_pp, json, command, not_an_array, commands_of}
-use Rattle.sj_records.specs.Step.{Job, Keeping, from_start, from_write, begun, after, fits, fits_below}
+use Rattle.sj_scripts.specs.Command.{Step, get, contains, type_of, len, keys, insert, remove, push, pop, set_at, reload, reload_pp}
+use Rattle.sj_scripts.specs.Step.{Job, Keeping, from_start, from_write, begun, after}
 use Rattle.sj_parse.specs.Descent.{value}
 use Rattle.sj_parse.specs.Fault.{generic}
-use Rattle.sj_records.specs.Inverse.{nothing, drop_member, set_member, put_member, drop_item, add_item, set_part, place_in, back}
 use Rattle.sj_records.specs.Record.{outcome, IsRecord}
-use Rattle.sj_records.specs.Script.{IsReadAs}
+use Rattle.sj_scripts.specs.Examples.{one, two, word, number, empty_list, empty_object, repeated_key, a_is_1}
 
 -- lines
 
@@ -38,152 +36,6 @@ carriage_return_stays = refl
 
 empty_line_between : lines (codes "a\n\nb") ≡ codes "a" ∷ [] ∷ codes "b" ∷ []
 empty_line_between = refl
-
--- scripts
-
-abbrev one : Tree → Items
-one t = item t no_items
-
--- ["get",ARGUMENT]
-abbrev get_command : Tree → Tree
-get_command argument = list (item (string (codes "get")) (one argument))
-
--- -1
-abbrev minus_one : Tree
-minus_one = integer (negsuc 0)
-
-object_as_script : commands_of (object no_members) ≡ Err not_an_array
-object_as_script = refl
-
-empty_script : commands_of (list no_items) ≡ Ok []
-empty_script = refl
-
-get_without_path : commands_of (list (one (list (one (string (codes "get")))))) ≡ Err (command 0 WrongCount)
-get_without_path = refl
-
-negative_place : commands_of (list (one (get_command (list (one minus_one))))) ≡ Err (command 0 BadPath)
-negative_place = refl
-
-command_without_name : commands_of (list (one (list no_items))) ≡ Err (command 0 NoName)
-command_without_name = refl
-
-number_as_command : commands_of (list (one (integer (pos 7)))) ≡ Err (command 0 NotAnArray)
-number_as_command = refl
-
--- [["get",[]],["frob",[]]]
-unknown_second_name : commands_of (list (item (get_command (list no_items)) (one (list (item (string (codes "frob")) (one (list no_items))))))) ≡ Err (command 1 UnknownName)
-unknown_second_name = refl
-
--- [["get",[-1],1]]: the number of arguments is looked at first
-count_before_path : commands_of (list (one (list (item (string (codes "get")) (item (list (one minus_one)) (one (integer (pos 1)))))))) ≡ Err (command 0 WrongCount)
-count_before_path = refl
-
--- [["get",[-0]]]
-minus_zero_as_place : commands_of (list (one (get_command (list (one (integer (signed true 0))))))) ≡ Ok (get (place 0 ∷ []) ∷ [])
-minus_zero_as_place = refl
-
--- [["get",["a",1]]]
-key_and_place : commands_of (list (one (get_command (list (item (string (codes "a")) (one (integer (pos 1)))))))) ≡ Ok (get (key (codes "a") ∷ place 1 ∷ []) ∷ [])
-key_and_place = refl
-
-abbrev two : Tree → Tree → Items
-two t u = item t (one u)
-
-abbrev three : Tree → Tree → Tree → Items
-three t u v = item t (two u v)
-
-abbrev word : List ℕ → Tree
-word s = string s
-
-abbrev number : ℕ → Tree
-number n = integer (pos n)
-
-abbrev empty_list : Tree
-empty_list = list no_items
-
-abbrev empty_object : Tree
-empty_object = object no_members
-
--- {"a":1,"a":2}
-abbrev repeated_key : Tree
-repeated_key = object (member (codes "a") (number 1) (member (codes "a") (number 2) no_members))
-
--- {"a":1}
-abbrev a_is_1 : Tree
-a_is_1 = object (member (codes "a") (number 1) no_members)
-
--- a script of one command with this name and these arguments
-abbrev script_of : List ℕ → Items → Tree
-script_of name arguments = list (one (list (item (word name) arguments)))
-
--- [["insert",[],"x",{"a":1,"a":2}]]
-value_kept : commands_of (script_of (codes "insert") (three empty_list (word (codes "x")) repeated_key)) ≡ Ok (insert [] (codes "x") a_is_1 ∷ [])
-value_kept = refl
-
-contains_read : commands_of (script_of (codes "contains") (two empty_list (word (codes "b")))) ≡ Ok (contains [] (codes "b") ∷ [])
-contains_read = refl
-
-type_read : commands_of (script_of (codes "type") (one empty_list)) ≡ Ok (type_of [] ∷ [])
-type_read = refl
-
-len_read : commands_of (script_of (codes "len") (one empty_list)) ≡ Ok (len [] ∷ [])
-len_read = refl
-
-keys_read : commands_of (script_of (codes "keys") (one empty_list)) ≡ Ok (keys [] ∷ [])
-keys_read = refl
-
-remove_read : commands_of (script_of (codes "remove") (two empty_list (word (codes "b")))) ≡ Ok (remove [] (codes "b") ∷ [])
-remove_read = refl
-
-push_read : commands_of (script_of (codes "push") (two empty_list (number 7))) ≡ Ok (push [] (number 7) ∷ [])
-push_read = refl
-
-pop_read : commands_of (script_of (codes "pop") (one empty_list)) ≡ Ok (pop [] ∷ [])
-pop_read = refl
-
-set_read : commands_of (script_of (codes "set") (two empty_list (number 7))) ≡ Ok (set_at [] (number 7) ∷ [])
-set_read = refl
-
--- [["contains",1]]
-count_before_path_of_contains : commands_of (script_of (codes "contains") (one (number 1))) ≡ Err (command 0 WrongCount)
-count_before_path_of_contains = refl
-
--- [["insert",[],1,2]]
-number_as_key : commands_of (script_of (codes "insert") (three empty_list (number 1) (number 2))) ≡ Err (command 0 BadKey)
-number_as_key = refl
-
--- [["remove",7,1]]
-path_before_key : commands_of (script_of (codes "remove") (two (number 7) (number 1))) ≡ Err (command 0 BadPath)
-path_before_key = refl
-
-reload_read : commands_of (script_of (codes "reload") no_items) ≡ Ok (reload ∷ [])
-reload_read = refl
-
-reload_pp_read : commands_of (script_of (codes "reload_pp") no_items) ≡ Ok (reload_pp ∷ [])
-reload_pp_read = refl
-
-reload_with_argument : commands_of (script_of (codes "reload") (one empty_list)) ≡ Err (command 0 WrongCount)
-reload_with_argument = refl
-
-no_undo : commands_of (script_of (codes "undo") no_items) ≡ Err (command 0 UnknownName)
-no_undo = refl
-
--- the depth limit of writes: `[]` at the end of a path of one part
-
-fits_at_the_limit : fits (key (codes "a") ∷ []) empty_list 2 ≡ true
-fits_at_the_limit = refl
-
-fits_not_past_it : fits (key (codes "a") ∷ []) empty_list 1 ≡ false
-fits_not_past_it = refl
-
-fits_below_at_the_limit : fits_below (key (codes "a") ∷ []) empty_list 3 ≡ true
-fits_below_at_the_limit = refl
-
-fits_below_not_past_it : fits_below (key (codes "a") ∷ []) empty_list 2 ≡ false
-fits_below_not_past_it = refl
-
-scalar_fits_anywhere : fits [] (number 7) 0 ≡ true
-scalar_fits_anywhere = refl
 
 -- records of documents
 
@@ -319,60 +171,6 @@ bases_of_writes = refl
 bases_of_owned : (after (owned []) (begun (owned []) a_is_1) (set_at [] null ∷ get [] ∷ set_at [] empty_list ∷ [])) ≡ record { tree = empty_list; bases = null ∷ a_is_1 ∷ [] }
 bases_of_owned = refl
 
--- changes that take a write back, on {"a":1,"b":null}
-
-abbrev number_and_null : Tree
-number_and_null = object (member (codes "a") (number 1) (member (codes "b") null no_members))
-
--- {"b":null}
-abbrev b_is_null : Tree
-b_is_null = object (member (codes "b") null no_members)
-
-removed_first_put_back : back [] (put_member 0 (codes "a") (number 1)) b_is_null ≡ Some number_and_null
-removed_first_put_back = refl
-
-removed_last_put_back : back [] (put_member 1 (codes "b") null) a_is_1 ≡ Some number_and_null
-removed_last_put_back = refl
-
-no_place_past_the_end : back [] (put_member 2 (codes "b") null) a_is_1 ≡ None
-no_place_past_the_end = refl
-
-no_key_twice : back [] (put_member 0 (codes "a") null) a_is_1 ≡ None
-no_key_twice = refl
-
-new_key_dropped : back [] (drop_member (codes "b")) number_and_null ≡ Some a_is_1
-new_key_dropped = refl
-
-no_other_key_dropped : back [] (drop_member (codes "c")) number_and_null ≡ None
-no_other_key_dropped = refl
-
-old_value_set : back [] (set_member (codes "a") (number 7)) number_and_null ≡ Some (object (member (codes "a") (number 7) (member (codes "b") null no_members)))
-old_value_set = refl
-
-no_other_key_set : back [] (set_member (codes "c") null) number_and_null ≡ None
-no_other_key_set = refl
-
-item_dropped : back (key (codes "a") ∷ []) drop_item (object (member (codes "a") (list (two (number 1) (number 2))) no_members)) ≡ Some (object (member (codes "a") (list (one (number 1))) no_members))
-item_dropped = refl
-
-no_item_dropped : back [] drop_item empty_list ≡ None
-no_item_dropped = refl
-
-item_added : back [] (add_item (number 7)) empty_list ≡ Some (list (one (number 7)))
-item_added = refl
-
-no_item_in_object : back [] (add_item null) a_is_1 ≡ None
-no_item_in_object = refl
-
-part_set : back (key (codes "a") ∷ []) (set_part null) a_is_1 ≡ Some (object (member (codes "a") null no_members))
-part_set = refl
-
-nothing_at_no_path : back (key (codes "b") ∷ []) nothing a_is_1 ≡ None
-nothing_at_no_path = refl
-
-place_of_second : place_in number_and_null (codes "b") ≡ 1
-place_of_second = refl
-
 -- lines that are no documents, and their records
 
 blank_line : IsRecord (owned []) (codes " ") (codes "{\"error\":\"Eof\",\"index\":0,\"character\":null}")
@@ -399,9 +197,3 @@ true_before_a_quote = inr (record { error = ExpectedTrue; index = 1; character =
 byte_order_mark : IsRecord (owned []) (0xef ∷ 0xbb ∷ 0xbf ∷ codes "1") (codes "{\"error\":\"InternalError\",\"index\":0,\"character\":\"" ++ 0xc3 ∷ 0xaf ∷ codes "\"}")
 unfolding digits is_utf8 chars encode_utf8 value
 byte_order_mark = inr (record { error = InternalError; index = 0; character = Some 0xef }, refl, refl)
-
--- a script that is no document
-
-cut_script : IsReadAs (codes "[\"a") (Err (json (generic Syntax)))
-unfolding is_utf8 chars encode_utf8
-cut_script = inr (generic Syntax, refl, refl)

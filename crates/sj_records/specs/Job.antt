@@ -1,15 +1,10 @@
 -- What is done to each line: a script, under a limit of levels, in a form.
-use Rattle.std.specs.Prelude.{ℕ, List}
-use Rattle.sj_records.specs.declared.script.Script.{Script}
+use Rattle.std.specs.Prelude.{ℕ}
+use Rattle.sj_scripts.specs.declared.script.Script.{Script}
 use Rattle.sj_records.specs.declared.form.Form.{Form}
 use Rattle.sj_records.specs.declared.form.Form.TheVariants.{Owned, Borrowed, Lazy}
-use Rattle.sj_records.specs.Command.{Step}
-use Rattle.sj_records.specs.Step.{Job, Keeping, from_start, from_write}
-use Rattle.sj_records.specs.Script.{commands_view}
-
--- the commands of a script
-abbrev pub steps_of : Script → List Step
-steps_of script = commands_view script.commands.items
+use Rattle.sj_scripts.specs.Step.{Job, Keeping, from_start, from_write}
+use Rattle.sj_scripts.specs.Steps.{steps_of}
 
 -- how a form keeps a document
 abbrev pub keeping_of : Form → Keeping

@@ -1,13 +1,12 @@
 -- The record of a line, and the output of a stream.
-use Rattle.std.specs.Prelude.{◌≡◌, ◌⊎◌, ℕ, pos, List, [], ◌∷◌, ◌++◌, Option, Some, None, codes, encode_utf8}
+use Rattle.std.specs.Prelude.{◌≡◌, ℕ, pos, List, [], ◌∷◌, ◌++◌, Option, Some, None, codes, encode_utf8}
 use Rattle.sj_base.specs.Tree.{Tree, null, integer, string, list, object, Items, no_members, member}
-use Rattle.sj_base.specs.Spelling.{Document}
 use Rattle.sj_base.specs.Text.{text}
 use Rattle.sj_base.specs.Names.{name_of}
 use Rattle.sj_base.specs.declared.error.Error.{Error}
-use Rattle.sj_parse.specs.Fault.{fault}
+use Rattle.sj_scripts.specs.Reading.{ComesOf}
 use Rattle.sj_records.specs.Lines.{lines}
-use Rattle.sj_records.specs.Step.{Job, begun, replies, after}
+use Rattle.sj_scripts.specs.Step.{Job, begun, replies, after}
 
 -- the record of replies and a document, as a tree
 abbrev pub record_of : Items → Tree → Tree
@@ -24,13 +23,6 @@ fault_record e = object (member (codes "error") (string (name_of e.error)) (memb
 -- what a job makes of a line's tree
 abbrev pub outcome : Job → Tree → Tree
 outcome job t = record_of (replies job (begun job t) job.script) (after job (begun job t) job.script).tree
-
--- What comes of a text under a limit of levels: f of its tree, where it is a document, or g of its first fault. Exactly
--- one of the two is there (the law `fault_or_tree` of sj_parse).
-abbrev pub ComesOf : {A : Type 0} → (Tree → A) → (Error → A) → List ℕ → ℕ → A → Type 0
-ComesOf f g bytes limit x =
-    ((t : Tree) × Document bytes limit t × (x ≡ f t))
-    ⊎ ((e : Error) × (fault bytes limit ≡ Some e) × (x ≡ g e))
 
 -- The record of a line: what the job makes of its tree, or its first fault.
 abbrev pub IsRecord : Job → List ℕ → List ℕ → Type 0

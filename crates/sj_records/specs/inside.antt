@@ -1,7 +1,3 @@
--- What only the clauses of private functions cite.
-pub mod ReadErrors
-pub mod Documents
+-- What only clauses of private functions cite.
 pub mod Progress
 pub mod Reloads
-pub mod KeptValues
-pub mod LazyDocuments

@@ -8,9 +8,9 @@ ghost use Rattle.sj_records.specs.inside.Progress.{HasNoLineFeed, LeavesLines, L
 
 use crate::form::Form;
 use crate::run_error::RunError;
-use crate::script::Script;
 use crate::task::{Scratch, Task, make_record};
 use sj_base::{Output, Sink, Source, WriteFault};
+use sj_scripts::Script;
 use sj_tape::Tape;
 use std::alloc::{AllocError, Global};
 use std::io::ErrorKind;

@@ -1,7 +1,7 @@
 //! Laws of the definitions: each function does nothing but call other laws, and its contract is the law.
 ghost use Rattle.sj_records.specs.Laws.{OneRecord, OneReading, DepthStays, BasesAreKept, TreesAreKept, FormsAgree, NoLineFeed, ChangesNothing, ScriptsContinue};
 ghost use Rattle.sj_records.specs.Laws.{InsertUndone, RemoveUndone, PushUndone, PopUndone, SetUndone};
-ghost use Rattle.sj_records.specs.Command.{reload, reload_pp};
+ghost use Rattle.sj_scripts.specs.Command.{reload, reload_pp};
 ghost use Rattle.sj_base.specs.Text.{text, pretty};
 
 /// Each line has exactly one record, whatever the script, the limit of levels and the form.

@@ -9,8 +9,8 @@ use Rattle.sj_records.specs.declared.run_error.RunError.TheVariants.{Memory, Wri
 use Rattle.sj_records.specs.declared.task.Task.{Task}
 use Rattle.sj_records.specs.declared.task.Scratch.{Scratch}
 use Rattle.sj_parse.specs.Answers.{buffer_limit}
-use Rattle.sj_records.specs.Step.{Job, Keeping, State, step}
-use Rattle.sj_records.specs.Command.{Step}
+use Rattle.sj_scripts.specs.Step.{Job, Keeping, State, step}
+use Rattle.sj_scripts.specs.Command.{Step}
 use Rattle.sj_base.specs.Text.{text}
 use Rattle.sj_records.specs.Record.{AreRecords}
 use Rattle.sj_records.specs.Job.{job_of}

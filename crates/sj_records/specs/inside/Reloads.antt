@@ -3,11 +3,11 @@ use Rattle.std.specs.Prelude.{◌≡◌, ◌⊎◌, ℕ, ◌<◌, ◌≤◌, Boo
 use Rattle.sj_base.specs.Spelling.{longest}
 use Rattle.sj_base.specs.Text.{text, pretty}
 use Rattle.sj_base.specs.Tree.{Tree, IsValidTree, depth}
-use Rattle.sj_records.specs.declared.script.Command.{Command}
-use Rattle.sj_records.specs.Command.{Step, get, contains, type_of, len, keys, insert, remove, push, pop, set_at, reload, reload_pp}
-use Rattle.sj_records.specs.Step.{Job, State, replies, after}
-use Rattle.sj_records.specs.Script.{commands_view}
-use Rattle.sj_records.specs.inside.Documents.{items_left}
+use Rattle.sj_scripts.specs.declared.script.Command.{Command}
+use Rattle.sj_scripts.specs.Command.{Step, get, contains, type_of, len, keys, insert, remove, push, pop, set_at, reload, reload_pp}
+use Rattle.sj_scripts.specs.Step.{Job, State, replies, after}
+use Rattle.sj_scripts.specs.Script.{commands_view}
+use Rattle.sj_scripts.specs.inside.Documents.{items_left}
 
 -- the text of a record from the replies to these commands on, which run from the state s. `is_first`: their first reply is the
 -- first of the record

@@ -1,8 +1,8 @@
 use Rattle.std.proofs.Common.{true, false, ap, ◌∙◌, arith}
 use Rattle.std.specs.Option.{option_copied}
 use Rattle.sj_tape.specs.Views.{tape_nodes, nodes_tree}
-use Rattle.sj_records.specs.Script.{commands_view}
-use Rattle.sj_records.specs.Step.{begun, after}
+use Rattle.sj_scripts.specs.Script.{commands_view}
+use Rattle.sj_scripts.specs.Step.{begun, after}
 use Rattle.sj_records.specs.inside.Progress.{task_job}
 use Rattle.sj_records.proofs.Readable.{reached_again}
 use Rattle.sj_records.proofs.RecordText.{record_begun, Runs-on, left_len, fewer_left}

@@ -1,8 +1,8 @@
 use Rattle.std.proofs.Common.{◌≡◌, ◌<◌, ◌∷◌, [], length, refl, sym, ap, subst, ◌∙◌, arith}
 use Rattle.std.proofs.lemmas.List.{nil_from_length}
 use Rattle.sj_base.specs.Tree.{Tree}
-use Rattle.sj_records.specs.Script.{command_view, commands_view}
-use Rattle.sj_records.specs.Step.{State, after}
+use Rattle.sj_scripts.specs.Script.{command_view, commands_view}
+use Rattle.sj_scripts.specs.Step.{State, after}
 use Rattle.sj_records.specs.inside.Progress.{task_job}
 use Rattle.sj_records.specs.inside.Reloads.{IsPrinted}
 use Rattle.sj_records.proofs.RecordText.{step-on, Running-begin, Running-more, Running-stop, Running-end}

@@ -1,6 +1,6 @@
 use Rattle.std.proofs.Common.{◌≡◌, length}
-use Rattle.sj_records.specs.Step.{State, after}
-use Rattle.sj_records.specs.Script.{commands_view}
+use Rattle.sj_scripts.specs.Step.{State, after}
+use Rattle.sj_scripts.specs.Script.{commands_view}
 use Rattle.sj_records.specs.inside.Progress.{task_job}
 use Rattle.sj_records.proofs.RecordText.{Running}
 use Rattle.sj_records.proofs.task.run_commands.Given as goal

@@ -1,0 +1,10 @@
+pub mod ScriptSteps
+pub mod Edits
+pub mod Parts
+pub mod Settled
+pub mod TapeKeys
+pub mod KeptValues
+pub mod KeptTrees
+pub mod Changes
+pub mod KeptChanges
+pub mod LazyWrites

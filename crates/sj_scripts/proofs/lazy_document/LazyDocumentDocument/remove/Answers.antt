@@ -1,0 +1,9 @@
+use Rattle.sj_scripts.proofs.KeptChanges.{removal_kept}
+use Rattle.sj_scripts.proofs.LazyWrites.{put_back, put_back_kept}
+use Rattle.sj_scripts.proofs.lazy_document.LazyDocumentDocument.remove.Goals as goal
+
+pub invariant_of-self : goal.invariant_of-self
+invariant_of-self c = record { repeats_no_key = put_back_kept c.args.out.now.items c.remove-written.new.out.items _ _ c.args.self.now.value c.from.result c.in_ok-document.document c.remove-written.new.self c.remove-written.result c.in_ok-document.ensures.ok c.from.ensures c.remove-written.ensures (removal_kept c.args.key.now) }
+
+pub returns : goal.returns
+returns c = put_back c.args.out.now.items c.remove-written.new.out.items _ _ c.args.self.now.value c.from.result c.in_ok-document.document c.remove-written.new.self c.remove-written.result c.in_ok-document.ensures.ok c.from.ensures c.remove-written.ensures

@@ -1,0 +1,5 @@
+-- What only clauses of private functions cite.
+pub mod ReadErrors
+pub mod Documents
+pub mod KeptValues
+pub mod LazyDocuments

@@ -1,0 +1,77 @@
+-- The edits of documents, what is appended of them, and how the elements of an array are kept apart in its text.
+use Rattle.std.specs.Prelude.{◌≡◌, ℕ, Bool, true, false, List, [], ◌∷◌, Option, Some, None, option_map, Result, Ok, Err, IsErr, codes, ◌++◌}
+use Rattle.std.specs.Io.{StartsWith}
+use Rattle.sj_base.specs.Containers.{members_in}
+use Rattle.sj_base.specs.Tree.{Tree, Items, Members, string, list}
+use Rattle.sj_base.specs.Scalar.{scalar_tree}
+use Rattle.sj_base.specs.declared.scalar.Scalar.{Scalar}
+use Rattle.sj_scripts.specs.declared.edit.Edit.{Edit}
+use Rattle.sj_scripts.specs.declared.edit.Edit.TheVariants.{Insert, Remove, Push, Pop, Set}
+use Rattle.sj_scripts.specs.declared.refusal.Refusal.{Refusal}
+use Rattle.sj_scripts.specs.declared.refusal.Refusal.TheVariants.{NoSuchPath, NotAnObject, NotAnArray, NotAContainer, TooDeep}
+use Rattle.sj_scripts.specs.declared.read_error.ReadError.{ReadError}
+use Rattle.sj_scripts.specs.declared.read_error.ReadError.TheVariants.{Memory, Refused}
+use Rattle.std.specs.declared.alloc.AllocError.{AllocError}
+use Rattle.sj_base.specs.Text.{text, items_text, more_items_text}
+use Rattle.sj_scripts.specs.Values.{document_tree}
+use Rattle.sj_scripts.specs.Script.{AppendsOrLeaves}
+use Rattle.sj_scripts.specs.Step.{Word, Change, reply_of, insertion, removal, pushing, popping, setting, key_items}
+
+-- what stands before an element that is the first or another
+abbrev pub separator : Bool → List ℕ
+separator true = []
+separator false = 0x2c ∷ []
+
+-- the text of the items from the first of them on, or from another
+abbrev pub items_left : Bool → Items → List ℕ
+items_left true ts = items_text ts
+items_left false ts = more_items_text ts
+
+-- The bytes were appended, or nothing that stood before was changed.
+abbrev pub AppendsOrGrows : {E : Type 0} → Result Unit E → List ℕ → List ℕ → List ℕ → Type 0
+AppendsOrGrows (Ok done) old new bytes = new ≡ old ++ bytes
+AppendsOrGrows (Err e) old new bytes = StartsWith new old
+
+-- the word of a refusal
+abbrev pub refusal_name : Refusal → Word
+refusal_name NoSuchPath = codes "NoSuchPath"
+refusal_name NotAnObject = codes "NotAnObject"
+refusal_name NotAnArray = codes "NotAnArray"
+refusal_name NotAContainer = codes "NotAContainer"
+refusal_name TooDeep = codes "TooDeep"
+
+-- what was read, or the refusal, against the definition
+abbrev pub GivesReply : {A : Type 0} → (A → Tree) → Result A Refusal → Result Tree Word → Type 0
+GivesReply view (Ok x) read = read ≡ Ok (view x)
+GivesReply view (Err why) read = read ≡ Err (refusal_name why)
+
+-- the reply of a scalar or of a refusal
+abbrev pub reply_view : Result Scalar Refusal → Tree
+reply_view (Ok s) = scalar_tree s
+reply_view (Err why) = string (refusal_name why)
+
+-- the change that an edit makes of a part
+abbrev pub change_of : Edit → Change
+change_of (Insert k v fits) = insertion fits k.now (document_tree v.now)
+change_of (Remove k) = removal k.now
+change_of (Push v fits) = pushing fits (document_tree v.now)
+change_of Pop = popping
+change_of (Set v fits) = setting fits (document_tree v.now)
+
+-- What an edit of the tree t leaves: what it replaced or took out and the new tree, or a refusal and the old tree. Want of
+-- memory leaves the old tree.
+abbrev pub IsEdited : {V : Type 0} → (V → Tree) → Result (Option V) (ReadError Refusal) → Tree → Tree → Result (Tree × Tree) Word → Type 0
+IsEdited tree (Ok found) t u w = w ≡ Ok (reply_of (option_map tree found), u)
+IsEdited tree (Err (Refused why)) t u w = (w ≡ Err (refusal_name why)) × (u ≡ t)
+IsEdited tree (Err Memory) t u w = u ≡ t
+
+-- What is appended of an edit: what it replaced or took out, or its refusal. On an error nothing is appended.
+abbrev pub ShowsEdit : {V : Type 0} → (V → Tree) → Result (Option V) (ReadError Refusal) → Result Unit AllocError → List ℕ → List ℕ → Type 0
+ShowsEdit tree (Ok found) r old new = AppendsOrLeaves r old new (text (reply_of (option_map tree found)))
+ShowsEdit tree (Err (Refused why)) r old new = AppendsOrLeaves r old new (text (string (refusal_name why)))
+ShowsEdit tree (Err Memory) r old new = IsErr r × (new ≡ old)
+
+-- What is appended of an object's keys: an array of them, or a part of it before an error. Of another tree nothing is.
+abbrev pub PutsKeys : Tree → Option (Result Unit AllocError) → List ℕ → List ℕ → Type 0
+PutsKeys t (Some r) old new = (ms : Members) × (members_in t ≡ Some ms) × AppendsOrGrows r old new (text (list (key_items ms)))
+PutsKeys t None old new = (members_in t ≡ None) × (new ≡ old)

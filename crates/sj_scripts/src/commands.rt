@@ -1,0 +1,229 @@
+//! Reading the commands of a script from its document.
+ghost use Rattle.sj_scripts.specs.Command.{part_of, parts_of, path_of, key_of, path_alone, path_and_key, path_and_value, path_key_value, nullary, command_of, commands_from, commands_in, named};
+ghost use Rattle.std.specs.String.{string_bytes};
+ghost use Rattle.sj_base.specs.Tree.{list};
+ghost use Rattle.sj_base.specs.Scalar.{static_tree};
+ghost use Rattle.sj_scripts.specs.Values.{document_tree, items_view};
+ghost use Rattle.sj_scripts.specs.Script.{part_view, path_view, command_view, commands_view};
+ghost use Rattle.sj_scripts.specs.inside.ReadErrors.{GivesCommand, GivesScript};
+
+use crate::path::PathPart;
+use crate::read_error::ReadError;
+use crate::script::{Command, CommandFault, ScriptFault};
+use crate::script_value::ScriptValue;
+use sj_base::StaticNode;
+use sj_owned::OwnedValue;
+use std::alloc::Global;
+
+fn read_part(document: &OwnedValue) -> Result<PathPart, ReadError<CommandFault>>
+    ensures { GivesCommand part_view result (part_of (document_tree document.now)) }
+{
+    match document {
+        OwnedValue::String(key) => Ok(PathPart::Key(key.clone()?)),
+        OwnedValue::Static(scalar) => read_index(*scalar),
+        _ => Err(ReadError::Refused(CommandFault::BadPath)),
+    }
+}
+
+fn read_index(scalar: StaticNode) -> Result<PathPart, ReadError<CommandFault>>
+    ensures { GivesCommand part_view result (part_of (static_tree scalar)) }
+{
+    match scalar {
+        StaticNode::U64(place) => Ok(PathPart::Item(place)),
+        StaticNode::I64(place) if place >= 0 => Ok(PathPart::Item(place as u64)),
+        _ => Err(ReadError::Refused(CommandFault::BadPath)),
+    }
+}
+
+fn read_path(alloc: Global, document: &OwnedValue) -> Result<Vec<PathPart>, ReadError<CommandFault>>
+    ensures { GivesCommand (λ path. path_view path.items) result (path_of (document_tree document.now)) }
+{
+    match document {
+        OwnedValue::Array(items) => read_path_parts(alloc, items),
+        _ => Err(ReadError::Refused(CommandFault::BadPath)),
+    }
+}
+
+fn read_path_parts(
+    alloc: Global,
+    items: &[OwnedValue],
+) -> Result<Vec<PathPart>, ReadError<CommandFault>>
+    ensures { GivesCommand (λ path. path_view path.items) result (parts_of (items_view items.now)) }
+{
+    let mut path = Vec::new(alloc);
+    for item in items {
+        path.push(read_part(item)?)?;
+    }
+    Ok(path)
+}
+
+fn read_key(document: &OwnedValue) -> Result<String, ReadError<CommandFault>>
+    ensures { GivesCommand string_bytes result (key_of (document_tree document.now)) }
+{
+    match document {
+        OwnedValue::String(key) => Ok(key.clone()?),
+        _ => Err(ReadError::Refused(CommandFault::BadKey)),
+    }
+}
+
+/// Reads the arguments of a command that takes a path.
+fn read_path_alone(
+    alloc: Global,
+    arguments: &[OwnedValue],
+) -> Result<Vec<PathPart>, ReadError<CommandFault>>
+    ensures { GivesCommand (λ path. path_view path.items) result (path_alone (items_view arguments.now)) }
+{
+    if arguments.len() != 1 {
+        return Err(ReadError::Refused(CommandFault::WrongCount));
+    }
+    read_path(alloc, &arguments[0])
+}
+
+/// Reads the arguments of a command that takes a path and a key.
+fn read_path_and_key(
+    alloc: Global,
+    arguments: &[OwnedValue],
+) -> Result<(Vec<PathPart>, String), ReadError<CommandFault>>
+    ensures { GivesCommand (λ a. (path_view a.0.items, string_bytes a.1)) result (path_and_key (items_view arguments.now)) }
+{
+    let Some((key, front)) = arguments.split_last() else {
+        return Err(ReadError::Refused(CommandFault::WrongCount));
+    };
+    let path = read_path_alone(alloc, front)?;
+    Ok((path, read_key(key)?))
+}
+
+/// Reads the arguments of a command that takes a path and a value. The value is moved.
+fn read_path_and_value(
+    alloc: Global,
+    mut arguments: Vec<OwnedValue>,
+) -> Result<(Vec<PathPart>, ScriptValue), ReadError<CommandFault>>
+    ensures { GivesCommand (λ a. (path_view a.0.items, document_tree a.1.value)) result (path_and_value (items_view arguments.items)) }
+{
+    let Some(value) = arguments.pop() else {
+        return Err(ReadError::Refused(CommandFault::WrongCount));
+    };
+    let path = read_path_alone(alloc, &arguments)?;
+    Ok((path, ScriptValue::new(value)?))
+}
+
+/// Reads the arguments of a command that takes a path, a key and a value. The value is moved.
+fn read_path_key_value(
+    alloc: Global,
+    mut arguments: Vec<OwnedValue>,
+) -> Result<(Vec<PathPart>, String, ScriptValue), ReadError<CommandFault>>
+    ensures { GivesCommand (λ a. (path_view a.0.items, string_bytes a.1, document_tree a.2.value)) result
+        (path_key_value (items_view arguments.items)) }
+{
+    let Some(value) = arguments.pop() else {
+        return Err(ReadError::Refused(CommandFault::WrongCount));
+    };
+    let (path, key) = read_path_and_key(alloc, &arguments)?;
+    Ok((path, key, ScriptValue::new(value)?))
+}
+
+/// Returns the command, if there are no arguments.
+fn read_nullary(
+    command: Command,
+    arguments: &[OwnedValue],
+) -> Result<Command, ReadError<CommandFault>>
+    ensures { GivesCommand command_view result (nullary (command_view command) (items_view arguments.now)) }
+{
+    if !arguments.is_empty() {
+        return Err(ReadError::Refused(CommandFault::WrongCount));
+    }
+    Ok(command)
+}
+
+fn read_command(alloc: Global, document: OwnedValue) -> Result<Command, ReadError<CommandFault>>
+    ensures { GivesCommand command_view result (command_of (document_tree document)) }
+{
+    match document {
+        OwnedValue::Array(items) => read_command_items(alloc, items),
+        _ => Err(ReadError::Refused(CommandFault::NotAnArray)),
+    }
+}
+
+/// Reads a command from its items, the name and then the arguments.
+fn read_command_items(
+    alloc: Global,
+    mut items: Vec<OwnedValue>,
+) -> Result<Command, ReadError<CommandFault>>
+    ensures { GivesCommand command_view result (command_of (list (items_view items.items))) }
+{
+    if items.is_empty() {
+        return Err(ReadError::Refused(CommandFault::NoName));
+    }
+    match items.remove(0) {
+        OwnedValue::String(name) => read_named_command(alloc, &name, items),
+        _ => Err(ReadError::Refused(CommandFault::NoName)),
+    }
+}
+
+fn read_named_command(
+    alloc: Global,
+    name: &str,
+    arguments: Vec<OwnedValue>,
+) -> Result<Command, ReadError<CommandFault>>
+    ensures { GivesCommand command_view result (named name.now (items_view arguments.items)) }
+{
+    match name {
+        "get" => Ok(Command::Get(read_path_alone(alloc, &arguments)?)),
+        "contains" => {
+            let (path, key) = read_path_and_key(alloc, &arguments)?;
+            Ok(Command::Contains(path, key))
+        }
+        "type" => Ok(Command::TypeOf(read_path_alone(alloc, &arguments)?)),
+        "len" => Ok(Command::Len(read_path_alone(alloc, &arguments)?)),
+        "keys" => Ok(Command::Keys(read_path_alone(alloc, &arguments)?)),
+        "insert" => {
+            let (path, key, value) = read_path_key_value(alloc, arguments)?;
+            Ok(Command::Insert(path, key, value))
+        }
+        "remove" => {
+            let (path, key) = read_path_and_key(alloc, &arguments)?;
+            Ok(Command::Remove(path, key))
+        }
+        "push" => {
+            let (path, value) = read_path_and_value(alloc, arguments)?;
+            Ok(Command::Push(path, value))
+        }
+        "pop" => Ok(Command::Pop(read_path_alone(alloc, &arguments)?)),
+        "set" => {
+            let (path, value) = read_path_and_value(alloc, arguments)?;
+            Ok(Command::SetAt(path, value))
+        }
+        "reload" => read_nullary(Command::Reload, &arguments),
+        "reload_pp" => read_nullary(Command::ReloadPp, &arguments),
+        _ => Err(ReadError::Refused(CommandFault::UnknownName)),
+    }
+}
+
+/// Reads the commands of a script.
+pub(crate) fn read_commands(
+    alloc: Global,
+    document: OwnedValue,
+) -> Result<Vec<Command>, ScriptFault>
+    ensures { GivesScript (λ commands. commands_view commands.items) result
+        (commands_in (document_tree document)) }
+{
+    match document {
+        OwnedValue::Array(items) => read_command_list(alloc, items),
+        _ => Err(ScriptFault::NotAnArray),
+    }
+}
+
+fn read_command_list(alloc: Global, items: Vec<OwnedValue>) -> Result<Vec<Command>, ScriptFault>
+    ensures { GivesScript (λ commands. commands_view commands.items) result
+        (commands_from 0 (items_view items.items)) }
+{
+    let mut commands = Vec::new(alloc);
+    for (place, item) in items.into_iter().enumerate() {
+        match read_command(alloc, item) {
+            Ok(command) => commands.push(command)?,
+            Err(ReadError::Refused(fault)) => return Err(ScriptFault::Command { place, fault }),
+            Err(ReadError::Memory) => return Err(ScriptFault::Memory),
+        }
+    }
+    Ok(commands)
+}
