@@ -2,7 +2,7 @@
 ghost use Rattle.std.specs.Prelude.{◌≡◌, ℕ, OnErr, OnOk};
 ghost use Rattle.std.specs.Io.KnownBytes.{Appends};
 ghost use Rattle.sj_base.specs.Output.{AppendsPrefix};
-ghost use Rattle.sj_records.specs.Job.{steps_of};
+ghost use Rattle.sj_scripts.specs.Steps.{steps_of};
 ghost use Rattle.records_cli.specs.Program.{RunLeaves, job_of};
 
 use crate::arguments::RunArguments;

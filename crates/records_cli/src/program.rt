@@ -3,7 +3,7 @@ ghost use Rattle.std.specs.Prelude.{◌≡◌, ℕ, List, Ok, Err, Result, IfOk,
 ghost use Rattle.std.specs.Fn.{FnOnceReturnsAt};
 ghost use Rattle.std.specs.Io.KnownBytes.{Appends, Keeps};
 ghost use Rattle.sj_base.specs.Output.{AppendsPrefix};
-ghost use Rattle.sj_records.specs.Job.{steps_of};
+ghost use Rattle.sj_scripts.specs.Steps.{steps_of};
 ghost use Rattle.sj_scripts.specs.Script.{IsReadAs};
 ghost use Rattle.records_cli.specs.Fault.{exit_status, refusal_line, status_of};
 ghost use Rattle.records_cli.specs.Program.{ProgramLeaves, Reports, RunEnds, RefusesBytes, job_of};

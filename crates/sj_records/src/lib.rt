@@ -10,4 +10,6 @@ mod task;
 pub use engine::run;
 pub use form::Form;
 pub use run_error::RunError;
-pub use sj_scripts::{Command, CommandFault, Document, LazyDocument, PathPart, Script, ScriptFault, ScriptValue};
+pub use sj_scripts::{
+    Command, CommandFault, Document, LazyDocument, PathPart, Script, ScriptFault, ScriptValue,
+};

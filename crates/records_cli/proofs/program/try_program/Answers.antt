@@ -7,7 +7,7 @@ use Rattle.std.specs.declared.alloc.Global.{Global}
 use Rattle.std.proofs.lemmas.Result.{err_from_is_err_and}
 use Rattle.std.proofs.KnownBytes.{Keeps-refl}
 use Rattle.sj_scripts.specs.Command.{Step}
-use Rattle.sj_records.specs.Job.{steps_of}
+use Rattle.sj_scripts.specs.Steps.{steps_of}
 use Rattle.records_cli.specs.declared.fault.Fault.{Fault}
 use Rattle.records_cli.specs.declared.fault.Fault.TheVariants.{Memory, Read, Write, Arguments, Unreadable, Script}
 use Rattle.records_cli.specs.declared.arguments.Arguments.TheVariants.{Run, Help}
