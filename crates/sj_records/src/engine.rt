@@ -1,15 +1,17 @@
 //! The loop over a stream, which cuts it into lines, runs the script on each and writes their records.
 ghost use Rattle.std.specs.Prelude.{◌≡◌, ◌+◌, ◌≤◌, ◌^◌, [], ◌∷◌, ◌++◌, vec_len, IfOk, OnOk, MatchOption};
 ghost use Rattle.std.specs.Io.KnownBytes.{IsAtEnd};
+ghost use Rattle.sj_parse.specs.Answers.{buffer_limit};
 ghost use Rattle.sj_records.specs.Lines.{ended, unended, if_any};
 ghost use Rattle.sj_records.specs.Run.{Transfers, Leaves, ReadsFor, WritesFor};
 ghost use Rattle.sj_records.specs.Job.{job_of};
-ghost use Rattle.sj_records.specs.inside.Progress.{HasNoLineFeed, LeavesLines, LeavesBytes, task_job, scratch_limit};
+ghost use Rattle.sj_records.specs.inside.Progress.{HasNoLineFeed, LeavesLines, LeavesBytes, task_job};
 
 use crate::form::Form;
 use crate::run_error::RunError;
 use crate::task::{Scratch, Task, make_record};
 use sj_base::{Output, Sink, Source, WriteFault};
+use sj_parse::Buffers;
 use sj_scripts::Script;
 use sj_tape::Tape;
 use std::alloc::{AllocError, Global};
@@ -51,18 +53,19 @@ struct Pending {
 fn write_record<'de, W: Sink>(
     alloc: Global,
     writer: &mut W,
+    buffers: &mut Buffers,
     scratch: &mut Scratch,
     tape: &mut Tape<'de>,
     line: &'de mut [u8],
     task: Task<'_>,
 ) -> Result<(), RunError>
-    requires { scratch_limit scratch.old ≡ task.depth }
+    requires { buffer_limit buffers.old ≡ task.depth }
     ensures stands { LeavesLines result (task_job task.entry) (W.contents writer.old) (W.contents writer.new)
         [] (line.entry.now ∷ []) }
-    ensures limit { scratch_limit scratch.new ≡ scratch_limit scratch.old }
+    ensures limit { buffer_limit buffers.new ≡ buffer_limit buffers.old }
     ensures writes { WritesFor result (W.calls writer.old) (W.calls writer.new) }
 {
-    make_record(alloc, scratch, tape, line, task)?;
+    make_record(alloc, buffers, scratch, tape, line, task)?;
     write_all(writer, &scratch.out)
 }
 
@@ -70,17 +73,18 @@ fn write_record<'de, W: Sink>(
 fn write_pending<W: Sink>(
     alloc: Global,
     writer: &mut W,
+    buffers: &mut Buffers,
     pending: &mut Pending,
     task: Task<'_>,
 ) -> Result<(), RunError>
-    requires { scratch_limit pending.old.scratch ≡ task.depth }
+    requires { buffer_limit buffers.old ≡ task.depth }
     ensures stands { LeavesLines result (task_job task.entry) (W.contents writer.old) (W.contents writer.new)
         [] (pending.old.line.items ∷ []) }
-    ensures limit { scratch_limit pending.new.scratch ≡ scratch_limit pending.old.scratch }
+    ensures limit { buffer_limit buffers.new ≡ buffer_limit buffers.old }
     ensures writes { WritesFor result (W.calls writer.old) (W.calls writer.new) }
 {
     let Pending { line, scratch } = pending;
-    write_record(alloc, writer, scratch, &mut Tape::empty(alloc), line, task)
+    write_record(alloc, writer, buffers, scratch, &mut Tape::empty(alloc), line, task)
 }
 
 /// Writes the record of the pending line, of which `end` is the last part, and clears the line. Both are rewritten. The
@@ -88,23 +92,24 @@ fn write_pending<W: Sink>(
 fn complete_line<'p, W: Sink>(
     alloc: Global,
     writer: &mut W,
+    buffers: &mut Buffers,
     pending: &mut Pending,
     tape: &mut Tape<'p>,
     end: &'p mut [u8],
     task: Task<'_>,
 ) -> Result<(), RunError>
-    requires { scratch_limit pending.old.scratch ≡ task.depth }
+    requires { buffer_limit buffers.old ≡ task.depth }
     ensures stands { LeavesLines result (task_job task.entry) (W.contents writer.old) (W.contents writer.new)
         [] ((pending.old.line.items ++ end.entry.now) ∷ []) }
     ensures cleared { OnOk result (pending.new.line.items ≡ []) }
-    ensures limit { scratch_limit pending.new.scratch ≡ scratch_limit pending.old.scratch }
+    ensures limit { buffer_limit buffers.new ≡ buffer_limit buffers.old }
     ensures writes { WritesFor result (W.calls writer.old) (W.calls writer.new) }
 {
     if pending.line.is_empty() {
-        return write_record(alloc, writer, &mut pending.scratch, tape, end, task);
+        return write_record(alloc, writer, buffers, &mut pending.scratch, tape, end, task);
     }
     pending.line.extend_from_slice(end)?;
-    write_pending(alloc, writer, pending, task)?;
+    write_pending(alloc, writer, buffers, pending, task)?;
     pending.line.clear();
     Ok(())
 }
@@ -114,17 +119,18 @@ fn complete_line<'p, W: Sink>(
 fn process_piece<W: Sink>(
     alloc: Global,
     writer: &mut W,
+    buffers: &mut Buffers,
     pending: &mut Pending,
     piece: &mut [u8],
     task: Task<'_>,
 ) -> Result<(), RunError>
     requires clean { HasNoLineFeed pending.old.line.items }
-    requires limit { scratch_limit pending.old.scratch ≡ task.depth }
+    requires limit { buffer_limit buffers.old ≡ task.depth }
     ensures stands { let lines = ended (pending.old.line.items ++ piece.old) in
         LeavesLines result (task_job task.entry) (W.contents writer.old) (W.contents writer.new) lines lines }
     ensures kept { OnOk result
         (pending.new.line.items ≡ unended (pending.old.line.items ++ piece.old)) }
-    ensures limit { scratch_limit pending.new.scratch ≡ scratch_limit pending.old.scratch }
+    ensures limit { buffer_limit buffers.new ≡ buffer_limit buffers.old }
     ensures writes { WritesFor result (W.calls writer.old) (W.calls writer.new) }
 {
     // Its nodes borrow from the lines of the piece.
@@ -136,7 +142,7 @@ fn process_piece<W: Sink>(
             pending.line.extend_from_slice(end)?;
             return Ok(());
         };
-        complete_line(alloc, writer, pending, &mut tape, end, task)?;
+        complete_line(alloc, writer, buffers, pending, &mut tape, end, task)?;
         rest = behind;
     }
 }
@@ -145,18 +151,20 @@ fn process_piece<W: Sink>(
 fn finish<W: Sink>(
     alloc: Global,
     writer: &mut W,
+    buffers: &mut Buffers,
     pending: &mut Pending,
     task: Task<'_>,
 ) -> Result<(), RunError>
-    requires { scratch_limit pending.old.scratch ≡ task.depth }
+    requires { buffer_limit buffers.old ≡ task.depth }
     ensures stands { LeavesLines result (task_job task.entry) (W.contents writer.old) (W.contents writer.new)
         [] (if_any pending.old.line.items) }
+    ensures limit { buffer_limit buffers.new ≡ buffer_limit buffers.old }
     ensures writes { WritesFor result (W.calls writer.old) (W.calls writer.new) }
 {
     if pending.line.is_empty() {
         return Ok(());
     }
-    write_pending(alloc, writer, pending, task)
+    write_pending(alloc, writer, buffers, pending, task)
 }
 
 /// The most bytes that one read gives.
@@ -171,14 +179,16 @@ fn zeros(alloc: Global, len: usize) -> Result<Vec<u8>, AllocError>
     vec![in alloc; 0; len]
 }
 
-/// `run` with at most `max_reads` reads.
+/// `run_with` with at most `max_reads` reads.
 fn run_within<R: Source, W: Sink>(
     alloc: Global,
     reader: &mut R,
     writer: &mut W,
+    buffers: &mut Buffers,
     task: Task<'_>,
     max_reads: u64,
 ) -> Result<(), RunError>
+    requires { buffer_limit buffers.old ≡ task.depth }
     ensures stands { Transfers (R.remaining reader.old) (R.remaining reader.new)
         (W.contents writer.old) (W.contents writer.new)
         (Leaves result (task_job task.entry)) }
@@ -186,16 +196,17 @@ fn run_within<R: Source, W: Sink>(
     ensures reads { ReadsFor max_reads result (R.calls reader.old) (R.calls reader.new) }
     ensures bound { (R.calls reader.new).made ≤ (R.calls reader.old).made + max_reads }
     ensures writes { WritesFor result (W.calls writer.old) (W.calls writer.new) }
+    ensures limit { buffer_limit buffers.new ≡ buffer_limit buffers.old }
 {
     let mut pending = Pending {
         line: Vec::new(alloc),
-        scratch: Scratch::new(alloc, task.depth)?,
+        scratch: Scratch::new(alloc),
     };
     let mut piece = zeros(alloc, PIECE_LEN)?;
     for _ in 0..max_reads {
         match reader.read(&mut piece) {
-            Ok(0) => return finish(alloc, writer, &mut pending, task),
-            Ok(taken) => process_piece(alloc, writer, &mut pending, &mut piece[..taken], task)?,
+            Ok(0) => return finish(alloc, writer, buffers, &mut pending, task),
+            Ok(taken) => process_piece(alloc, writer, buffers, &mut pending, &mut piece[..taken], task)?,
             Err(e) if e.kind() == ErrorKind::Interrupted => {}
             Err(_) => return Err(RunError::Read),
         }
@@ -231,10 +242,40 @@ pub fn run<R: Source, W: Sink>(
     ensures bound { (R.calls reader.new).made ≤ (R.calls reader.old).made + 2 ^ 62 }
     ensures writes { WritesFor result (W.calls writer.old) (W.calls writer.new) }
 {
+    let mut buffers = Buffers::with_max_depth(alloc, 0, depth)?;
+    run_with(alloc, reader, writer, script, form, &mut buffers)
+}
+
+/// Does what [`run`] does, under the limit of levels of the buffers, whose room is used for each line. Runs that use the same
+/// buffers one after the other take room for them once.
+///
+/// The room for more than 2^20 positions is given back after the line that needed it.
+///
+/// # Errors
+///
+/// See [`RunError`] for each error and what is written before it. The buffers can be used again after each.
+pub fn run_with<R: Source, W: Sink>(
+    alloc: Global,
+    reader: &mut R,
+    writer: &mut W,
+    script: &Script,
+    form: Form,
+    buffers: &mut Buffers,
+) -> Result<(), RunError>
+    // As of `run`, with the limit of the buffers in the place of `depth`.
+    ensures stands { Transfers (R.remaining reader.old) (R.remaining reader.new)
+        (W.contents writer.old) (W.contents writer.new)
+        (Leaves result (job_of script.now (buffer_limit buffers.old) form)) }
+    ensures at_end { OnOk result (IsAtEnd (R.remaining reader.new)) }
+    ensures reads { ReadsFor (2 ^ 62) result (R.calls reader.old) (R.calls reader.new) }
+    ensures bound { (R.calls reader.new).made ≤ (R.calls reader.old).made + 2 ^ 62 }
+    ensures writes { WritesFor result (W.calls writer.old) (W.calls writer.new) }
+    ensures limit { buffer_limit buffers.new ≡ buffer_limit buffers.old }
+{
     let task = Task {
         script,
-        depth,
+        depth: buffers.max_depth(),
         form,
     };
-    run_within(alloc, reader, writer, task, MAX_READS)
+    run_within(alloc, reader, writer, buffers, task, MAX_READS)
 }

@@ -7,7 +7,7 @@ pub mod laws;
 mod run_error;
 mod task;
 
-pub use engine::run;
+pub use engine::{run, run_with};
 pub use form::Form;
 pub use run_error::RunError;
 pub use sj_scripts::{

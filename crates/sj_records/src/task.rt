@@ -13,7 +13,7 @@ ghost use Rattle.sj_scripts.specs.Script.{command_view, commands_view};
 ghost use Rattle.sj_scripts.specs.Step.{State, start, reload_reply};
 ghost use Rattle.sj_tape.specs.Views.{tape_nodes, nodes_tree};
 ghost use Rattle.sj_scripts.specs.inside.ReadErrors.{IfRefused};
-ghost use Rattle.sj_records.specs.inside.Progress.{task_job, scratch_limit, IsStep};
+ghost use Rattle.sj_records.specs.inside.Progress.{task_job, IsStep};
 ghost use Rattle.sj_records.specs.inside.Reloads.{IsReadable, IsPrinted, Runs, is_reload};
 
 use crate::form::Form;
@@ -41,8 +41,6 @@ pub(crate) struct Task<'s> {
 /// Room that is kept from one line to the next.
 #[derive(Drop)]
 pub(crate) struct Scratch {
-    /// Room to read a line in, and the limit of levels.
-    pub(crate) buffers: Buffers,
     /// Room for the texts of a document that is read again.
     pub(crate) texts: Texts,
     /// The record of the last line.
@@ -59,19 +57,15 @@ pub(crate) struct Texts {
 }
 
 impl Scratch {
-    /// Creates room under a limit of depth, in levels.
-    pub(crate) fn new(alloc: Global, depth: usize) -> Result<Scratch, AllocError>
-        ensures { IfOk result (λ scratch. scratch_limit scratch ≡ depth) }
-    {
-        Ok(Scratch {
-            // No line is known yet, so no room is taken.
-            buffers: Buffers::with_max_depth(alloc, 0, depth)?,
+    /// Creates one. No line is known yet, so no room is taken.
+    pub(crate) fn new(alloc: Global) -> Scratch {
+        Scratch {
             texts: Texts {
                 printed: Vec::new(alloc),
                 next: Vec::new(alloc),
             },
             out: Vec::new(alloc),
-        })
+        }
     }
 }
 
@@ -79,21 +73,18 @@ impl Scratch {
 /// tape is filled anew.
 pub(crate) fn make_record<'de>(
     alloc: Global,
+    buffers: &mut Buffers,
     scratch: &mut Scratch,
     tape: &mut Tape<'de>,
     line: &'de mut [u8],
     task: Task<'_>,
 ) -> Result<(), AllocError>
-    requires { scratch_limit scratch.old ≡ task.depth }
+    requires { buffer_limit buffers.old ≡ task.depth }
     ensures holds { OnOk result ((bytes : List ℕ) × (scratch.new.out.items ≡ bytes ++ 0x0a ∷ [])
         × IsRecord (task_job task.entry) line.entry.now bytes) }
-    ensures limit { scratch_limit scratch.new ≡ scratch_limit scratch.old }
+    ensures limit { buffer_limit buffers.new ≡ buffer_limit buffers.old }
 {
-    let Scratch {
-        buffers,
-        texts,
-        out,
-    } = scratch;
+    let Scratch { texts, out } = scratch;
     out.clear();
     put_record(alloc, buffers, texts, tape, out, line, task)?;
     out.push(b'\n')?;

@@ -7,8 +7,6 @@ use Rattle.sj_base.specs.Tree.{Tree}
 use Rattle.sj_records.specs.declared.run_error.RunError.{RunError}
 use Rattle.sj_records.specs.declared.run_error.RunError.TheVariants.{Memory, Write, Read, TooManyReads}
 use Rattle.sj_records.specs.declared.task.Task.{Task}
-use Rattle.sj_records.specs.declared.task.Scratch.{Scratch}
-use Rattle.sj_parse.specs.Answers.{buffer_limit}
 use Rattle.sj_scripts.specs.Step.{Job, Keeping, State, step}
 use Rattle.sj_scripts.specs.Command.{Step}
 use Rattle.sj_base.specs.Text.{text}
@@ -20,10 +18,6 @@ HasNoLineFeed bs = AllByRecursion (λ b. b ≢ 0x0a) bs
 
 abbrev pub task_job : Task → Job
 task_job task = job_of task.script.now task.depth task.form
-
--- the limit of levels under which lines are read
-abbrev pub scratch_limit : Scratch → ℕ
-scratch_limit s = buffer_limit s.buffers
 
 -- the records of these lines were written, and nothing else
 abbrev pub Wrote : Job → Option (List ℕ) → Option (List ℕ) → List (List ℕ) → Type 0

@@ -57,7 +57,8 @@ loop-preserved g c =
             goes_on = GoesOn-then (reads c.args.reader.now) (reads c.loop.reader) (reads c.read.new.self) so_far.goes_on (GoesOn-some (reads c.loop.reader) (reads c.read.new.self) c.read.new.buf w.in-Ok.taken (omega arith) w.in-Ok.ensures.ok_counts);
             made = w.in-Ok.ensures.made ∙ omega arith;
             written = rw w.writer-is (fed.writes ∙ so_far.written);
-            limit = rw w.pending-is (fed.limit ∙ so_far.limit);
+            limit = rw w.buffers-is (fed.limit ∙ so_far.limit);
+            kept = rw w.buffers-is (fed.limit ∙ so_far.kept);
             room = rw w.piece-is so_far.room;
           }
       | in-Err w ↦
@@ -68,7 +69,8 @@ loop-preserved g c =
             goes_on = GoesOn-then (reads c.args.reader.now) (reads c.loop.reader) (reads c.read.new.self) so_far.goes_on (GoesOn-interrupted (reads c.loop.reader) (reads c.read.new.self) (w.in-Err.ensures.err_counts.0 interrupted));
             made = w.in-Err.ensures.made ∙ omega arith;
             written = rw w.writer-is so_far.written;
-            limit = rw w.pending-is so_far.limit;
+            limit = rw w.buffers-is so_far.limit;
+            kept = rw w.buffers-is so_far.kept;
             room = rw w.piece-is so_far.room;
           }
     ]
