@@ -5,6 +5,7 @@ ghost use Rattle.std.specs.Prelude.{◌≡◌};
 mod copies;
 mod documents;
 mod faults;
+mod kept_buffers;
 mod keys;
 mod lazy;
 mod nodes;

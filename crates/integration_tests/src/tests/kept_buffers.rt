@@ -1,0 +1,139 @@
+//! Runs that use the same buffers, one after the other.
+ghost use Rattle.std.specs.Prelude.{◌≡◌};
+
+use super::{FORMS, Pieces, script_of};
+use sj_base::Counted;
+use sj_parse::Buffers;
+use sj_records::{Form, RunError, Script, run_with};
+use std::alloc::Global;
+use std::io::{Read, Write};
+use std::marker::Brand;
+use std::process::Abort;
+use std::sync::ledger::{Blank, Ledger};
+use std::test::Fail;
+
+// A run with counts, which the blanks open.
+fn counted_run_with<I: Read + Drop, O: Write + Drop, L: Ledger, M: Ledger>(
+    alloc: Global,
+    input: I,
+    output: &mut O,
+    script: &Script,
+    form: Form,
+    buffers: &mut Buffers,
+    reads: Blank,
+    writes: Blank,
+) -> Result<(), RunError>
+    requires reads { (reads.name ≡ L.name) × (reads.parts ≡ L.parts) × (reads.parts ≡ 4) }
+    requires writes { (writes.name ≡ M.name) × (writes.parts ≡ M.parts) × (writes.parts ≡ 4) }
+{
+    let mut source = Counted::<I, L>::new(input, reads);
+    let mut sink = Counted::<&mut O, M>::new(output, writes);
+    let result = run_with(alloc, &mut source, &mut sink, script, form, buffers);
+    let _ = source.into_inner();
+    let _ = sink.into_inner();
+    result
+}
+
+fn run_with_on<I: Read + Drop, O: Write + Drop>(
+    alloc: Global,
+    input: I,
+    output: &mut O,
+    script: &Script,
+    form: Form,
+    buffers: &mut Buffers,
+) -> Result<(), RunError> {
+    counted_run_with::<I, O, Brand, Brand>(
+        alloc,
+        input,
+        output,
+        script,
+        form,
+        buffers,
+        Blank::new(4),
+        Blank::new(4),
+    )
+}
+
+// Looks for the records of a stream in one form, in these buffers.
+fn expect_with(
+    buffers: &mut Buffers,
+    form: Form,
+    rt: &impl Abort,
+    alloc: Global,
+    script: &str,
+    stream: &str,
+    records: &str,
+) {
+    let script = script_of(alloc, script).expect(rt, "a script");
+    let mut output = Vec::new(alloc);
+    let input = Pieces::new(stream.as_bytes(), 65536);
+    let result = run_with_on(alloc, input, &mut output, &script, form, buffers);
+    assert_eq!(rt; result, Ok(()));
+    assert_eq!(rt;
+        output.as_slice(),
+        records.as_bytes(),
+        "{stream} in {form:?}"
+    );
+}
+
+#[test]
+fn streams_in_the_same_buffers(rt: HostRuntime) -> Result<(), Fail> {
+    let alloc = rt.alloc();
+    for form in FORMS {
+        let mut buffers = Buffers::with_max_depth(alloc, 0, 1)?;
+        for _ in 0..2 {
+            expect_with(
+                &mut buffers,
+                form,
+                &rt,
+                alloc,
+                r#"[["push",[],[]],["push",[],3]]"#,
+                "[1, 2]\n[\n[]",
+                concat!(
+                    r#"{"replies":["TooDeep",[]],"document":[1,2,3]}"#,
+                    "\n",
+                    r#"{"error":"Syntax","index":0,"character":"["}"#,
+                    "\n",
+                    r#"{"replies":["TooDeep",[]],"document":[3]}"#,
+                    "\n"
+                ),
+            );
+            expect_with(&mut buffers, form, &rt, alloc, "[]", "", "");
+        }
+        assert_eq!(rt; buffers.max_depth(), 1);
+    }
+    Ok(())
+}
+
+// The positions are those of the text that was read last, which here is that of the reload.
+#[test]
+fn positions_behind_a_reload(rt: HostRuntime) -> Result<(), Fail> {
+    let alloc = rt.alloc();
+    let owned: &[u32] = &[0, 1, 4, 5, 6];
+    let lazy: &[u32] = &[0, 1, 4, 5, 6, 7, 10, 11, 12];
+    for (form, record, positions) in [
+        (
+            Form::Owned,
+            "{\"replies\":[true,1],\"document\":{\"a\":1}}\n",
+            owned,
+        ),
+        (
+            Form::Lazy,
+            "{\"replies\":[true,2],\"document\":{\"a\":1,\"a\":2}}\n",
+            lazy,
+        ),
+    ] {
+        let mut buffers = Buffers::new(alloc, 0)?;
+        expect_with(
+            &mut buffers,
+            form,
+            &rt,
+            alloc,
+            r#"[["reload"],["len",[]]]"#,
+            r#"{"a":1,"a":2}"#,
+            record,
+        );
+        assert_eq!(rt; buffers.structural_indexes(), positions, "{form:?}");
+    }
+    Ok(())
+}
