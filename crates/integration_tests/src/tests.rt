@@ -11,6 +11,7 @@ mod lazy;
 mod nodes;
 mod objects;
 mod owned;
+mod program;
 mod reloads;
 mod rows;
 mod scans;

@@ -1,0 +1,419 @@
+//! What no clause says: the texts of `clap`, that a run with enough memory ends well, which fault comes first, and that
+//! the output is flushed.
+mod cookbook;
+
+ghost use Rattle.std.specs.Prelude.{◌≡◌};
+
+use records_program::program::program;
+use records_program::{LoadFault, read_rest};
+use sj_base::Counted;
+use std::alloc::Global;
+use std::io;
+use std::io::{ErrorKind, Read, Write};
+use std::marker::Brand;
+use std::process::Abort;
+use std::sync::ledger::{Blank, Ledger};
+use std::test::Fail;
+
+const HELP: &str = "\
+Runs a script on each JSON line of standard input, and writes a record for it
+
+Usage: records [OPTIONS] <SCRIPT>
+
+Arguments:
+  <SCRIPT>  The file with the script, an array of commands
+
+Options:
+      --form <FORM>     The form of each document: owned, borrowed or lazy [default: owned]
+      --depth <LEVELS>  The most levels that a document nests, from 0 to 1024 [default: 1024]
+  -h, --help            Print help
+
+Commands of a script:
+  [\"get\", PATH]                 [value], or [] where PATH selects nothing
+  [\"contains\", PATH, KEY]       whether the object has the key
+  [\"type\", PATH]                null, bool, integer, decimal, string, array or object
+  [\"len\", PATH]                 the number of items or members
+  [\"keys\", PATH]                the keys of the object, in order
+  [\"insert\", PATH, KEY, VALUE]  sets a member; [old value], or [] for a new key
+  [\"remove\", PATH, KEY]         removes a member; [old value], or []
+  [\"push\", PATH, VALUE]         appends an item; []
+  [\"pop\", PATH]                 removes the last item; [item], or []
+  [\"set\", PATH, VALUE]          replaces the value; [old value]
+  [\"reload\"]                    prints the document and reads that text in its place; true
+  [\"reload_pp\"]                 the same with the indented text
+
+PATH is an array of keys and of indexes from 0; [] is the whole document.
+";
+
+const NO_SCRIPT: &str = "\
+error: the following required arguments were not provided:
+  <SCRIPT>
+
+Usage: records <SCRIPT>
+
+For more information, try '--help'.
+";
+
+const TAPE: &str = "\
+error: invalid value 'tape' for '--form <FORM>'
+  [possible values: owned, borrowed, lazy]
+
+Usage: records [OPTIONS] <SCRIPT>
+
+For more information, try '--help'.
+";
+
+const TOO_DEEP: &str = "\
+error: invalid value '1025' for '--depth <LEVELS>': 1025 is not in 0..=1024
+
+For more information, try '--help'.
+";
+
+const LINE: &str = "{\"key\": \"value\", \"snot\": 42}\n";
+
+const SCRIPT: &str = r#"[["get",["key"]]]"#;
+
+const RECORD: &str = "{\"replies\":[[\"value\"]],\"document\":{\"key\":\"value\",\"snot\":42}}\n";
+
+// Gives its bytes, one a read where `is_slow`, then an error of the kind, and then its end.
+#[derive(Drop)]
+struct Failing<'a> {
+    bytes: &'a [u8],
+    kind: Option<ErrorKind>,
+    is_slow: bool,
+}
+
+impl Read for Failing<'_> {
+    fn read(&mut self, buf: &mut [u8]) -> io::Result<usize> {
+        if self.bytes.is_empty() {
+            return match self.kind.take() {
+                Some(kind) => Err(io::Error::from(kind)),
+                None => Ok(0),
+            };
+        }
+        if self.is_slow && !buf.is_empty() {
+            return self.bytes.read(&mut buf[..1]);
+        }
+        self.bytes.read(buf)
+    }
+}
+
+// Takes so many bytes and then fails, as does its flush where `is_stuck`.
+#[derive(Drop)]
+struct Narrow {
+    taken: Vec<u8>,
+    room: usize,
+    is_stuck: bool,
+    is_flushed: bool,
+}
+
+impl Narrow {
+    fn new(alloc: Global, room: usize, is_stuck: bool) -> Narrow {
+        Narrow {
+            taken: Vec::new(alloc),
+            room,
+            is_stuck,
+            is_flushed: false,
+        }
+    }
+}
+
+impl Write for Narrow {
+    fn write(&mut self, buf: &[u8]) -> io::Result<usize> {
+        let taken = buf.len().min(self.room);
+        if taken == 0 {
+            return Err(io::Error::from(ErrorKind::Other));
+        }
+        self.taken.extend_from_slice(&buf[..taken])?;
+        self.room -= taken;
+        self.is_flushed = false;
+        Ok(taken)
+    }
+
+    fn flush(&mut self) -> io::Result<()> {
+        if self.is_stuck {
+            return Err(io::Error::from(ErrorKind::Other));
+        }
+        self.is_flushed = true;
+        Ok(())
+    }
+}
+
+// What the program is given. Each file has the same script.
+#[derive(Clone, Copy)]
+struct Given<'a> {
+    words: &'a [&'a str],
+    script: Result<&'a str, LoadFault>,
+}
+
+impl<'a> Given<'a> {
+    fn new(words: &'a [&'a str]) -> Given<'a> {
+        Given {
+            words,
+            script: Ok(SCRIPT),
+        }
+    }
+
+    fn load(&self, alloc: Global) -> Result<Vec<u8>, LoadFault> {
+        let script = self.script?;
+        Vec::from_slice(alloc, script.as_bytes()).map_err(|_| LoadFault::Memory)
+    }
+}
+
+const RUN: &[&str] = &["records", "get.json"];
+
+// The status of the program, and what it writes to `faults`.
+fn run_program<I: Read + Drop>(
+    alloc: Global,
+    given: Given<'_>,
+    input: I,
+    output: &mut Narrow,
+) -> (u8, Vec<u8>) {
+    run_counted::<I, Brand>(alloc, given, input, output, Blank::new(4))
+}
+
+fn run_counted<I: Read + Drop, L: Ledger>(
+    alloc: Global,
+    given: Given<'_>,
+    input: I,
+    output: &mut Narrow,
+    writes: Blank,
+) -> (u8, Vec<u8>)
+    requires { (writes.name ≡ L.name) × (writes.parts ≡ L.parts) × (writes.parts ≡ 4) }
+{
+    let mut faults = Counted::<Vec<u8>, L>::new(Vec::new(alloc), writes);
+    let load = |_name: &str| given.load(alloc);
+    let status = program(alloc, given.words, load, input, output, &mut faults);
+    (status, faults.into_inner())
+}
+
+// Runs the program, and looks for this status, output and line.
+fn expect<I: Read + Drop>(
+    rt: &impl Abort,
+    alloc: Global,
+    given: Given<'_>,
+    input: I,
+    output: &mut Narrow,
+    want: (u8, &[u8], &str),
+) {
+    let (status, written, line) = want;
+    let (found, faults) = run_program(alloc, given, input, output);
+    assert_eq!(rt; found, status);
+    assert_eq!(rt; output.taken.as_slice(), written);
+    assert_eq!(rt; faults.as_slice(), line.as_bytes());
+}
+
+#[test]
+fn refuses_arguments(rt: HostRuntime) {
+    let words: [&[&str]; 4] = [
+        &["records"],
+        &["records", "a.json", "b.json"],
+        &["records", "--frob", "a.json"],
+        &["records", "--version"],
+    ];
+    for words in &words {
+        let mut output = Narrow::new(rt.alloc(), usize::MAX, false);
+        let input: &[u8] = b"";
+        let (status, faults) = run_program(rt.alloc(), Given::new(words), input, &mut output);
+        assert_eq!(rt; status, 2);
+        assert!(rt; faults.starts_with(b"error: "));
+        assert!(rt; faults.ends_with(b"\n"));
+    }
+    let texts: [(&[&str], &str); 4] = [
+        (&["records"], NO_SCRIPT),
+        (&["records_cli"], NO_SCRIPT),
+        (&["records", "--form", "tape", "a.json"], TAPE),
+        (&["records", "--depth", "1025", "a.json"], TOO_DEEP),
+    ];
+    for (words, text) in &texts {
+        let mut output = Narrow::new(rt.alloc(), usize::MAX, false);
+        let given = Given::new(words);
+        let input: &[u8] = b"";
+        let want = (2, b"".as_slice(), *text);
+        expect(&rt, rt.alloc(), given, input, &mut output, want);
+    }
+}
+
+#[test]
+fn helps(rt: HostRuntime) {
+    for words in [
+        ["records", "--help"],
+        ["records", "-h"],
+        ["out/records_cli", "--help"],
+    ] {
+        let mut input = Failing {
+            bytes: LINE.as_bytes(),
+            kind: Some(ErrorKind::Other),
+            is_slow: false,
+        };
+        let mut output = Narrow::new(rt.alloc(), usize::MAX, false);
+        let given = Given {
+            words: &words,
+            script: Err(LoadFault::Memory),
+        };
+        expect(
+            &rt,
+            rt.alloc(),
+            given,
+            &mut input,
+            &mut output,
+            (0, HELP.as_bytes(), ""),
+        );
+        assert_eq!(rt; (input.bytes.len(), output.is_flushed), (LINE.len(), true));
+    }
+}
+
+#[test]
+fn help_cannot_be_written(rt: HostRuntime) {
+    for (room, is_stuck) in [(5, false), (HELP.len(), true)] {
+        let mut output = Narrow::new(rt.alloc(), room, is_stuck);
+        let given = Given::new(&["records", "--help"]);
+        let input: &[u8] = b"";
+        let want = (1, &HELP.as_bytes()[..room], "records: write\n");
+        expect(&rt, rt.alloc(), given, input, &mut output, want);
+    }
+}
+
+#[test]
+fn refuses_scripts(rt: HostRuntime) {
+    for (script, status, line) in [
+        (Err(LoadFault::Memory), 1, "records: memory\n"),
+        (
+            Err(LoadFault::Unreadable),
+            2,
+            "records: cannot read script\n",
+        ),
+        (Ok("{}"), 2, "records: script: NotAnArray\n"),
+        (
+            Ok(r#"[["frob"]]"#),
+            2,
+            "records: script: command 0: UnknownName\n",
+        ),
+        (
+            Ok(r#"[["get"]]"#),
+            2,
+            "records: script: command 0: WrongCount\n",
+        ),
+        (Ok(r#"["a"#), 2, "records: script: Syntax at 0\n"),
+        (
+            Ok(r#"[["get",[01]]]"#),
+            2,
+            "records: script: InvalidNumber at 9\n",
+        ),
+    ] {
+        let mut output = Narrow::new(rt.alloc(), usize::MAX, false);
+        let given = Given { words: RUN, script };
+        expect(
+            &rt,
+            rt.alloc(),
+            given,
+            LINE.as_bytes(),
+            &mut output,
+            (status, b"", line),
+        );
+    }
+}
+
+#[test]
+fn writes_records(rt: HostRuntime) -> Result<(), Fail> {
+    let alloc = rt.alloc();
+    let lines = format!(in alloc; "{LINE}{LINE}")?;
+    let records = format!(in alloc; "{RECORD}{RECORD}")?;
+    for (input, written) in [("", ""), (LINE, RECORD), (lines.as_str(), records.as_str())] {
+        let mut output = Narrow::new(alloc, usize::MAX, false);
+        expect(
+            &rt,
+            alloc,
+            Given::new(RUN),
+            input.as_bytes(),
+            &mut output,
+            (0, written.as_bytes(), ""),
+        );
+        assert!(rt; output.is_flushed);
+    }
+    Ok(())
+}
+
+#[test]
+fn input_fails_in_mid_stream(rt: HostRuntime) -> Result<(), Fail> {
+    let alloc = rt.alloc();
+    let bytes = format!(in alloc; "{LINE}[1")?;
+    for (is_slow, is_stuck) in [(false, false), (true, false), (false, true)] {
+        let input = Failing {
+            bytes: bytes.as_bytes(),
+            kind: Some(ErrorKind::Other),
+            is_slow,
+        };
+        let mut output = Narrow::new(alloc, usize::MAX, is_stuck);
+        expect(
+            &rt,
+            alloc,
+            Given::new(RUN),
+            input,
+            &mut output,
+            (1, RECORD.as_bytes(), "records: read\n"),
+        );
+        assert!(rt; output.is_flushed == !is_stuck);
+    }
+    Ok(())
+}
+
+#[test]
+fn output_fails(rt: HostRuntime) {
+    let alloc = rt.alloc();
+    for room in 0..RECORD.len() + 1 {
+        let mut output = Narrow::new(alloc, room, true);
+        let want = (1, &RECORD.as_bytes()[..room], "records: write\n");
+        expect(
+            &rt,
+            alloc,
+            Given::new(RUN),
+            LINE.as_bytes(),
+            &mut output,
+            want,
+        );
+    }
+}
+
+#[test]
+fn reads_to_the_end(rt: HostRuntime) {
+    let alloc = rt.alloc();
+    for (kind, reads, want) in [
+        (None, 4, Ok(())),
+        (None, 3, Err(LoadFault::Unreadable)),
+        (Some(ErrorKind::Other), 9, Err(LoadFault::Unreadable)),
+        (Some(ErrorKind::OutOfMemory), 9, Err(LoadFault::Memory)),
+        (Some(ErrorKind::OutOfMemory), 3, Err(LoadFault::Unreadable)),
+        (Some(ErrorKind::Interrupted), 5, Ok(())),
+        (Some(ErrorKind::Interrupted), 4, Err(LoadFault::Unreadable)),
+    ] {
+        let mut bytes = Vec::new(alloc);
+        let mut slow = Failing {
+            bytes: b"abc",
+            kind,
+            is_slow: true,
+        };
+        assert_eq!(rt; read_rest(&mut slow, &mut bytes, reads), want);
+        assert_eq!(rt; bytes.as_slice(), b"abc".as_slice());
+    }
+}
+
+#[test]
+fn takes_forms_and_depths(rt: HostRuntime) {
+    let alloc = rt.alloc();
+    let records =
+        "{\"replies\":[[]],\"document\":[1]}\n{\"error\":\"Syntax\",\"index\":1,\"character\":\"[\"}\n";
+    for form in ["owned", "borrowed", "lazy"] {
+        let words = ["records", "--form", form, "--depth", "1", "get.json"];
+        let mut output = Narrow::new(alloc, usize::MAX, false);
+        let want = (0, records.as_bytes(), "");
+        expect(
+            &rt,
+            alloc,
+            Given::new(&words),
+            b"[1]\n[[]]\n".as_slice(),
+            &mut output,
+            want,
+        );
+    }
+}

@@ -1,0 +1,220 @@
+//! The arguments of the command line.
+ghost use Rattle.std.specs.Prelude.{◌≡◌, IfOk, IfSome, List, [], ℕ, None, codes, false, map};
+ghost use Rattle.clap.specs.Words.{FailsBy, HasKind, app_of, found_of, new_app, rows_of, rule_of};
+ghost use Rattle.records_program.specs.Arguments.{AreParsedAs, Hold, app, depth_rule, form_named, form_rule, kinds_of, rows_in, script_rule};
+
+use crate::fault::Fault;
+use clap::error::ErrorKind;
+use clap::{Arg, ArgAction, ArgMatches, Command, Error, value_parser};
+use sj_records::Form;
+use std::alloc::{AllocError, Global};
+use std::convert::AsStr;
+use std::rt::Env;
+use std::{env, io};
+
+const ABOUT: &str = "Runs a script on each JSON line of standard input, and writes a record for it";
+
+const COMMANDS: &str = "\
+Commands of a script:
+  [\"get\", PATH]                 [value], or [] where PATH selects nothing
+  [\"contains\", PATH, KEY]       whether the object has the key
+  [\"type\", PATH]                null, bool, integer, decimal, string, array or object
+  [\"len\", PATH]                 the number of items or members
+  [\"keys\", PATH]                the keys of the object, in order
+  [\"insert\", PATH, KEY, VALUE]  sets a member; [old value], or [] for a new key
+  [\"remove\", PATH, KEY]         removes a member; [old value], or []
+  [\"push\", PATH, VALUE]         appends an item; []
+  [\"pop\", PATH]                 removes the last item; [item], or []
+  [\"set\", PATH, VALUE]          replaces the value; [old value]
+  [\"reload\"]                    prints the document and reads that text in its place; true
+  [\"reload_pp\"]                 the same with the indented text
+
+PATH is an array of keys and of indexes from 0; [] is the whole document.";
+
+/// What the arguments ask for.
+#[derive(Debug, Drop)]
+pub enum Arguments<'a> {
+    /// To run a script.
+    Run(RunArguments<'a>),
+    /// To print this help.
+    Help(String),
+}
+
+/// The run that the arguments ask for.
+#[derive(Clone, Copy, Debug)]
+pub struct RunArguments<'a> {
+    /// The name of the script's file.
+    pub script: &'a str,
+    /// The form of the documents.
+    pub form: Form,
+    /// The most levels that a document nests.
+    pub depth: usize,
+}
+
+/// Parses the words of the command line, of which the first is the program's name.
+///
+/// # Errors
+///
+/// Returns `Fault::Arguments` if the words are refused, and `Fault::Memory` if an allocation failed.
+pub fn parse_arguments<'a, S: AsStr>(alloc: Global, words: &'a [S]) -> Result<Arguments<'a>, Fault>
+    ensures { AreParsedAs (map S.text words.now) result }
+{
+    match parse_words(alloc, words) {
+        Ok(matches) => run_or_fault(alloc, &matches),
+        Err(error) => help_or_fault(alloc, &error),
+    }
+}
+
+fn parse_words<'a, S: AsStr>(alloc: Global, words: &'a [S]) -> Result<ArgMatches<'a>, Error>
+    ensures rows { IfOk result (λ matches. rows_of (found_of matches) ≡ rows_in (map S.text words.now)) }
+    ensures kinds { FailsBy (kinds_of (map S.text words.now)) result }
+{
+    command(alloc)?.try_get_matches_from(words)
+}
+
+/// Returns what words that `clap` takes ask for, by the matches of their parse.
+fn run_or_fault<'a>(alloc: Global, matches: &ArgMatches<'a>) -> Result<Arguments<'a>, Fault>
+    ensures { (words : List (List ℕ)) → kinds_of words ≡ [] → rows_of (found_of matches.now) ≡ rows_in words → AreParsedAs words result }
+{
+    match run_of(matches) {
+        Some(run) => Ok(Arguments::Run(run)),
+        None => Err(Fault::Arguments(unknown_form(alloc, matches.get_str("form"))?)),
+    }
+}
+
+/// Returns the run that the matches have the values of.
+fn run_of<'a>(matches: &ArgMatches<'a>) -> Option<RunArguments<'a>>
+    ensures some { IfSome result (Hold (rows_of (found_of matches.now))) }
+    ensures none { (result ≡ None) → (run : RunArguments) → Hold (rows_of (found_of matches.now)) run → ⊥ }
+{
+    let script = matches.get_str("SCRIPT")?;
+    let form = find_form(matches.get_str("form")?)?;
+    match matches.get_str("depth")?.parse() {
+        Ok(depth) => Some(RunArguments {
+            script,
+            form,
+            depth,
+        }),
+        Err(_) => None,
+    }
+}
+
+fn find_form(name: &str) -> Option<Form>
+    ensures { result ≡ form_named name.now }
+{
+    match name {
+        "owned" => Some(Form::Owned),
+        "borrowed" => Some(Form::Borrowed),
+        "lazy" => Some(Form::Lazy),
+        _ => None,
+    }
+}
+
+/// The program's command.
+fn command<'a>(alloc: Global) -> Result<Command<'a>, AllocError>
+    ensures { IfOk result (λ command. app_of command ≡ app) }
+{
+    let command = texts(alloc)?
+        .arg(form_argument(alloc))?
+        .arg(depth_argument(alloc))?
+        .arg(script_argument(alloc))?;
+    Ok(command)
+}
+
+/// The command without its arguments. Its texts say `records`, whatever the name of the program's file is.
+fn texts<'a>(alloc: Global) -> Result<Command<'a>, AllocError>
+    ensures { IfOk result (λ command. app_of command ≡ new_app (codes "records")) }
+{
+    let command = Command::new(alloc, "records")
+        .bin_name("records")?
+        .about(ABOUT)
+        .after_help(COMMANDS);
+    Ok(command)
+}
+
+fn form_argument<'a>(alloc: Global) -> Arg<'a>
+    ensures rule { rule_of result ≡ form_rule }
+    ensures local { result.global ≡ false }
+{
+    Arg::new(alloc, "form")
+        .long("form")
+        .value_name("FORM")
+        .action(ArgAction::Set)
+        .default_value("owned")
+        .help("The form of each document: owned, borrowed or lazy")
+}
+
+fn depth_argument<'a>(alloc: Global) -> Arg<'a>
+    ensures rule { rule_of result ≡ depth_rule }
+    ensures local { result.global ≡ false }
+{
+    Arg::new(alloc, "depth")
+        .long("depth")
+        .value_name("LEVELS")
+        .action(ArgAction::Set)
+        .default_value("1024")
+        .value_parser(value_parser!(u64).range(0..=1024))
+        .help("The most levels that a document nests, from 0 to 1024")
+}
+
+fn script_argument<'a>(alloc: Global) -> Arg<'a>
+    ensures rule { rule_of result ≡ script_rule }
+    ensures local { result.global ≡ false }
+{
+    Arg::new(alloc, "SCRIPT")
+        .required(true)
+        .action(ArgAction::Set)
+        .help("The file with the script, an array of commands")
+}
+
+/// Returns what words that `clap` takes for no arguments ask for, by the error of their parse.
+fn help_or_fault<'a>(alloc: Global, error: &Error) -> Result<Arguments<'a>, Fault>
+    ensures { (words : List (List ℕ)) → HasKind (kinds_of words) error.now → AreParsedAs words result }
+{
+    if error.kind() == ErrorKind::OutOfMemory {
+        return Err(Fault::Memory);
+    }
+    let text = error.to_string(alloc)?;
+    if error.kind() == ErrorKind::DisplayHelp {
+        Ok(Arguments::Help(text))
+    } else {
+        Err(Fault::Arguments(text))
+    }
+}
+
+/// The text for a name of no form.
+fn unknown_form(alloc: Global, name: Option<&str>) -> Result<String, AllocError> {
+    let name = name.unwrap_or_default();
+    let message = format!(in alloc;
+        "invalid value '{name}' for '--form <FORM>'\n  [possible values: owned, borrowed, lazy]"
+    )?;
+    refusal(alloc, &message)
+}
+
+/// The text of `clap` for a value that the program refuses.
+fn refusal(alloc: Global, message: &str) -> Result<String, AllocError> {
+    let mut command = command(alloc)?;
+    let error = command.error(ErrorKind::InvalidValue, message)?;
+    error.to_string(alloc)
+}
+
+/// Returns the words that the program was started with.
+pub fn command_line<R: Env + AllocGlobal>(rt: &R) -> Result<Vec<String>, Fault> {
+    let words = match env::args(rt) {
+        Ok(words) => words,
+        Err(error) => return Err(unreadable_words(rt.alloc(), &error)),
+    };
+    Ok(words.collect(rt.alloc())?)
+}
+
+/// The fault of words that can't be read, as those that are not UTF-8.
+fn unreadable_words(alloc: Global, error: &io::Error) -> Fault {
+    if error.kind() == io::ErrorKind::OutOfMemory {
+        return Fault::Memory;
+    }
+    let message = "invalid UTF-8 was detected in one or more arguments";
+    match refusal(alloc, message) {
+        Ok(text) => Fault::Arguments(text),
+        Err(_) => Fault::Memory,
+    }
+}
