@@ -84,7 +84,15 @@ fn write_pending<W: Sink>(
     ensures writes { WritesFor result (W.calls writer.old) (W.calls writer.new) }
 {
     let Pending { line, scratch } = pending;
-    write_record(alloc, writer, buffers, scratch, &mut Tape::empty(alloc), line, task)
+    write_record(
+        alloc,
+        writer,
+        buffers,
+        scratch,
+        &mut Tape::empty(alloc),
+        line,
+        task,
+    )
 }
 
 /// Writes the record of the pending line, of which `end` is the last part, and clears the line. Both are rewritten. The
@@ -106,7 +114,15 @@ fn complete_line<'p, W: Sink>(
     ensures writes { WritesFor result (W.calls writer.old) (W.calls writer.new) }
 {
     if pending.line.is_empty() {
-        return write_record(alloc, writer, buffers, &mut pending.scratch, tape, end, task);
+        return write_record(
+            alloc,
+            writer,
+            buffers,
+            &mut pending.scratch,
+            tape,
+            end,
+            task,
+        );
     }
     pending.line.extend_from_slice(end)?;
     write_pending(alloc, writer, buffers, pending, task)?;
@@ -206,7 +222,14 @@ fn run_within<R: Source, W: Sink>(
     for _ in 0..max_reads {
         match reader.read(&mut piece) {
             Ok(0) => return finish(alloc, writer, buffers, &mut pending, task),
-            Ok(taken) => process_piece(alloc, writer, buffers, &mut pending, &mut piece[..taken], task)?,
+            Ok(taken) => process_piece(
+                alloc,
+                writer,
+                buffers,
+                &mut pending,
+                &mut piece[..taken],
+                task,
+            )?,
             Err(e) if e.kind() == ErrorKind::Interrupted => {}
             Err(_) => return Err(RunError::Read),
         }
