@@ -1,0 +1,7 @@
+//! Tests of scripts and of the record engine: worked rows, texts, and readers and writers that fail.
+//!
+//! They stand in a crate of their own, since a crate with tests is proved once more with them. It has no other code.
+#![tactic(auto)]
+
+#[cfg(test)]
+mod tests;

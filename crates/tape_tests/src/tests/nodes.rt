@@ -1,0 +1,175 @@
+//! Of `sj_tape`: which worked lists of nodes are a document, that a tape keeps its vector, the worked indented text, and
+//! sinks that refuse.
+ghost use Rattle.std.specs.Prelude.{◌≡◌, ◌≢◌, [], IfOk};
+ghost use Rattle.sj_tape.specs.Views.{tape_nodes};
+
+use sj_base::{Counted, StaticNode, WriteFault};
+use sj_reads::ValueAsScalar;
+use sj_tape::{Node, Tape, Value};
+use std::alloc::Global;
+use std::io;
+use std::io::{ErrorKind, Write};
+use std::marker::Brand;
+use std::sync::ledger::{Blank, Ledger};
+use std::test::Fail;
+
+// The nodes that the words stand for: `[len,count` an array, `{len,count` an object, `null` and numbers themselves, and
+// other words strings. A number with a minus is an `I64`.
+fn nodes_of<'i>(alloc: Global, words: &'i str) -> Result<Vec<Node<'i>>, Fail> {
+    let mut nodes = Vec::new(alloc);
+    for word in words.split_whitespace() {
+        nodes.push(node_of(word)?)?;
+    }
+    Ok(nodes)
+}
+
+fn node_of(word: &str) -> Result<Node<'_>, Fail> {
+    if let Some(sizes) = word.strip_prefix('[') {
+        let (len, count) = sizes_of(sizes)?;
+        return Ok(Node::Array { len, count });
+    }
+    if let Some(sizes) = word.strip_prefix('{') {
+        let (len, count) = sizes_of(sizes)?;
+        return Ok(Node::Object { len, count });
+    }
+    Ok(scalar_of(word))
+}
+
+fn sizes_of(sizes: &str) -> Result<(usize, usize), Fail> {
+    let (len, count) = sizes.split_once(',').ok_or("no count")?;
+    Ok((len.parse()?, count.parse()?))
+}
+
+fn scalar_of(word: &str) -> Node<'_> {
+    if word == "null" {
+        return Node::Static(StaticNode::Null);
+    }
+    if let Ok(number) = word.parse() {
+        return Node::Static(StaticNode::U64(number));
+    }
+    match word.parse() {
+        Ok(number) => Node::Static(StaticNode::I64(number)),
+        Err(_) => Node::String(word),
+    }
+}
+
+// Creates a tape that must be accepted.
+fn tape_of<'i>(alloc: Global, words: &'i str) -> Result<Tape<'i>, Fail>
+    ensures { IfOk result (λ tape. tape_nodes tape ≢ []) }
+{
+    Ok(Tape::new(nodes_of(alloc, words)?).ok_or("no tape")?)
+}
+
+// The compact text of the document, or nothing if the nodes are none.
+fn document_of(alloc: Global, words: &str) -> Result<Vec<u8>, Fail> {
+    let mut out = Vec::new(alloc);
+    if let Some(tape) = Tape::new(nodes_of(alloc, words)?) {
+        tape.as_value().encode(&mut out)?;
+    }
+    Ok(out)
+}
+
+#[test]
+fn preorders_of_one_document(rt: HostRuntime) -> Result<(), Fail> {
+    for (words, text) in [
+        ("[3,5 1 [2,2 2 3 4", "[1,[2,3],4]"),
+        ("[3,4 1 [2,2 2 3 4", ""),
+        ("{1,2 a null", r#"{"a":null}"#),
+        ("{1,2 1 null", ""),
+        ("null null", ""),
+        ("-7", "-7"),
+        ("", ""),
+    ] {
+        let found = document_of(rt.alloc(), words)?;
+        assert_eq!(rt; found.as_slice(), text.as_bytes(), "{words}");
+    }
+    Ok(())
+}
+
+#[test]
+fn document_null(rt: HostRuntime) -> Result<(), Fail> {
+    let tape = Tape::null(rt.alloc())?;
+    assert!(rt; tape.as_value().is_null());
+    Ok(())
+}
+
+#[test]
+fn nodes_keep_their_vector(rt: HostRuntime) -> Result<(), Fail> {
+    let mut nodes = Vec::with_capacity(rt.alloc(), 100)?;
+    nodes.push(Node::Static(StaticNode::Null))?;
+    let tape = Tape::new(nodes).ok_or("no tape")?;
+    let nodes = tape.into_nodes();
+    assert_eq!(rt; nodes.len(), 1);
+    assert!(rt; nodes.capacity() >= 100);
+    Ok(())
+}
+
+#[test]
+fn indented_text(rt: HostRuntime) -> Result<(), Fail> {
+    let tape = tape_of(rt.alloc(), "{2,6 a [2,2 1 {0,0 b [0,0")?;
+    let mut out = Vec::new(rt.alloc());
+    tape.as_value().encode_pp(&mut out)?;
+    let text = b"{\n  \"a\": [\n    1,\n    {}\n  ],\n  \"b\": []\n}";
+    assert!(rt; out.as_slice() == text.as_slice());
+    Ok(())
+}
+
+// Takes one byte a write, and `room` in all. Then it fails with the kind, or takes nothing where there is none.
+#[derive(Drop)]
+struct Narrow {
+    taken: Vec<u8>,
+    room: usize,
+    refusal: Option<ErrorKind>,
+}
+
+impl Write for Narrow {
+    fn write(&mut self, buf: &[u8]) -> io::Result<usize> {
+        let taken = buf.len().min(1).min(self.room);
+        if taken == 0 {
+            return match self.refusal {
+                Some(kind) => Err(io::Error::from(kind)),
+                None => Ok(0),
+            };
+        }
+        self.taken.extend_from_slice(&buf[..taken])?;
+        self.room -= taken;
+        Ok(taken)
+    }
+
+    fn flush(&mut self) -> io::Result<()> {
+        Ok(())
+    }
+}
+
+// Writes with a count of the calls, which the blank opens.
+fn counted_write<L: Ledger>(
+    value: &Value<'_, '_>,
+    output: &mut Narrow,
+    blank: Blank,
+) -> Result<(), WriteFault>
+    requires { (blank.name ≡ L.name) × (blank.parts ≡ L.parts) × (blank.parts ≡ 4) }
+{
+    let mut sink = Counted::<&mut Narrow, L>::new(output, blank);
+    let result = value.write(&mut sink);
+    let _ = sink.into_inner();
+    result
+}
+
+fn write(value: &Value<'_, '_>, output: &mut Narrow) -> Result<(), WriteFault> {
+    counted_write::<Brand>(value, output, Blank::new(4))
+}
+
+#[test]
+fn sinks_that_refuse(rt: HostRuntime) -> Result<(), Fail> {
+    let tape = tape_of(rt.alloc(), "{1,2 a null")?;
+    for refusal in [Some(ErrorKind::Other), Some(ErrorKind::Interrupted), None] {
+        let mut output = Narrow {
+            taken: Vec::new(rt.alloc()),
+            room: 3,
+            refusal,
+        };
+        assert!(rt; write(&tape.as_value(), &mut output) == Err(WriteFault));
+        assert!(rt; output.taken.as_slice() == b"{\"a".as_slice());
+    }
+    Ok(())
+}
