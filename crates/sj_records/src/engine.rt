@@ -272,7 +272,7 @@ pub fn run<R: Source, W: Sink>(
 /// Does what [`run`] does, under the limit of levels of the buffers, whose room is used for each line. Runs that use the same
 /// buffers one after the other take room for them once.
 ///
-/// The room for more than 2^20 positions is given back after the line that needed it.
+/// Room for more than 2^20 positions is given back before the next line is read.
 ///
 /// # Errors
 ///

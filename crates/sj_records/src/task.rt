@@ -112,7 +112,8 @@ fn put_record<'de>(
     }
 }
 
-/// Reads a line into the tape, under the limit of the buffers. The line is rewritten.
+/// Reads a line into the tape, under the limit of the buffers. The line is rewritten. The buffers keep its positions until the
+/// next one is read.
 fn read_tape<'de>(
     alloc: Global,
     buffers: &mut Buffers,
@@ -124,15 +125,15 @@ fn read_tape<'de>(
     ensures refused { IfErr result (λ e. IfRefused e (λ why. fault line.entry.now (buffer_limit buffers.old) ≡ Some why)) }
     ensures limit { buffer_limit buffers.new ≡ buffer_limit buffers.old }
 {
-    fill_tape(line, buffers, tape)?;
     release(alloc, buffers)?;
+    fill_tape(line, buffers, tape)?;
     Ok(())
 }
 
 /// The most positions of a line after which the room for positions is kept.
 const KEPT_POSITIONS: usize = 1 << 20;
 
-/// Gives back the room of a long line, which is needed no longer once the line was read.
+/// Gives back the room that the line before took, if it was a long one.
 fn release(alloc: Global, buffers: &mut Buffers) -> Result<(), AllocError>
     ensures { buffer_limit buffers.new ≡ buffer_limit buffers.old }
 {
