@@ -199,6 +199,10 @@ fn refusal(alloc: Global, message: &str) -> Result<String, AllocError> {
 }
 
 /// Returns the words that the program was started with.
+///
+/// # Errors
+///
+/// `Fault::Memory` if an allocation failed, and `Fault::Arguments` if the words can't be read, as those that aren't UTF-8.
 pub fn command_line<R: Env + AllocGlobal>(rt: &R) -> Result<Vec<String>, Fault> {
     let words = match env::args(rt) {
         Ok(words) => words,

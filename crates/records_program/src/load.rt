@@ -23,6 +23,11 @@ pub const MAX_READS: u64 = 1 << 62;
 const PIECE_LEN: usize = 4096;
 
 /// Returns the bytes of the file of this name.
+///
+/// # Errors
+///
+/// `Memory` if an allocation failed, and `Unreadable` if the file can't be opened or read, or gives no end within `MAX_READS`
+/// reads.
 pub fn read_file<R: Files + AllocGlobal>(rt: &R, name: &str) -> Result<Vec<u8>, LoadFault> {
     match fs::open(rt, name) {
         Ok(mut file) => {
@@ -50,7 +55,8 @@ fn load_fault(error: &io::Error) -> LoadFault
 ///
 /// # Errors
 ///
-/// Returns why the bytes could not be read to the end.
+/// `Memory` if an allocation failed, and `Unreadable` if a read failed, or none of `reads` reads gave the end. The bytes that were
+/// read until then stand in `bytes`.
 pub fn read_rest<R: Read>(reader: &mut R, bytes: &mut Vec<u8>, reads: u64) -> Result<(), LoadFault>
     ensures bytes { OnOk result (IfSome (R.remaining reader.old) (λ xs. bytes.new.items ≡ bytes.old.items ++ xs)) }
     ensures end { OnOk result (IsAtEnd (R.remaining reader.new)) }

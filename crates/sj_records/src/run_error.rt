@@ -5,7 +5,7 @@ ghost use Rattle.sj_records.specs.declared.run_error.RunError.TheVariants.{Memor
 use std::alloc::{AllocError, AllocFailed};
 use thiserror::Error;
 
-/// The error of `run`. Only whole records are written before it, except before `Write`.
+/// The error of `run` and `run_with`. Only whole records are written before it, except before `Write`.
 #[derive(Clone, Copy, Debug, PartialEq, Eq, Error)]
 pub enum RunError {
     /// An allocation for a line, a document or a record failed. The records of the first k lines that a line feed ended are
