@@ -157,9 +157,7 @@ impl<'i> Value<'_, '_, 'i> {
         }
     }
 
-    /// Makes the value a document, and returns its items for writing, or `None` if it isn't an array.
-    ///
-    /// Also where it returns `None`, the value is a document afterwards, without repeated members.
+    /// Returns the items for writing, or `None` if the value isn't an array.
     ///
     /// # Errors
     ///
@@ -173,9 +171,7 @@ impl<'i> Value<'_, '_, 'i> {
         Ok(self.value_mut(alloc)?.as_array_mut())
     }
 
-    /// Makes the value a document, and returns its members for writing, or `None` if it isn't an object.
-    ///
-    /// Also where it returns `None`, the value is a document afterwards, without repeated members.
+    /// Returns the members for writing, or `None` if the value isn't an object.
     ///
     /// # Errors
     ///
@@ -186,10 +182,8 @@ impl<'i> Value<'_, '_, 'i> {
         Ok(self.value_mut(alloc)?.as_object_mut())
     }
 
-    /// Makes the value a document, and returns the value of its member with this key for writing, or `None` if there is none
-    /// or the value isn't an object.
-    ///
-    /// Also where it returns `None`, the value is a document afterwards, without repeated members.
+    /// Returns the value of the member with this key for writing, or `None` if there is none or the value isn't an
+    /// object.
     ///
     /// # Errors
     ///
@@ -204,10 +198,7 @@ impl<'i> Value<'_, '_, 'i> {
         Ok(self.value_mut(alloc)?.get_mut(name))
     }
 
-    /// Makes the value a document, and returns its item at this index for writing, or `None` if there is none or the value
-    /// isn't an array.
-    ///
-    /// Also where it returns `None`, the value is a document afterwards, without repeated members.
+    /// Returns the item at this index for writing, or `None` if there is none or the value isn't an array.
     ///
     /// # Errors
     ///
