@@ -1,7 +1,5 @@
-//! One module for each crate, and one for each kind of call that has many.
+//! Documents: read, edited, copied, converted, compared and shown.
 mod copies;
-mod keys;
-mod lazy;
 mod owned;
 mod slices;
 mod values;

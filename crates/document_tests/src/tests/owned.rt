@@ -4,7 +4,7 @@ ghost use Rattle.sj_base.specs.Path.{key, put};
 ghost use Rattle.sj_owned.specs.Parts.{member_of};
 ghost use Rattle.sj_owned.specs.Views.{value_tree};
 
-use sj_base::{AccessError, Decimal, DecimalBuf, DecimalCow, StaticNode, TryTypeError, ValueType};
+use sj_base::{AccessError, Decimal, DecimalBuf, DecimalCow, StaticNode};
 use sj_object::ObjectKey;
 use sj_owned::{Literal, OwnedValue as Value, SameAs, Value as Document, to_owned_value};
 use sj_reads::{ValueAsScalar, ValueGetScalar};
@@ -145,35 +145,6 @@ fn owned_push_pop(rt: HostRuntime) -> Result<(), Fail> {
     assert_eq!(rt; v.pop()?.ok_or("no item")?.as_u64(), Some(1));
     assert_eq!(rt; v.pop()?.ok_or("no item")?.as_str(), Some("zero"));
     assert!(rt; v.pop()?.is_none());
-    Ok(())
-}
-
-#[test]
-fn reads_of_parts(rt: HostRuntime) -> Result<(), Fail> {
-    let alloc = rt.alloc();
-    let v = sample(alloc)?;
-    assert!(rt; v.contains_key("a") && !v.contains_key("b"));
-    assert_eq!(rt; v.get_u64("n"), Some(1));
-    assert_eq!(rt; v.get_array("a").ok_or("no array")?.len(), 1);
-    assert!(rt; v.get_array("o").is_none());
-    assert!(rt; v.get_object("o").ok_or("no object")?.is_empty());
-    assert!(rt; v.try_get("b")?.is_none());
-    let array_met = TryTypeError {
-        expected: ValueType::Array,
-        got: ValueType::Object,
-    };
-    assert_eq!(rt; v.try_get_idx(0).err(), Some(array_met));
-    assert_eq!(rt; v.try_get_array("o").err(), Some(array_met));
-    let number_met = TryTypeError {
-        expected: ValueType::Object,
-        got: ValueType::U64,
-    };
-    assert_eq!(rt; v.try_get_object("n").err(), Some(number_met));
-    assert!(rt; v.into_array().is_none());
-    assert_eq!(rt;
-        text(alloc, "x")?.into_string().ok_or("no string")?.as_str(),
-        "x"
-    );
     Ok(())
 }
 

@@ -6,7 +6,6 @@ use sj_owned::{
     to_owned_value, to_owned_value_with_buffers,
 };
 use sj_parse::{Buffers, Deserializer};
-use sj_scripts::{Document, PathPart};
 use sj_values::{BorrowDeserializer, to_borrowed_value, to_borrowed_value_with_buffers};
 use std::alloc::{AllocError, Global};
 use std::borrow::CowStr;
@@ -100,29 +99,5 @@ fn read_as_they_stand(rt: HostRuntime) -> Result<(), Fail> {
     let Some(Value::Decimal(DecimalCow::Borrowed(_))) = value.get_idx(4) else {
         return Err(Fail::new("no borrowed literal"));
     };
-    Ok(())
-}
-
-// The reply to a `get`, the compact text and the indented one.
-fn texts_of<T: Document>(alloc: Global, document: &T) -> Result<Vec<u8>, AllocError> {
-    let mut path = Vec::new(alloc);
-    path.push(PathPart::Key(String::from_str(alloc, "a")?))?;
-    let mut out = Vec::new(alloc);
-    document.get(&path, &mut out)?;
-    document.text(&mut out)?;
-    document.pretty(&mut out)?;
-    Ok(out)
-}
-
-#[test]
-fn texts_of_both_forms(rt: HostRuntime) -> Result<(), Fail> {
-    let alloc = rt.alloc();
-    let texts = "[[1]]{\"a\":[1]}{\n  \"a\": [\n    1\n  ]\n}";
-    let mut text = b"{\"a\": [1]}".to_vec(alloc)?;
-    let owned = to_owned_value(alloc, &mut text)?;
-    assert_eq!(rt; texts_of(alloc, &owned)?.as_slice(), texts.as_bytes());
-    let mut text = b"{\"a\": [1]}".to_vec(alloc)?;
-    let borrowed = to_borrowed_value(alloc, &mut text)?;
-    assert_eq!(rt; texts_of(alloc, &borrowed)?.as_slice(), texts.as_bytes());
     Ok(())
 }

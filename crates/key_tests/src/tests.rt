@@ -6,10 +6,10 @@ ghost use Rattle.sj_base.specs.Path.{key as name, put};
 ghost use Rattle.sj_owned.specs.Parts.{member_of};
 ghost use Rattle.sj_owned.specs.Views.{value_tree};
 
-use sj_base::{StaticNode, TryCopy, ValueType};
+use sj_base::{TryCopy, ValueType};
 use sj_keys::{KnownKey, KnownKeyError, KnownKeyTarget, KnownKeyTargetMut};
 use sj_object::Object;
-use sj_owned::{FromString, Literal, OwnedValue, Value as Document, to_owned_value};
+use sj_owned::{FromString, Literal, OwnedValue, Value as Document};
 use sj_reads::{ValueAsScalar, ValueGetScalar};
 use sj_values::{BorrowedValue, to_borrowed_value};
 use std::alloc::Global;
@@ -90,27 +90,6 @@ fn keys(rt: HostRuntime) -> Result<(), Fail> {
 }
 
 #[test]
-fn found_in_any_target(rt: HostRuntime) -> Result<(), Fail> {
-    let alloc = rt.alloc();
-    let mut text = br#"{"BB":2,"Aa":1,"c":{"Aa":[]}}"#.to_vec(alloc)?;
-    let document = to_owned_value(alloc, &mut text)?;
-    let key = KnownKey::from("Aa");
-    let missing = KnownKey::from("a");
-    let members = document.as_object().ok_or("no object")?;
-    assert_eq!(rt; key.lookup(&document).ok_or("no member")?.as_u64(), Some(1));
-    assert_eq!(rt; key.lookup(members).ok_or("no member")?.as_u64(), Some(1));
-    assert_eq!(rt;
-        key.map_lookup(members).ok_or("no member")?.as_u64(),
-        Some(1)
-    );
-    assert!(rt; missing.lookup(&document).is_none() && missing.map_lookup(members).is_none());
-    let inner = KnownKey::from("c").lookup(&document).ok_or("no member")?;
-    let list = key.lookup(inner).ok_or("no member")?;
-    assert!(rt; list.is_array() && key.lookup(list).is_none());
-    Ok(())
-}
-
-#[test]
 fn written_members(rt: HostRuntime) -> Result<(), Fail> {
     let alloc = rt.alloc();
     let mut text = br#"{"a":1,"b":2}"#.to_vec(alloc)?;
@@ -187,26 +166,6 @@ fn made_for_new_keys(rt: HostRuntime) -> Result<(), Fail> {
         }
     }
     assert_eq!(rt; (calls, object.len()), (2, 2));
-    Ok(())
-}
-
-// A refused write leaves the object as it was.
-#[test]
-fn refused_writes(rt: HostRuntime) -> Result<(), Fail> {
-    let alloc = rt.alloc();
-    let mut object: Object<String, StaticNode> = Object::new(alloc);
-    for (text, len) in [("a", 1), ("b", 2), ("a", 2), ("c", 3)] {
-        let before = object.try_clone()?;
-        match KnownKey::from(text).map_insert(alloc, &mut object, StaticNode::Null) {
-            Ok(_) => assert_eq!(rt; object.len(), len),
-            Err(error) => {
-                assert!(rt;
-                    error == KnownKeyError::Memory && object == before && text != "a" || len == 1
-                );
-                return Err(Fail::new("no memory"));
-            }
-        }
-    }
     Ok(())
 }
 
