@@ -8,24 +8,33 @@ use std::fmt;
 /// The kind of an [`Error`] (`simd_json::ErrorType` without payloads).
 #[derive(Clone, Copy, Debug, PartialEq, Eq)]
 pub enum ErrorType {
+    /// Kept from `simd_json`; no call answers it.
     Unexpected,
     /// An input longer than `u32::MAX` bytes.
     InputTooLarge,
     /// A padded input with fewer than 64 bytes behind its text.
     InsufficientPadding,
+    /// Kept from `simd_json`; no call answers it.
     BadKeyType,
+    /// Kept from `simd_json`; no call answers it.
     ExpectedArray,
     /// Neither a comma nor `]` behind an item of an array.
     ExpectedArrayComma,
+    /// Kept from `simd_json`; no call answers it.
     ExpectedBoolean,
+    /// Kept from `simd_json`; no call answers it.
     ExpectedEnum,
+    /// Kept from `simd_json`; no call answers it.
     ExpectedFloat,
+    /// Kept from `simd_json`; no call answers it.
     ExpectedInteger,
+    /// Kept from `simd_json`; no call answers it.
     ExpectedMap,
     /// No colon behind a key.
     ExpectedObjectColon,
     /// Neither a comma nor `}` behind a member of an object.
     ExpectedMapComma,
+    /// Kept from `simd_json`; no call answers it.
     ExpectedMapEnd,
     /// A token that begins with `n` and isn't `null`.
     ExpectedNull,
@@ -33,14 +42,19 @@ pub enum ErrorType {
     ExpectedTrue,
     /// A token that begins with `f` and isn't `false`.
     ExpectedFalse,
+    /// Kept from `simd_json`; no call answers it.
     ExpectedNumber,
+    /// Kept from `simd_json`; no call answers it.
     ExpectedSigned,
+    /// Kept from `simd_json`; no call answers it.
     ExpectedString,
+    /// Kept from `simd_json`; no call answers it.
     ExpectedUnsigned,
     /// A byte that begins no value, or a token behind the root container.
     InternalError,
     /// A backslash with an unknown letter behind it.
     InvalidEscape,
+    /// Kept from `simd_json`; no call answers it.
     InvalidExponent,
     /// A token that is no number, or an integer out of range.
     InvalidNumber,
@@ -50,17 +64,23 @@ pub enum ErrorType {
     InvalidUnicodeEscape,
     /// A surrogate that isn't part of a pair.
     InvalidUnicodeCodepoint,
+    /// Kept from `simd_json`; no call answers it.
     KeyMustBeAString,
+    /// Kept from `simd_json`; no call answers it.
     NoStructure,
+    /// Kept from `simd_json`; no call answers it.
     Parser,
     /// An input without a token.
     Eof,
+    /// Kept from `simd_json`; no call answers it.
     Serde,
     /// An unclosed string, a control character in a string, an input that ends too early, or too deep nesting.
     Syntax,
     /// A token behind a root scalar.
     TrailingData,
+    /// Kept from `simd_json`; no call answers it.
     UnexpectedCharacter,
+    /// Kept from `simd_json`; no call answers it.
     UnterminatedString,
     /// Neither a value nor `]` behind `[`.
     ExpectedArrayContent,

@@ -73,6 +73,10 @@ pub fn put_break(out: &mut Vec<u8>, level: usize) -> Result<(), AllocError>
 }
 
 /// Truncates `out` to `start` bytes if printing failed, and returns the result of the printing.
+///
+/// # Errors
+///
+/// The error of the printing. `out` then has its first `start` bytes.
 #[inline(always)]
 pub fn whole_or_none(
     out: &mut Vec<u8>,

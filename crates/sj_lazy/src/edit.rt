@@ -157,7 +157,9 @@ impl<'i> Value<'_, '_, 'i> {
         }
     }
 
-    /// Returns the items for writing, or `None` if the value isn't an array.
+    /// Makes the value a document, and returns its items for writing, or `None` if it isn't an array.
+    ///
+    /// Also where it returns `None`, the value is a document afterwards, without repeated members.
     ///
     /// # Errors
     ///
@@ -171,7 +173,9 @@ impl<'i> Value<'_, '_, 'i> {
         Ok(self.value_mut(alloc)?.as_array_mut())
     }
 
-    /// Returns the members for writing, or `None` if the value isn't an object.
+    /// Makes the value a document, and returns its members for writing, or `None` if it isn't an object.
+    ///
+    /// Also where it returns `None`, the value is a document afterwards, without repeated members.
     ///
     /// # Errors
     ///
@@ -182,8 +186,10 @@ impl<'i> Value<'_, '_, 'i> {
         Ok(self.value_mut(alloc)?.as_object_mut())
     }
 
-    /// Returns the value of the member with this key for writing, or `None` if there is none or the value isn't an
-    /// object.
+    /// Makes the value a document, and returns the value of its member with this key for writing, or `None` if there is none
+    /// or the value isn't an object.
+    ///
+    /// Also where it returns `None`, the value is a document afterwards, without repeated members.
     ///
     /// # Errors
     ///
@@ -198,7 +204,10 @@ impl<'i> Value<'_, '_, 'i> {
         Ok(self.value_mut(alloc)?.get_mut(name))
     }
 
-    /// Returns the item at this index for writing, or `None` if there is none or the value isn't an array.
+    /// Makes the value a document, and returns its item at this index for writing, or `None` if there is none or the value
+    /// isn't an array.
+    ///
+    /// Also where it returns `None`, the value is a document afterwards, without repeated members.
     ///
     /// # Errors
     ///

@@ -5,7 +5,9 @@ use thiserror::Error;
 /// A pair of a key and a value, as an object stores it.
 #[derive(Debug, Drop)]
 pub struct Entry<K, V> {
+    /// The key.
     pub key: K,
+    /// Its value.
     pub value: V,
 }
 
@@ -13,6 +15,8 @@ pub struct Entry<K, V> {
 #[derive(Debug, Drop, Error)]
 #[error("Refused")]
 pub struct Refused<K, V> {
+    /// The key that was handed in.
     pub key: K,
+    /// The value that was handed in.
     pub value: V,
 }

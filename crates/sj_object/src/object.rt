@@ -151,7 +151,7 @@ impl<K: ObjectKey, V> Object<K, V> {
         Ok(Some(mem::replace(&mut self.entries[at].value, value)))
     }
 
-    /// Puts a pair with a new key last, without a look for the key. To test the condition, call [`Object::contains_key`].
+    /// Puts a pair last. The object must not have its key, which [`Object::contains_key`] tells; the key isn't looked for.
     ///
     /// # Errors
     ///

@@ -12,7 +12,7 @@ const BYTES_PER_POSITION: usize = 128;
 /// Room that one text after another is read in, and the limit of depth under which they are read. Port of
 /// `simd_json::Buffers`.
 ///
-/// Buffers can be used again after any error, and their room for positions never shrinks.
+/// Buffers can be used again after any error. Reading never shrinks their room for positions.
 #[derive(Debug, Drop)]
 pub struct Buffers {
     pub(crate) positions: Vec<u32>,

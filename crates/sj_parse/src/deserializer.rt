@@ -95,7 +95,7 @@ impl<'de> Deserializer<'de> {
         self.next >= self.tape.nodes().len()
     }
 
-    /// Returns the next node, and goes past it. To test the condition, call [`Deserializer::is_at_end`]. Port of
+    /// Returns the next node, and goes past it. A node has to be left, which [`Deserializer::is_at_end`] tells. Port of
     /// `simd_json::Deserializer::next_`.
     pub fn next_(&mut self) -> Node<'de>
         requires { deserializer_next self.old < length (deserializer_nodes self.old) }
@@ -115,7 +115,7 @@ impl<'de> Deserializer<'de> {
         self.tape.is_empty()
     }
 
-    /// Returns a view of the whole document. To test the condition, call [`Deserializer::is_empty`]. Port of
+    /// Returns a view of the whole document. There has to be one, which [`Deserializer::is_empty`] tells. Port of
     /// `simd_json::Deserializer::as_value`.
     pub fn as_value(&self) -> Value<'_, 'de>
         requires { deserializer_nodes self.now ≢ [] }

@@ -24,7 +24,8 @@ use std::alloc::AllocError;
 /// A document in one of the forms that a run keeps it in. Each call appends to `out`, and on an error appends nothing.
 ///
 /// The write calls are `insert`, `remove`, `push`, `pop` and `set_at`. Those that take `depth` refuse a value that would nest
-/// more levels than that in the document. On an error the document is as it was or as the write leaves it.
+/// more levels than that in the document. On an error the document is as it was, as the write leaves it or, in the form `Lazy`,
+/// without repeated members.
 pub trait Document {
     // The tree that the document stands for.
     ghost tree: { Self → Tree };
@@ -82,7 +83,8 @@ pub trait Document {
     ///
     /// # Errors
     ///
-    /// `AllocError` if there is no memory for the copy of the value, the new member or the reply.
+    /// `AllocError` if there is no memory for the copy of the value, the new member, the reply or, in the form `Lazy`, the
+    /// document that is built.
     fn insert(
         &mut self,
         path: &[PathPart],
@@ -98,7 +100,7 @@ pub trait Document {
     ///
     /// # Errors
     ///
-    /// `AllocError` if there is no memory for the reply.
+    /// `AllocError` if there is no memory for the reply or, in the form `Lazy`, for the document that is built.
     fn remove(&mut self, path: &[PathPart], key: &str, out: &mut Vec<u8>) -> Result<(), AllocError>
         ensures { Settles result out.old.items out.new.items keeping (tree self.old) (tree self.new) (path_view path.now)
             (removal key.now) };
@@ -107,7 +109,8 @@ pub trait Document {
     ///
     /// # Errors
     ///
-    /// `AllocError` if there is no memory for the copy of the value, the new item or the reply.
+    /// `AllocError` if there is no memory for the copy of the value, the new item, the reply or, in the form `Lazy`, the document
+    /// that is built.
     fn push(
         &mut self,
         path: &[PathPart],
@@ -122,7 +125,7 @@ pub trait Document {
     ///
     /// # Errors
     ///
-    /// `AllocError` if there is no memory for the reply.
+    /// `AllocError` if there is no memory for the reply or, in the form `Lazy`, for the document that is built.
     fn pop(&mut self, path: &[PathPart], out: &mut Vec<u8>) -> Result<(), AllocError>
         ensures { Settles result out.old.items out.new.items keeping (tree self.old) (tree self.new) (path_view path.now)
             popping };
@@ -131,7 +134,7 @@ pub trait Document {
     ///
     /// # Errors
     ///
-    /// `AllocError` if there is no memory for the copy of the value or the reply.
+    /// `AllocError` if there is no memory for the copy of the value, the reply or, in the form `Lazy`, the document that is built.
     fn set_at(
         &mut self,
         path: &[PathPart],

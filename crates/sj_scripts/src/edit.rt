@@ -19,10 +19,18 @@ use std::mem;
 /// A type of texts for documents that can be made from the values of scripts, with `D` as type of literals.
 pub trait ScriptText<D: Literal>: ObjectKey + Sized {
     /// Copies a key.
+    ///
+    /// # Errors
+    ///
+    /// `AllocError` if there is no memory for the copy.
     fn copy_key(alloc: Global, key: &str) -> Result<Self, AllocError>
         ensures { IfOk result (λ k. Self.text k ≡ key.now) };
 
     /// Copies a value.
+    ///
+    /// # Errors
+    ///
+    /// `AllocError` if there is no memory for the copy.
     fn copy_value(alloc: Global, value: &OwnedValue) -> Result<Value<Self, D>, AllocError>
         ensures { IfOk result (λ v. value_tree Self.text D.literal v ≡ document_tree value.now) };
 }

@@ -42,7 +42,7 @@ impl<'i> Tape<'i> {
 
     /// Creates a tape from nodes that are already known to be the preorder of one valid document, or from no node.
     ///
-    /// Checks nothing and takes no memory. To test the condition, call `is_empty` on the vector, or use [`Tape::new`].
+    /// Checks nothing and takes no memory. For nodes of another origin use [`Tape::new`].
     pub fn from_listing(nodes: Vec<Node<'i>>) -> Tape<'i>
         requires { (nodes.items ≡ []) ⊎ IsPreorder (entries nodes.items) }
         ensures nodes { tape_nodes result ≡ nodes.entry.items }
@@ -102,7 +102,7 @@ impl<'i> Tape<'i> {
         self.nodes.is_empty()
     }
 
-    /// Returns a view of the document. To test the condition, call [`Tape::is_empty`]. Port of
+    /// Returns a view of the document. There has to be one, which [`Tape::is_empty`] tells. Port of
     /// `simd_json::Tape::as_value`.
     pub fn as_value(&self) -> Value<'_, 'i>
         requires { tape_nodes self.now ≢ [] }

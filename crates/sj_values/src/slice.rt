@@ -40,7 +40,7 @@ impl<'t, 'v> BorrowSliceDeserializer<'t, 'v> {
         self.next >= self.view.nodes().len()
     }
 
-    /// Returns the next node, and goes past it. To test the condition, call [`BorrowSliceDeserializer::is_at_end`].
+    /// Returns the next node, and goes past it. A node has to be left, which [`BorrowSliceDeserializer::is_at_end`] tells.
     pub fn next_(&mut self) -> Node<'v>
         requires { slice_next self.old < length (slice_nodes self.old) }
         ensures node { slice_get (slice_nodes self.old) (slice_next self.old) ≡ Some result }
@@ -53,7 +53,7 @@ impl<'t, 'v> BorrowSliceDeserializer<'t, 'v> {
     }
 
     /// Builds the value whose first node comes next, and goes past its nodes. Of members with equal keys the first one is
-    /// kept, and a key that comes next is a string. To test the condition, call [`BorrowSliceDeserializer::is_at_end`].
+    /// kept, and a key that comes next is a string. A node has to be left, which [`BorrowSliceDeserializer::is_at_end`] tells.
     ///
     /// # Errors
     ///
