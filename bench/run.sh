@@ -20,6 +20,8 @@
 #     WORK=FOLDER       where programs, streams and outputs stay; if not set, they are removed at the end
 set -eu
 shopt -s nullglob
+# Simdjson's kernel for AVX2, also where it would choose one for AVX-512.
+export SIMDJSON_FORCE_IMPLEMENTATION=${SIMDJSON_FORCE_IMPLEMENTATION:-haswell}
 TIMEFORMAT='%R %U %S'
 
 top=$(cd "$(dirname "$0")/.." && pwd)

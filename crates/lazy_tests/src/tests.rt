@@ -147,6 +147,7 @@ fn writes_to_items(rt: HostRuntime) -> Result<(), Fail> {
     assert!(rt; value.pop(alloc)?.ok_or("no item")?.is_null());
     let item = value.get_idx_mut(alloc, 1)?.ok_or("no item")?;
     assert_eq!(rt; item.remove("b")?.ok_or("no member")?.as_u64(), Some(2));
+    expect_text(&rt, alloc, &value, "[1,{}]")?;
     value.as_array_mut(alloc)?.ok_or("no array")?.clear();
     expect_text(&rt, alloc, &value, "[]")?;
     Ok(())
@@ -199,9 +200,9 @@ fn made_of_others(rt: HostRuntime) -> Result<(), Fail> {
     expect_text(&rt, alloc, &Value::array_with_capacity(alloc, 1)?, "[]")?;
     expect_text(&rt, alloc, &Value::object_with_capacity(alloc, 1)?, "{}")?;
     expect_text(&rt, alloc, &Value::from(StaticNode::I64(-1)), "-1")?;
-    expect_text(&rt, alloc, &Value::from("x"), "\"x\"")?;
+    expect_text(&rt, alloc, &Value::from("x"), r#""x""#)?;
     expect_text(&rt, alloc, &Value::from(Some(true)), "true")?;
-    expect_text(&rt, alloc, &Value::from_text(alloc, "y")?, "\"y\"")?;
+    expect_text(&rt, alloc, &Value::from_text(alloc, "y")?, r#""y""#)?;
     let list = Vec::from_slice(alloc, &[1u8, 2])?;
     expect_text(&rt, alloc, &Value::from_list(alloc, list)?, "[1,2]")?;
     expect_text(&rt, alloc, &Value::from_values(alloc, 0u8..2)?, "[0,1]")?;
@@ -213,6 +214,18 @@ fn made_of_others(rt: HostRuntime) -> Result<(), Fail> {
     expect_text(&rt, alloc, &Value::from_map(alloc, map)?, r#"{"k":null}"#)?;
     let owned = OwnedValue::from(3u8);
     expect_text(&rt, alloc, &Value::from_owned(alloc, owned)?, "3")?;
+    Ok(())
+}
+
+// A tape equals the document of the same bytes, which keeps the first of two equal keys.
+#[test]
+fn equal_to_its_document(rt: HostRuntime) -> Result<(), Fail> {
+    let alloc = rt.alloc();
+    let mut text = bytes(alloc, r#"{"a":1,"a":2}"#)?;
+    let tape = to_tape(alloc, &mut text)?;
+    let mut text = bytes(alloc, r#"{"a":1,"a":2}"#)?;
+    let document = to_borrowed_value(alloc, &mut text)?;
+    assert!(rt; lazy(&tape)? == Value::from(document));
     Ok(())
 }
 

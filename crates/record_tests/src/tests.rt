@@ -289,11 +289,17 @@ null"#,
         ),
         (
             r#"[["get",["package"]],["get",["depends",0]]]"#,
-            r#"{"package": "adduser", "version": "3.134", "depends": ["passwd"]}
-{"package": "alsa-topology-conf", "version": "1.2.5.1-2", "depends": []}
+            r#"{"package": "adduser", "version": "3.134", "architecture": "all", "installed_size": 686, "section": "admin", "depends": ["passwd"]}
+{"package": "alsa-topology-conf", "version": "1.2.5.1-2", "architecture": "all", "installed_size": 420, "section": "libs", "depends": []}
 "#,
-            r#"{"replies":[["adduser"],["passwd"]],"document":{"package":"adduser","version":"3.134","depends":["passwd"]}}
-{"replies":[["alsa-topology-conf"],[]],"document":{"package":"alsa-topology-conf","version":"1.2.5.1-2","depends":[]}}
+            r#"{"replies":[["adduser"],["passwd"]],"document":{"package":"adduser","version":"3.134","architecture":"all","installed_size":686,"section":"admin","depends":["passwd"]}}
+{"replies":[["alsa-topology-conf"],[]],"document":{"package":"alsa-topology-conf","version":"1.2.5.1-2","architecture":"all","installed_size":420,"section":"libs","depends":[]}}
+"#,
+        ),
+        (
+            r#"[["type",[]]]"#,
+            "null",
+            r#"{"replies":["null"],"document":null}
 "#,
         ),
     ] {
@@ -436,6 +442,21 @@ fn refused_scripts(rt: HostRuntime) -> Result<(), Fail> {
             r#"[["contains",1]]"#,
             command_fault(CommandFault::WrongCount),
             "command 0: WrongCount",
+        ),
+        (
+            r#"[["set",[]]]"#,
+            command_fault(CommandFault::WrongCount),
+            "command 0: WrongCount",
+        ),
+        (
+            r#"[["contains",[],1]]"#,
+            command_fault(CommandFault::BadKey),
+            "command 0: BadKey",
+        ),
+        (
+            r#"[["remove",[],null]]"#,
+            command_fault(CommandFault::BadKey),
+            "command 0: BadKey",
         ),
         (
             r#"[["insert",1,2]]"#,

@@ -72,7 +72,7 @@ fn parse_words<'a, S: AsStr>(alloc: Global, words: &'a [S]) -> Result<ArgMatches
     command(alloc)?.try_get_matches_from(words)
 }
 
-/// Returns what words that `clap` takes ask for, by the matches of their parse.
+/// Returns the run that the words ask for, from `clap`'s matches, or a fault if the form's name is none.
 fn run_or_fault<'a>(alloc: Global, matches: &ArgMatches<'a>) -> Result<Arguments<'a>, Fault>
     ensures { (words : List (List ℕ)) → kinds_of words ≡ [] → rows_of (found_of matches.now) ≡ rows_in words → AreParsedAs words result }
 {
@@ -167,7 +167,7 @@ fn script_argument<'a>(alloc: Global) -> Arg<'a>
         .help("The file with the script, an array of commands")
 }
 
-/// Returns what words that `clap` takes for no arguments ask for, by the error of their parse.
+/// Returns the help or the fault that the words ask for, from `clap`'s error.
 fn help_or_fault<'a>(alloc: Global, error: &Error) -> Result<Arguments<'a>, Fault>
     ensures { (words : List (List ℕ)) → HasKind (kinds_of words) error.now → AreParsedAs words result }
 {

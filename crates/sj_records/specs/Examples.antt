@@ -151,6 +151,29 @@ refusals_in_order : text (outcome (job from_start 1 refused_writes) a_is_1) ≡ 
 unfolding digits
 refusals_in_order = refl
 
+-- a path that selects nothing, and a value of another kind
+abbrev refused_commands : List Step
+refused_commands =
+    let a = key (codes "a") in
+    let x = key (codes "x") in
+    contains (x ∷ []) (codes "k") ∷ keys (x ∷ []) ∷ remove (x ∷ []) (codes "k") ∷ remove (a ∷ []) (codes "k") ∷ push (x ∷ []) (number 1)
+    ∷ pop (x ∷ []) ∷ pop (a ∷ []) ∷ []
+
+commands_refused : text (outcome (owned refused_commands) a_is_1) ≡ codes "{\"replies\":[\"NoSuchPath\",\"NoSuchPath\",\"NoSuchPath\",\"NotAnObject\",\"NoSuchPath\",\"NoSuchPath\",\"NotAnArray\"],\"document\":{\"a\":1}}"
+unfolding digits
+commands_refused = refl
+
+-- the word of each type: [null,true,1,"",{}]
+abbrev values_of_types : Tree
+values_of_types = list (item null (item (boolean true) (item (number 1) (two (word []) empty_object))))
+
+abbrev types_asked : List Step
+types_asked = type_of (place 0 ∷ []) ∷ type_of (place 1 ∷ []) ∷ type_of (place 2 ∷ []) ∷ type_of (place 3 ∷ []) ∷ type_of (place 4 ∷ []) ∷ type_of (place 5 ∷ []) ∷ []
+
+types_replied : text (outcome (owned types_asked) values_of_types) ≡ codes "{\"replies\":[\"null\",\"bool\",\"integer\",\"string\",\"object\",\"NoSuchPath\"],\"document\":[null,true,1,\"\",{}]}"
+unfolding digits
+types_replied = refl
+
 -- the whole document may be set
 abbrev set_and_pop : List Step
 set_and_pop = set_at [] (list (two (number 1) (number 2))) ∷ type_of [] ∷ set_at (place 5 ∷ []) (number 0) ∷ pop [] ∷ []

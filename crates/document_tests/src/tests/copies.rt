@@ -8,7 +8,7 @@ use std::test::Fail;
 
 type Borrowed<'v> = Value<CowStr<'v>, DecimalCow<'v>>;
 
-const TEXT: &str = "{\"s\":\"x\",\"a\":[1.50,-1,{}]}";
+const TEXT: &str = r#"{"s":"x","a":[1.50,-1,{}]}"#;
 
 fn borrowed(alloc: Global) -> Result<Borrowed<'static>, Fail> {
     let literal = Decimal::new("1.50").ok_or("no literal")?;

@@ -28,11 +28,11 @@ fn check_text<K: ObjectKey, D: Literal>(
 #[test]
 fn read_by_their_own_buffers(rt: HostRuntime) -> Result<(), Fail> {
     let alloc = rt.alloc();
-    let mut text = b"{\"a\":1,\"a\":2}".to_vec(alloc)?;
-    check_text(&rt, alloc, &to_owned_value(alloc, &mut text)?, "{\"a\":1}")?;
-    let mut text = b"{\"some\": [\"key\", \"value\", 2]}".to_vec(alloc)?;
+    let mut text = br#"{"a":1,"a":2}"#.to_vec(alloc)?;
+    check_text(&rt, alloc, &to_owned_value(alloc, &mut text)?, r#"{"a":1}"#)?;
+    let mut text = br#"{"some": ["key", "value", 2]}"#.to_vec(alloc)?;
     let value = to_borrowed_value(alloc, &mut text)?;
-    check_text(&rt, alloc, &value, "{\"some\":[\"key\",\"value\",2]}")?;
+    check_text(&rt, alloc, &value, r#"{"some":["key","value",2]}"#)?;
     let mut text = b"[1.50]".to_vec(alloc)?;
     let value = deserialize::<OwnedValue, String>(alloc, &mut text)?;
     check_text(&rt, alloc, &value, "[1.50]")?;
@@ -43,12 +43,12 @@ fn read_by_their_own_buffers(rt: HostRuntime) -> Result<(), Fail> {
 fn read_by_buffers(rt: HostRuntime) -> Result<(), Fail> {
     let alloc = rt.alloc();
     let mut buffers = Buffers::with_max_depth(alloc, 0, 1)?;
-    let mut text = b"[\"a\"]".to_vec(alloc)?;
+    let mut text = br#"["a"]"#.to_vec(alloc)?;
     let value = to_owned_value_with_buffers(alloc, &mut text, &mut buffers)?;
-    check_text(&rt, alloc, &value, "[\"a\"]")?;
-    let mut text = b"[\"\\u0061\"]".to_vec(alloc)?;
+    check_text(&rt, alloc, &value, r#"["a"]"#)?;
+    let mut text = br#"["\u0061"]"#.to_vec(alloc)?;
     let value = to_borrowed_value_with_buffers(alloc, &mut text, &mut buffers)?;
-    check_text(&rt, alloc, &value, "[\"a\"]")?;
+    check_text(&rt, alloc, &value, r#"["a"]"#)?;
     let mut text = b"7".to_vec(alloc)?;
     let value = deserialize_with_buffers::<OwnedValue, String>(alloc, &mut text, &mut buffers)?;
     check_text(&rt, alloc, &value, "7")?;
@@ -61,23 +61,23 @@ fn read_by_buffers(rt: HostRuntime) -> Result<(), Fail> {
 #[test]
 fn taken_from_a_tape(rt: HostRuntime) -> Result<(), Fail> {
     let alloc = rt.alloc();
-    let mut text = b"{\"a\":[1,{}],\"b\":2}".to_vec(alloc)?;
+    let mut text = br#"{"a":[1,{}],"b":2}"#.to_vec(alloc)?;
     let mut nodes = Deserializer::from_slice(alloc, &mut text)?;
     assert!(rt; !nodes.is_at_end());
     nodes.next_();
     assert!(rt; !nodes.is_at_end());
     nodes.next_();
     let mut values = OwnedDeserializer::from_deserializer(nodes);
-    for part in ["[1,{}]", "\"b\"", "2"] {
+    for part in ["[1,{}]", r#""b""#, "2"] {
         assert!(rt; !values.is_at_end());
         check_text(&rt, alloc, &values.parse(alloc)?, part)?;
     }
     assert!(rt; values.is_at_end());
-    let mut text = b"{\"a\":1,\"a\":2}".to_vec(alloc)?;
+    let mut text = br#"{"a":1,"a":2}"#.to_vec(alloc)?;
     let nodes = Deserializer::from_slice(alloc, &mut text)?;
     let mut values = BorrowDeserializer::from_deserializer(nodes);
     assert!(rt; !values.is_at_end());
-    check_text(&rt, alloc, &values.parse(alloc)?, "{\"a\":1}")?;
+    check_text(&rt, alloc, &values.parse(alloc)?, r#"{"a":1}"#)?;
     assert!(rt; values.is_at_end());
     Ok(())
 }
@@ -86,7 +86,7 @@ fn taken_from_a_tape(rt: HostRuntime) -> Result<(), Fail> {
 #[test]
 fn read_as_they_stand(rt: HostRuntime) -> Result<(), Fail> {
     let alloc = rt.alloc();
-    let mut text = b"[5,-5,\"a\",\"\\u0061\",1.5]".to_vec(alloc)?;
+    let mut text = br#"[5,-5,"a","\u0061",1.5]"#.to_vec(alloc)?;
     let value = to_borrowed_value(alloc, &mut text)?;
     for (place, kind) in [(0, ValueType::U64), (1, ValueType::I64)] {
         assert_eq!(rt; value.get_idx(place).ok_or("no item")?.value_type(), kind);

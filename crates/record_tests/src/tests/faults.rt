@@ -15,9 +15,9 @@ fn record_of(
 ) -> Result<String, AllocError> {
     match place {
         Some((index, character)) => format!(in alloc;
-            "{{\"error\":\"{kind}\",\"index\":{index},\"character\":\"{character}\"}}"
+            r#"{{"error":"{kind}","index":{index},"character":"{character}"}}"#
         ),
-        None => format!(in alloc; "{{\"error\":\"{kind}\",\"index\":0,\"character\":null}}"),
+        None => format!(in alloc; r#"{{"error":"{kind}","index":0,"character":null}}"#),
     }
 }
 

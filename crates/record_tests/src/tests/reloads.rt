@@ -81,7 +81,7 @@ fn deep_reload(rt: HostRuntime) -> Result<(), Fail> {
             line.push(bracket)?;
         }
     }
-    let record = format!(in alloc; "{{\"replies\":[true],\"document\":{line}}}")?;
+    let record = format!(in alloc; r#"{{"replies":[true],"document":{line}}}"#)?;
     check(&rt, alloc, r#"[["reload_pp"]]"#, &line, LIMIT + 1, &record)
 }
 
@@ -119,10 +119,10 @@ fn read(alloc: Global, text: &str) -> Result<OwnedValue, Fail> {
 
 // The record with the reply of a reload at this place.
 fn with_reply(alloc: Global, record: &str, place: usize) -> Result<String, Fail> {
-    let (front, document) = record.split_once(",\"document\":").ok_or("no document")?;
-    let replies = front.strip_prefix("{\"replies\":").ok_or("no replies")?;
+    let (front, document) = record.split_once(r#","document":"#).ok_or("no document")?;
+    let replies = front.strip_prefix(r#"{"replies":"#).ok_or("no replies")?;
     let replies = with_item(alloc, &read(alloc, replies)?, place, "true")?;
-    Ok(format!(in alloc; "{{\"replies\":{replies},\"document\":{document}")?)
+    Ok(format!(in alloc; r#"{{"replies":{replies},"document":{document}"#)?)
 }
 
 fn len(array: &OwnedValue) -> Result<usize, Fail> {

@@ -25,14 +25,19 @@ time => {"error":"ExpectedTrue","index":0,"character":"t"}
 ["\u12G4"] => {"error":"InvalidUnicodeEscape","index":2,"character":"\\"}
 [01] => {"error":"InvalidNumber","index":1,"character":"0"}
 ["a"b] => {"error":"ExpectedArrayComma","index":4,"character":"b"}
+["aaaaaaaaaaaaaaaaaaaaaaaaaaaaaaaaaaaaaaaaaaaaaaaaaaaaaaaaaaaaa"b] => {"error":"ExpectedArrayComma","index":64,"character":"b"}
+[                                                              12] => {"replies":[],"document":[12]}
 \" => {"error":"InternalError","index":0,"character":"\\"}
 [true"a"] => {"error":"ExpectedTrue","index":1,"character":"t"}
 [1"a"] => {"error":"InvalidNumber","index":1,"character":"1"}
 [-0, 1.50] => {"replies":[],"document":[0,1.50]}"#;
 
-// Bytes 63 and 64 are backslashes. A bracket stands in the string behind them.
-const BACKSLASHES_AT_64: &str =
-    r#"["aaaaaaaaaaaaaaaaaaaaaaaaaaaaaaaaaaaaaaaaaaaaaaaaaaaaaaaaaaaaa\\]"]"#;
+// Lines whose strings end at the edge of a block of 64 bytes. In the first, bytes 63 and 64 are backslashes, and a bracket
+// stands in the string behind them. In the second, byte 63 is a backslash and byte 64 the quote that it escapes.
+const ACROSS_BLOCKS: [&str; 2] = [
+    r#"["aaaaaaaaaaaaaaaaaaaaaaaaaaaaaaaaaaaaaaaaaaaaaaaaaaaaaaaaaaaaa\\]"]"#,
+    r#"["aaaaaaaaaaaaaaaaaaaaaaaaaaaaaaaaaaaaaaaaaaaaaaaaaaaaaaaaaaaaa\"]"]"#,
+];
 
 // Looks for the record of a line by itself, and adds both to a stream of many.
 fn check_row(
@@ -59,14 +64,10 @@ fn of_worked_lines(rt: HostRuntime) -> Result<(), Fail> {
         let (line, record) = split_row(row)?;
         check_row(&rt, rt.alloc(), &mut all, line.as_bytes(), record)?;
     }
-    let record = format!(in rt.alloc(); r#"{{"replies":[],"document":{BACKSLASHES_AT_64}}}"#)?;
-    check_row(
-        &rt,
-        rt.alloc(),
-        &mut all,
-        BACKSLASHES_AT_64.as_bytes(),
-        &record,
-    )?;
+    for line in ACROSS_BLOCKS {
+        let record = format!(in rt.alloc(); r#"{{"replies":[],"document":{line}}}"#)?;
+        check_row(&rt, rt.alloc(), &mut all, line.as_bytes(), &record)?;
+    }
     let not_utf8 = r#"{"error":"InvalidUtf8","index":0,"character":null}"#;
     check_row(&rt, rt.alloc(), &mut all, b"\"\xff", not_utf8)?;
     for step in [1, 63, 65536] {

@@ -25,7 +25,7 @@ pub(super) fn check(
 }
 
 // A script, a line and its record, the same in each form.
-pub(super) const WORKED: [(&str, &str, &str); 7] = [
+pub(super) const WORKED: [(&str, &str, &str); 8] = [
     (
         r#"[["get",["key"]],["insert",[],"new",42],["get",["new"]]]"#,
         r#"{"key": "value", "snot": 42}"#,
@@ -60,6 +60,11 @@ pub(super) const WORKED: [(&str, &str, &str); 7] = [
         r#"[["type",[0]],["type",[1]],["type",[2]],["type",[3]],["type",[4]],["type",[5]],["type",[6]],["type",[7]],["type",[8]]]"#,
         r#"[null,true,-1,1,1.0,"",[],{}]"#,
         r#"{"replies":["null","bool","integer","integer","decimal","string","array","object","NoSuchPath"],"document":[null,true,-1,1,1.0,"",[],{}]}"#,
+    ),
+    (
+        r#"[["contains",["x"],"k"],["keys",["x"]],["remove",["x"],"k"],["remove",["a"],"k"],["push",["x"],1],["pop",["x"]],["pop",["a"]]]"#,
+        r#"{"a":1}"#,
+        r#"{"replies":["NoSuchPath","NoSuchPath","NoSuchPath","NotAnObject","NoSuchPath","NoSuchPath","NotAnArray"],"document":{"a":1}}"#,
     ),
 ];
 
@@ -166,7 +171,7 @@ fn put_member(alloc: Global, out: &mut String, number: u8) -> Result<(), AllocEr
         let is_one = number >> (5 - place) & 1 == 1;
         out.push_str(if is_one { "BB" } else { "Aa" })?;
     }
-    let value = format!(in alloc; "\":{number}")?;
+    let value = format!(in alloc; r#"":{number}"#)?;
     out.push_str(&value)
 }
 
@@ -188,7 +193,7 @@ fn forty_equal_hashes(rt: HostRuntime) -> Result<(), Fail> {
     let alloc = rt.alloc();
     let line = forty(alloc, 0)?;
     let left = forty(alloc, 1)?;
-    let record = format!(in alloc; "{{\"replies\":[[39],[0],39],\"document\":{left}}}")?;
+    let record = format!(in alloc; r#"{{"replies":[[39],[0],39],"document":{left}}}"#)?;
     let script = r#"[["get",["BBAaAaBBBBBB"]],["remove",[],"AaAaAaAaAaAa"],["len",[]]]"#;
     check(&rt, alloc, script, &line, LIMIT, &record)?;
     check_reloads(&rt, alloc, script, &line, LIMIT, &record)

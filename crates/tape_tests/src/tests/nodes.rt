@@ -169,7 +169,7 @@ fn sinks_that_refuse(rt: HostRuntime) -> Result<(), Fail> {
             refusal,
         };
         assert!(rt; write(&tape.as_value(), &mut output) == Err(WriteFault));
-        assert!(rt; output.taken.as_slice() == b"{\"a".as_slice());
+        assert!(rt; output.taken.as_slice() == br#"{"a"#.as_slice());
     }
     Ok(())
 }

@@ -44,7 +44,7 @@ fn positions(rt: HostRuntime) -> Result<(), Fail> {
     Ok(())
 }
 
-// Texts with something to find near the end of a block, once they stand behind spaces.
+// Texts with something to find near the end of a block, once they stand behind spaces, and the lines of the worked rows.
 const TEXTS: &str = r#"1
 ""
  "\\\"" 
@@ -60,32 +60,62 @@ a"b"c"
 ["]"]"{,:}
 {"key": "value", "snot": 42}
 [["get",["key"]],["insert",[],"new",42],["get",["new"]]]
+time
 [true, falsy]
 {"a":1,"a":2}
 [-0, 1.50]
+["aaaaaaaaaaaaaaaaaaaaaaaaaaaaaaaaaaaaaaaaaaaaaaaaaaaaaaaaaaaaa\\]"]
+["aaaaaaaaaaaaaaaaaaaaaaaaaaaaaaaaaaaaaaaaaaaaaaaaaaaaaaaaaaaaa"b]
+["aaaaaaaaaaaaaaaaaaaaaaaaaaaaaaaaaaaaaaaaaaaaaaaaaaaaaaaaaaaaa\"]"]
+[                                                              12]
+7
 ["\ud83d\ude00","\u0041"]
+["\ud83d"]
 [1,]
 {"a":1,}
 1 2
 [] 1
 [18446744073709551615,-9223372036854775808]
+[18446744073709551616]
+"a
+{"a":[1
+[1,
+["\"\\\/\b\f\n\r\t\u001F"]
+["a\qb"]
+["\u12G4"]
+[01]
+["a"b]
+{"a":[1,"x"],"b":null}
+[["contains",[],"b"],["contains",["a"],"b"],["type",["a",1]],["keys",[]],["keys",["a"]],["len",["b"]]]
+{"the_answer": 42}
+{"1":time}
+[null, new]
+[1,[2,3],4]
+{"some": ["key", "value", 2]}
+{"snot": 1, "badger":[2, 2.5]}
 {"x":{"a":1},"é":"€","😀":[[],{}]}
 {:}[,]{:}[,]{:}[,]{:}[,]{:}[,]{:}[,]{:}[,]{:}[,]{:}[,]{:}[,]{:}[,]{:}[,]{:}[,]"#;
 
-// Each text up to each of its bytes, behind each number of spaces up to two blocks.
-#[test]
-fn scans_agree(rt: HostRuntime) -> Result<(), Fail> {
-    for line in TEXTS.lines() {
-        let mut text = Vec::new(rt.alloc());
-        text.resize(130, b' ')?;
-        text.extend_from_slice(line.as_bytes())?;
-        for end in 130..=text.len() {
-            for start in 0..=130 {
-                let _found = scanned(&rt, rt.alloc(), &text[start..end])?;
-            }
+// Scans a text up to each of its bytes, behind each number of spaces up to two blocks.
+fn scan_prefixes(rt: &impl Abort, alloc: Global, text: &[u8]) -> Result<(), Fail> {
+    let mut spaced = Vec::new(alloc);
+    spaced.resize(130, b' ')?;
+    spaced.extend_from_slice(text)?;
+    for end in 130..=spaced.len() {
+        for start in 0..=130 {
+            let _found = scanned(rt, alloc, &spaced[start..end])?;
         }
     }
     Ok(())
+}
+
+#[test]
+fn scans_agree(rt: HostRuntime) -> Result<(), Fail> {
+    for text in TEXTS.lines() {
+        scan_prefixes(&rt, rt.alloc(), text.as_bytes())?;
+    }
+    scan_prefixes(&rt, rt.alloc(), b"\"\xff")?;
+    scan_prefixes(&rt, rt.alloc(), b"1\r")
 }
 
 #[test]

@@ -125,7 +125,7 @@ fn filled_tape(rt: HostRuntime) -> Result<(), Fail> {
 fn room_of_a_tape_is_used_again(rt: HostRuntime) -> Result<(), Fail> {
     let mut first = input(rt.alloc(), "[1,2]")?;
     let mut second = input(rt.alloc(), "[3")?;
-    let mut third = input(rt.alloc(), "\"a")?;
+    let mut third = input(rt.alloc(), r#""a"#)?;
     let mut fourth = input(rt.alloc(), r#"{"a":4}"#)?;
     let mut buffers = Buffers::new(rt.alloc(), 10)?;
     let mut tape = Tape::from_listing(Vec::with_capacity(rt.alloc(), 100)?);
