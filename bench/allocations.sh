@@ -1,7 +1,8 @@
 #!/usr/bin/env bash
-# Counts the requests for memory of `records` over 1 and over 100 equal lines that come in one piece, and fails where the
-# lazy form makes more of them for 100 lines than for one. Counts those for an array of four strings with three and with four
-# reloads, and fails where the owned form doesn't make at least four more with four, as it does if each reload reads its text:
+# Counts the requests for memory of `records` over equal lines that come in one piece: 1 and 100 short ones, and 1 and 5 of a
+# hundred times the length. Fails where the lazy form makes more of them for many lines than for one. Counts those for an array
+# of four strings with three and with four reloads, and fails where the owned form doesn't make at least four more with four, as
+# it does if each reload reads its text:
 #
 #     bench/allocations.sh
 #
@@ -20,8 +21,11 @@ if [ -z "${RECORDS:-}" ]; then
 fi
 
 line='{"id":917128462,"name":"liuyjopbck","size":31.694,"tags":["a","b\u0063"],"more":{"ok":true,"note":null}}'
+long=$(yes "$line" | head -n 100 | paste -sd, | sed 's/.*/{"more":{"note":[&]}}/')
 echo "$line" > "$work/1"
 yes "$line" | head -n 100 > "$work/100"
+echo "$long" > "$work/1-long"
+yes "$long" | head -n 5 > "$work/5-long"
 echo '[["get",["more","note"]],["keys",[]]]' > "$work/reads"
 echo '["a","b","c","d"]' > "$work/strings"
 echo '[["reload"],["reload"],["reload"]]' > "$work/three"
@@ -36,8 +40,10 @@ failed=0
 for form in owned borrowed lazy; do
     one=$(count $form reads 1)
     hundred=$(count $form reads 100)
-    echo "$form: $one requests for 1 line, $hundred for 100"
-    if [ $form = lazy ] && [ "$one" != "$hundred" ]; then failed=1; fi
+    one_long=$(count $form reads 1-long)
+    five_long=$(count $form reads 5-long)
+    echo "$form: $one requests for 1 line, $hundred for 100; $one_long for 1 long line, $five_long for 5"
+    if [ $form = lazy ] && [ "$one $one_long" != "$hundred $five_long" ]; then failed=1; fi
 done
 three=$(count owned three strings)
 four=$(count owned four strings)
