@@ -81,9 +81,8 @@ fn owned_edit_by_index(rt: HostRuntime) -> Result<(), Fail> {
     o.insert(String::from_str(alloc, "key")?, Value::array(alloc))?;
     o.get("key").ok_or("no key")?;
     o["key"].push(Value::object(alloc))?;
-    let items = o.get_mut("key").ok_or("no key")?;
-    items.get_idx(0).ok_or("no item")?;
-    items[0].insert(String::from_str(alloc, "other")?, text(alloc, "value")?)?;
+    o.get("key").ok_or("no key")?.get_idx(0).ok_or("no item")?;
+    o["key"][0].insert(String::from_str(alloc, "other")?, text(alloc, "value")?)?;
     assert_eq!(rt;
         encoded(alloc, &o)?.as_slice(),
         br#"{"key":[{"other":"value"}]}"#.as_slice()
