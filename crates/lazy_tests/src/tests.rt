@@ -217,6 +217,18 @@ fn made_of_others(rt: HostRuntime) -> Result<(), Fail> {
     Ok(())
 }
 
+// A tape equals the document of the same bytes, which keeps the first of two equal keys.
+#[test]
+fn equal_to_its_document(rt: HostRuntime) -> Result<(), Fail> {
+    let alloc = rt.alloc();
+    let mut texts = bytes(alloc, r#"{"a":1,"a":2}{"a":1,"a":2}"#)?;
+    let (left, right) = texts.split_at_mut(13);
+    let tape = to_tape(alloc, left)?;
+    let document = to_borrowed_value(alloc, right)?;
+    assert!(rt; lazy(&tape)? == Value::from(document));
+    Ok(())
+}
+
 // Compares the value of a text with another value, as a tape and as a document.
 fn same_as<T: LazyComparand>(
     rt: &impl Abort,

@@ -1,6 +1,7 @@
 //! What a pass does with the documents.
 ghost use Rattle.std.specs.Prelude.{◌≡◌, ◌++◌, ℕ, IfOk, OnOk, flat_map};
 ghost use Rattle.sj_base.specs.declared.TheConstants.{DEFAULT_MAX_DEPTH};
+ghost use Rattle.sj_base.specs.Output.{AppendsOrLeaves};
 ghost use Rattle.sj_parse.specs.Answers.{buffer_limit};
 ghost use Rattle.read_bench.specs.Printed.{text_of};
 ghost use Rattle.read_bench.specs.Refused.{is_refused, is_refused_by_scan, tapes_refused, scans_refused};
@@ -249,7 +250,7 @@ fn print_all(tapes: &[Tape<'_>], out: &mut Vec<u8>) -> Result<(), AllocError>
 
 /// Appends the compact text of the tape's document, if it has one.
 fn print(tape: &Tape<'_>, out: &mut Vec<u8>) -> Result<(), AllocError>
-    ensures { OnOk result (out.new.items ≡ out.old.items ++ text_of tape.now) }
+    ensures { AppendsOrLeaves result out.old.items out.new.items (text_of tape.now) }
 {
     if tape.is_empty() {
         return Ok(());

@@ -7,7 +7,7 @@ use Rattle.sj_base.specs.Output.{AppendsPrefix, WritesAll, WritesPrefix}
 use Rattle.sj_scripts.specs.Command.{Step}
 use Rattle.sj_scripts.specs.Step.{Job}
 use Rattle.sj_records.specs.Record.{IsOutput}
-use Rattle.sj_records.specs.Run.{Transfers, Leaves, RecordsOfSome, RecordsOfEnded, RecordsPrefix}
+use Rattle.sj_records.specs.Run.{Transfers, LeavesOutput, RecordsOfSome, RecordsOfEnded, RecordsPrefix}
 use Rattle.sj_records.specs.Job.{keeping_of}
 use Rattle.sj_scripts.specs.Script.{IsReadAs, IsRefusedAs}
 use Rattle.sj_records.specs.declared.run_error.RunError.{RunError}
@@ -30,7 +30,7 @@ ReadsAndWrites unread held_old held_new result P =
 
 -- What a run leaves.
 abbrev pub RunLeaves : Option (List ℕ) → Option (List ℕ) → Option (List ℕ) → Job → Result Unit RunError → Type 0
-RunLeaves unread held_old held_new job result = ReadsAndWrites unread held_old held_new result (Leaves result job)
+RunLeaves unread held_old held_new job result = ReadsAndWrites unread held_old held_new result (LeavesOutput result job)
 
 -- What a run leaves, by the fault that it ends the program with. A flush that fails is a failed write.
 abbrev pub WrittenBy : Result Unit Fault → Job → List ℕ → List ℕ → Type 0
@@ -59,8 +59,8 @@ abbrev pub HasCommands : Loads → List (List ℕ) → RunArguments → List Ste
 HasCommands loads words run script = (bytes : Vec ℕ Global) × GivesScript loads words run (Ok bytes) × IsReadAs bytes.items (Ok script)
 
 -- what the run does to each line
-abbrev pub job_of : RunArguments → List Step → Job
-job_of run script = record { script = script; limit = run.depth; keeping = keeping_of run.form }
+abbrev pub run_job : RunArguments → List Step → Job
+run_job run script = record { script = script; limit = run.depth; keeping = keeping_of run.form }
 
 -- The bytes are refused as a script with this line.
 abbrev pub IsRefusedWith : List ℕ → List ℕ → Type 0
@@ -84,7 +84,7 @@ HasRefusal loads words line = (run : RunArguments) × (bytes : Vec ℕ Global) �
 -- The run that the words ask for ended so.
 abbrev pub Ran : Loads → List (List ℕ) → Option (List ℕ) → Option (List ℕ) → Option (List ℕ) → Result Unit Fault → Type 0
 Ran loads words unread held_old held_new ended =
-    (run : RunArguments) × (script : List Step) × HasCommands loads words run script × RunEnds unread held_old held_new (job_of run script) ended
+    (run : RunArguments) × (script : List Step) × HasCommands loads words run script × RunEnds unread held_old held_new (run_job run script) ended
 
 -- The words ask for the help, and it was written, or a prefix of it. Its text is that of `clap`.
 abbrev pub HelpWritten : List (List ℕ) → Option (List ℕ) → Option (List ℕ) → Type 0

@@ -3,7 +3,7 @@ ghost use Rattle.std.specs.Prelude.{◌≡◌, ℕ, OnErr, OnOk};
 ghost use Rattle.std.specs.Io.KnownBytes.{Appends};
 ghost use Rattle.sj_base.specs.Output.{AppendsPrefix};
 ghost use Rattle.sj_scripts.specs.Steps.{steps_of};
-ghost use Rattle.records_program.specs.Program.{RunLeaves, job_of};
+ghost use Rattle.records_program.specs.Program.{RunLeaves, run_job};
 
 use crate::arguments::RunArguments;
 use sj_base::{Counted, Output, WriteFault};
@@ -59,7 +59,7 @@ pub fn run_counted<'a, I: Read + Drop, O: Write, L: Ledger, M: Ledger, N: Named>
     requires writes { (writes.name ≡ M.name) × (writes.parts ≡ M.parts) × (writes.parts ≡ 4) }
     requires output { output.ghost_name ≡ N.name }
     ensures same_reference { result.1.ghost_name ≡ output.entry.ghost_name }
-    ensures stands { RunLeaves (I.remaining input) (O.contents output.old) (O.contents result.1.now) (job_of arguments.entry (steps_of script.now)) result.0 }
+    ensures stands { RunLeaves (I.remaining input) (O.contents output.old) (O.contents result.1.now) (run_job arguments.entry (steps_of script.now)) result.0 }
 {
     let mut source = Counted::<I, L>::new(input, reads);
     let lent = Lent::<'a, O, N> {

@@ -6,7 +6,7 @@ ghost use Rattle.sj_base.specs.Output.{AppendsPrefix};
 ghost use Rattle.sj_scripts.specs.Steps.{steps_of};
 ghost use Rattle.sj_scripts.specs.Script.{IsReadAs};
 ghost use Rattle.records_program.specs.Fault.{exit_status, refusal_line, status_of};
-ghost use Rattle.records_program.specs.Program.{ProgramLeaves, Reports, RunEnds, RefusesBytes, job_of};
+ghost use Rattle.records_program.specs.Program.{ProgramLeaves, Reports, RunEnds, RefusesBytes, run_job};
 ghost use Rattle.records_program.specs.declared.fault.Fault.{Fault};
 
 use crate::arguments::{Arguments, RunArguments, parse_arguments};
@@ -137,7 +137,7 @@ fn run_script<I: Read + Drop, O: Write>(
     arguments: RunArguments<'_>,
 ) -> Result<(), Fault>
     ensures status { IfErr result (λ f. status_of f ≡ 1) }
-    ensures stands { RunEnds (I.remaining input) (O.contents output.old) (O.contents output.new) (job_of arguments.entry (steps_of script.now)) result }
+    ensures stands { RunEnds (I.remaining input) (O.contents output.old) (O.contents output.new) (run_job arguments.entry (steps_of script.now)) result }
 {
     let (ran, output) = run_counted::<I, O, Brand, Brand, Brand>(
         alloc,

@@ -2,11 +2,17 @@
 use Rattle.std.proofs.Common.{◌≡◌, ℕ, ◌+◌, ◌-◌, ◌*◌, ◌<◌, List, [], ◌∷◌, ◌++◌, take, drop, flat_map, replicate, Result, Ok, Err, OnErr, ap, sym, ◌∙◌, arith}
 use Rattle.std.proofs.lemmas.List.{replicate-append-replicate, take-append-drop}
 use Rattle.std.proofs.lemmas.List.Concat.{flat_map-append}
+use Rattle.sj_base.specs.Output.{Continues, Prints}
 use Rattle.sj_base.specs.Text.{escaped}
 
 pub on_err : {T E : Type 0} (r : Result T E) {P : Type 0} → P → OnErr r P
 on_err (Ok x) p = tt
 on_err (Err e) p = p
+
+-- Bytes are printed behind others that were appended.
+pub prints_behind : {S X E : Type 0} {A B : S → S → List ℕ → Type 0} → Continues A B → (r : Result X E) (s t u : S) (xs ys : List ℕ) → A s t xs → Prints A B r t u ys → Prints A B r s u (xs ++ ys)
+prints_behind l (Ok x) s t u xs ys first then = l.then s t u xs ys first then
+prints_behind l (Err e) s t u xs ys first then = l.fails s t u xs ys first then
 
 -- the spaces of one more level
 pub level_more : (i : ℕ) → replicate (2 * i) 0x20 ++ 0x20 ∷ 0x20 ∷ [] ≡ replicate {A = ℕ} (2 * (i + 1)) 0x20

@@ -35,12 +35,23 @@ impl<'a> Decimal<'a> {
         ensures accepts { IsSome result ↔ IsDecimal bytes.now }
         ensures text { IfSome result (λ d. decimal_text d ≡ bytes.now) }
     {
-        if !is_decimal(bytes) {
-            return None;
+        if is_decimal(bytes) {
+            Some(Decimal::from_bytes_unchecked(bytes))
+        } else {
+            None
         }
-        Some(Decimal {
+    }
+
+    /// Returns `bytes` as a decimal literal, for a caller that has tested them: they have to be a JSON number with a fraction
+    /// or an exponent.
+    #[inline(always)]
+    pub fn from_bytes_unchecked(bytes: &'a [u8]) -> Decimal<'a>
+        requires { IsDecimal bytes.now }
+        ensures { decimal_text result ≡ bytes.now }
+    {
+        Decimal {
             text: unsafe { std::str::from_utf8_unchecked(bytes) },
-        })
+        }
     }
 
     /// Returns the text of the literal.

@@ -10,7 +10,8 @@
 //! }
 //! list.close(out)
 //! ```
-ghost use Rattle.std.specs.Prelude.{◌≡◌, ◌+◌, ◌<◌, ◌^◌, [], ◌∷◌, ◌++◌, IfOk, OnOk, OnErr, if◌then◌else◌};
+ghost use Rattle.std.specs.Prelude.{◌≡◌, ◌+◌, ◌<◌, ◌^◌, [], ◌∷◌, ◌++◌, IfOk, if◌then◌else◌};
+ghost use Rattle.sj_base.specs.Output.{Prints};
 ghost use Rattle.sj_base.specs.Text.{quoted};
 ghost use Rattle.sj_base.specs.Layout.{level_of, inside, line_start, colon, opened_list, opened_object, filled, before_next, end_text};
 
@@ -37,8 +38,7 @@ impl Layout {
     pub fn open_list<O: Output>(self, out: &mut O) -> Result<Container, O::Fault>
         requires { level_of self + 1 < 2 ^ 64 }
         ensures container { IfOk result (λ c. c ≡ opened_list self) }
-        ensures ok { OnOk result (O.appends out.old out.new (0x5b ∷ [])) }
-        ensures err { OnErr result (O.begins out.old out.new (0x5b ∷ [])) }
+        ensures printed { Prints O.appends O.begins result out.old out.new (0x5b ∷ []) }
     {
         out.put(b"[")?;
         Ok(Container {
@@ -58,8 +58,7 @@ impl Layout {
     pub fn open_object<O: Output>(self, out: &mut O) -> Result<Container, O::Fault>
         requires { level_of self + 1 < 2 ^ 64 }
         ensures container { IfOk result (λ c. c ≡ opened_object self) }
-        ensures ok { OnOk result (O.appends out.old out.new (0x7b ∷ [])) }
-        ensures err { OnErr result (O.begins out.old out.new (0x7b ∷ [])) }
+        ensures printed { Prints O.appends O.begins result out.old out.new (0x7b ∷ []) }
     {
         out.put(b"{")?;
         Ok(Container {
@@ -83,8 +82,7 @@ impl Layout {
 
     #[inline(always)]
     fn print_line_start<O: Output>(self, out: &mut O) -> Result<(), O::Fault>
-        ensures ok { OnOk result (O.appends out.old out.new (line_start self)) }
-        ensures err { OnErr result (O.begins out.old out.new (line_start self)) }
+        ensures { Prints O.appends O.begins result out.old out.new (line_start self) }
     {
         match self {
             Layout::Compact => Ok(()),
@@ -94,8 +92,7 @@ impl Layout {
 
     #[inline(always)]
     fn print_key<O: Output>(self, key: &str, out: &mut O) -> Result<(), O::Fault>
-        ensures ok { OnOk result (O.appends out.old out.new (quoted key.now ++ colon self)) }
-        ensures err { OnErr result (O.begins out.old out.new (quoted key.now ++ colon self)) }
+        ensures { Prints O.appends O.begins result out.old out.new (quoted key.now ++ colon self) }
     {
         print_string(out, key)?;
         self.print_colon(out)
@@ -103,8 +100,7 @@ impl Layout {
 
     #[inline(always)]
     fn print_colon<O: Output>(self, out: &mut O) -> Result<(), O::Fault>
-        ensures ok { OnOk result (O.appends out.old out.new (colon self)) }
-        ensures err { OnErr result (O.begins out.old out.new (colon self)) }
+        ensures { Prints O.appends O.begins result out.old out.new (colon self) }
     {
         match self {
             Layout::Compact => out.put(b":"),
@@ -139,8 +135,7 @@ impl Container {
     #[inline(always)]
     pub fn next<O: Output>(&mut self, out: &mut O) -> Result<(), O::Fault>
         ensures container { self.new ≡ filled self.old }
-        ensures ok { OnOk result (O.appends out.old out.new (before_next self.old)) }
-        ensures err { OnErr result (O.begins out.old out.new (before_next self.old)) }
+        ensures printed { Prints O.appends O.begins result out.old out.new (before_next self.old) }
     {
         let printed = self.print_separator(out);
         self.is_empty = false;
@@ -157,10 +152,7 @@ impl Container {
     #[inline(always)]
     pub fn key<O: Output>(&mut self, key: &str, out: &mut O) -> Result<(), O::Fault>
         ensures container { self.new ≡ filled self.old }
-        ensures ok { OnOk result (O.appends out.old out.new
-            (before_next self.old ++ (quoted key.now ++ colon self.old.inside))) }
-        ensures err { OnErr result (O.begins out.old out.new
-            (before_next self.old ++ (quoted key.now ++ colon self.old.inside))) }
+        ensures printed { Prints O.appends O.begins result out.old out.new (before_next self.old ++ (quoted key.now ++ colon self.old.inside)) }
     {
         self.next(out)?;
         self.inside.print_key(key, out)
@@ -173,8 +165,7 @@ impl Container {
     /// The fault of the output. Only a prefix is then printed.
     #[inline(always)]
     pub fn close<O: Output>(self, out: &mut O) -> Result<(), O::Fault>
-        ensures ok { OnOk result (O.appends out.old out.new (end_text self)) }
-        ensures err { OnErr result (O.begins out.old out.new (end_text self)) }
+        ensures { Prints O.appends O.begins result out.old out.new (end_text self) }
     {
         self.print_last_line_start(out)?;
         out.put(&[self.closing])
@@ -182,18 +173,14 @@ impl Container {
 
     #[inline(always)]
     fn print_separator<O: Output>(&self, out: &mut O) -> Result<(), O::Fault>
-        ensures ok { OnOk result (O.appends out.old out.new (if self.now.is_empty then [] else 0x2c ∷ [])) }
-        ensures err { OnErr result (O.begins out.old out.new (if self.now.is_empty then [] else 0x2c ∷ [])) }
+        ensures { Prints O.appends O.begins result out.old out.new (if self.now.is_empty then [] else 0x2c ∷ []) }
     {
         if self.is_empty { Ok(()) } else { out.put(b",") }
     }
 
     #[inline(always)]
     fn print_last_line_start<O: Output>(&self, out: &mut O) -> Result<(), O::Fault>
-        ensures ok { OnOk result (O.appends out.old out.new
-            (if self.now.is_empty then [] else line_start self.now.layout)) }
-        ensures err { OnErr result (O.begins out.old out.new
-            (if self.now.is_empty then [] else line_start self.now.layout)) }
+        ensures { Prints O.appends O.begins result out.old out.new (if self.now.is_empty then [] else line_start self.now.layout) }
     {
         if self.is_empty {
             Ok(())

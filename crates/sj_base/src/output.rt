@@ -1,6 +1,6 @@
 //! What text is printed to: a vector, a buffer, or a sink.
-ghost use Rattle.std.specs.Prelude.{◌≡◌, List, ℕ, [], ◌++◌, if◌then◌else◌, IfOk, OnOk, OnErr};
-ghost use Rattle.sj_base.specs.Output.{Continues, WritesAll, WritesPrefix};
+ghost use Rattle.std.specs.Prelude.{◌≡◌, List, ℕ, [], ◌++◌, if◌then◌else◌, IfOk, OnErr};
+ghost use Rattle.sj_base.specs.Output.{Continues, Prints, WritesAll, WritesPrefix};
 ghost use Rattle.sj_base.specs.Text.{quoted};
 ghost use Rattle.sj_base.specs.inside.OutputLaws.{vectors_continue, sinks_continue};
 
@@ -25,8 +25,7 @@ pub trait Output {
     ///
     /// The fault of the output. A prefix of the bytes is then appended.
     fn put(&mut self, bytes: &[u8]) -> Result<(), Self::Fault>
-        ensures ok { OnOk result (appends self.old self.new bytes.now) }
-        ensures err { OnErr result (begins self.old self.new bytes.now) };
+        ensures { Prints appends begins result self.old self.new bytes.now };
 
     /// Appends the text between quotes and returns `true`, or appends nothing and returns `false`.
     ///

@@ -3,6 +3,7 @@
 //! The `put_` functions append to a vector, all of the text or nothing. [`print_text`] appends to any [`Output`], and
 //! leaves a prefix of the text if the output fails.
 ghost use Rattle.std.specs.Prelude.{◌≡◌, ◌<◌, [], ◌∷◌, ◌++◌, IsTrue, OnOk, OnErr, take, flat_map};
+ghost use Rattle.sj_base.specs.Output.{Prints, AppendsOrLeaves};
 ghost use Rattle.std.specs.Char.{digit_char};
 ghost use Rattle.sj_base.specs.Tree.{integer};
 ghost use Rattle.sj_base.specs.Scalar.{static_tree, scalar_tree};
@@ -22,8 +23,7 @@ use std::alloc::AllocError;
 ///
 /// `AllocError` if there is no memory for the text. Nothing is then appended.
 pub fn put_string(out: &mut Vec<u8>, text: &str) -> Result<(), AllocError>
-    ensures ok { OnOk result (out.new.items ≡ out.old.items ++ quoted text.now) }
-    ensures err { OnErr result (out.new.items ≡ out.old.items) }
+    ensures { AppendsOrLeaves result out.old.items out.new.items (quoted text.now) }
 {
     let start = out.len();
     let printed = print_string(out, text);
@@ -36,8 +36,7 @@ pub fn put_string(out: &mut Vec<u8>, text: &str) -> Result<(), AllocError>
 ///
 /// `AllocError` if there is no memory for the text. Nothing is then appended.
 pub fn put_int<I: JsonInteger>(out: &mut Vec<u8>, n: I) -> Result<(), AllocError>
-    ensures ok { OnOk result (out.new.items ≡ out.old.items ++ text (integer (I.number n))) }
-    ensures err { OnErr result (out.new.items ≡ out.old.items) }
+    ensures { AppendsOrLeaves result out.old.items out.new.items (text (integer (I.number n))) }
 {
     let start = out.len();
     let printed = print_int(out, n);
@@ -50,8 +49,7 @@ pub fn put_int<I: JsonInteger>(out: &mut Vec<u8>, n: I) -> Result<(), AllocError
 ///
 /// `AllocError` if there is no memory for the text. Nothing is then appended.
 pub fn put_text(out: &mut Vec<u8>, scalar: &Scalar<'_>) -> Result<(), AllocError>
-    ensures ok { OnOk result (out.new.items ≡ out.old.items ++ text (scalar_tree scalar.now)) }
-    ensures err { OnErr result (out.new.items ≡ out.old.items) }
+    ensures { AppendsOrLeaves result out.old.items out.new.items (text (scalar_tree scalar.now)) }
 {
     let start = out.len();
     let printed = print_text(out, scalar);
@@ -64,8 +62,7 @@ pub fn put_text(out: &mut Vec<u8>, scalar: &Scalar<'_>) -> Result<(), AllocError
 ///
 /// `AllocError` if there is no memory for the text. Nothing is then appended.
 pub fn put_break(out: &mut Vec<u8>, level: usize) -> Result<(), AllocError>
-    ensures ok { OnOk result (out.new.items ≡ out.old.items ++ line_break level) }
-    ensures err { OnErr result (out.new.items ≡ out.old.items) }
+    ensures { AppendsOrLeaves result out.old.items out.new.items (line_break level) }
 {
     let start = out.len();
     let printed = print_break(out, level);
@@ -100,8 +97,7 @@ pub fn whole_or_none(
 /// The fault of the output. A prefix of the text is then printed.
 #[inline(always)]
 pub fn print_text<O: Output>(out: &mut O, scalar: &Scalar<'_>) -> Result<(), O::Fault>
-    ensures ok { OnOk result (O.appends out.old out.new (text (scalar_tree scalar.now))) }
-    ensures err { OnErr result (O.begins out.old out.new (text (scalar_tree scalar.now))) }
+    ensures { Prints O.appends O.begins result out.old out.new (text (scalar_tree scalar.now)) }
 {
     match scalar {
         Scalar::Static(StaticNode::Null) => print_word(out, b"null"),
@@ -116,8 +112,7 @@ pub fn print_text<O: Output>(out: &mut O, scalar: &Scalar<'_>) -> Result<(), O::
 
 #[inline(always)]
 pub(crate) fn print_string<O: Output>(out: &mut O, text: &str) -> Result<(), O::Fault>
-    ensures ok { OnOk result (O.appends out.old out.new (quoted text.now)) }
-    ensures err { OnErr result (O.begins out.old out.new (quoted text.now)) }
+    ensures { Prints O.appends O.begins result out.old out.new (quoted text.now) }
 {
     if out.put_plain(text.as_bytes())? {
         return Ok(());
@@ -128,8 +123,7 @@ pub(crate) fn print_string<O: Output>(out: &mut O, text: &str) -> Result<(), O::
 // Prints the string between quotes, in as many pieces as its escapes ask for.
 #[inline(never)]
 fn print_pieces<O: Output>(out: &mut O, text: &str) -> Result<(), O::Fault>
-    ensures ok { OnOk result (O.appends out.old out.new (quoted text.now)) }
-    ensures err { OnErr result (O.begins out.old out.new (quoted text.now)) }
+    ensures { Prints O.appends O.begins result out.old out.new (quoted text.now) }
 {
     out.put(b"\"")?;
     print_runs(out, text.as_bytes())?;
@@ -138,8 +132,7 @@ fn print_pieces<O: Output>(out: &mut O, text: &str) -> Result<(), O::Fault>
 
 #[inline(always)]
 pub(crate) fn print_break<O: Output>(out: &mut O, level: usize) -> Result<(), O::Fault>
-    ensures ok { OnOk result (O.appends out.old out.new (line_break level)) }
-    ensures err { OnErr result (O.begins out.old out.new (line_break level)) }
+    ensures { Prints O.appends O.begins result out.old out.new (line_break level) }
 {
     out.put(b"\n")?;
     for _i in 0..level {
@@ -151,16 +144,14 @@ pub(crate) fn print_break<O: Output>(out: &mut O, level: usize) -> Result<(), O:
 // This and `print_int` are calls, so that `print_text` stays small enough to be inlined.
 #[inline(never)]
 fn print_word<O: Output>(out: &mut O, word: &[u8]) -> Result<(), O::Fault>
-    ensures ok { OnOk result (O.appends out.old out.new word.now) }
-    ensures err { OnErr result (O.begins out.old out.new word.now) }
+    ensures { Prints O.appends O.begins result out.old out.new word.now }
 {
     out.put(word)
 }
 
 #[inline(never)]
 fn print_int<O: Output, I: JsonInteger>(out: &mut O, n: I) -> Result<(), O::Fault>
-    ensures ok { OnOk result (O.appends out.old out.new (text (integer (I.number n)))) }
-    ensures err { OnErr result (O.begins out.old out.new (text (integer (I.number n)))) }
+    ensures { Prints O.appends O.begins result out.old out.new (text (integer (I.number n))) }
 {
     let mut buffer = Buffer::new();
     out.put(buffer.format(n).as_bytes())
@@ -168,8 +159,7 @@ fn print_int<O: Output, I: JsonInteger>(out: &mut O, n: I) -> Result<(), O::Faul
 
 // Bytes that need no escape are copied in runs.
 fn print_runs<O: Output>(out: &mut O, text: &[u8]) -> Result<(), O::Fault>
-    ensures ok { OnOk result (O.appends out.old out.new (flat_map escaped text.now)) }
-    ensures err { OnErr result (O.begins out.old out.new (flat_map escaped text.now)) }
+    ensures { Prints O.appends O.begins result out.old out.new (flat_map escaped text.now) }
 {
     let mut rest = text;
     loop {
@@ -186,8 +176,7 @@ fn print_runs<O: Output>(out: &mut O, text: &[u8]) -> Result<(), O::Fault>
 }
 
 fn print_escape<O: Output>(out: &mut O, byte: u8) -> Result<(), O::Fault>
-    ensures ok { OnOk result (O.appends out.old out.new (escaped byte)) }
-    ensures err { OnErr result (O.begins out.old out.new (escaped byte)) }
+    ensures { Prints O.appends O.begins result out.old out.new (escaped byte) }
 {
     match byte {
         b'"' => out.put(b"\\\""),

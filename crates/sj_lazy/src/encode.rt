@@ -1,5 +1,5 @@
 //! Encoders: the JSON text of a lazy value, appended to a vector.
-ghost use Rattle.std.specs.Prelude.{◌≡◌, ◌++◌, OnOk, OnErr};
+ghost use Rattle.sj_base.specs.Output.{AppendsOrLeaves};
 ghost use Rattle.sj_base.specs.Text.{text, pretty};
 
 use crate::value::Value;
@@ -16,8 +16,7 @@ impl Value<'_, '_, '_> {
     ///
     /// `AllocError` if there is no memory for the text. Nothing is then appended.
     pub fn encode(&self, out: &mut Vec<u8>) -> Result<(), AllocError>
-        ensures ok { OnOk result (out.new.items ≡ out.old.items ++ text (lazy_tree self.now)) }
-        ensures err { OnErr result (out.new.items ≡ out.old.items) }
+        ensures { AppendsOrLeaves result out.old.items out.new.items (text (lazy_tree self.now)) }
     {
         match self {
             Value::Tape(view) => view.encode(out),
@@ -34,8 +33,7 @@ impl Value<'_, '_, '_> {
     ///
     /// `AllocError` if there is no memory for the text. Nothing is then appended.
     pub fn encode_pp(&self, out: &mut Vec<u8>) -> Result<(), AllocError>
-        ensures ok { OnOk result (out.new.items ≡ out.old.items ++ pretty (lazy_tree self.now)) }
-        ensures err { OnErr result (out.new.items ≡ out.old.items) }
+        ensures { AppendsOrLeaves result out.old.items out.new.items (pretty (lazy_tree self.now)) }
     {
         match self {
             Value::Tape(view) => view.encode_pp(out),

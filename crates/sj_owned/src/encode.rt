@@ -1,5 +1,6 @@
 //! Encoders: the JSON text of a document, appended to a vector.
-ghost use Rattle.std.specs.Prelude.{◌≡◌, ℕ, List, ◌+◌, ◌++◌, ◌<◌, ◌^◌, OnOk, OnErr};
+ghost use Rattle.std.specs.Prelude.{◌≡◌, ℕ, List, ◌+◌, ◌++◌, ◌<◌, ◌^◌, OnOk};
+ghost use Rattle.sj_base.specs.Output.{Prints, AppendsOrLeaves};
 ghost use Rattle.sj_base.specs.Text.{text, pretty};
 ghost use Rattle.sj_base.specs.Tree.{list, object};
 ghost use Rattle.sj_base.specs.Layout.{level_of, laid_out};
@@ -39,8 +40,7 @@ pub(crate) fn print_value<K: ObjectKey, D: Literal, O: Refuses>(
     layout: Layout,
     out: &mut O,
 ) -> Result<(), AllocError>
-    ensures ok { OnOk result (O.appends out.old out.new (laid_out layout (value_tree K.text D.literal value.now))) }
-    ensures err { OnErr result (O.begins out.old out.new (laid_out layout (value_tree K.text D.literal value.now))) }
+    ensures { Prints O.appends O.begins result out.old out.new (laid_out layout (value_tree K.text D.literal value.now)) }
 {
     match value {
         Value::Static(scalar) => print_text(out, &Scalar::Static(*scalar)),
@@ -57,8 +57,7 @@ fn print_items<K: ObjectKey, D: Literal, O: Refuses>(
     layout: Layout,
     out: &mut O,
 ) -> Result<(), AllocError>
-    ensures ok { OnOk result (O.appends out.old out.new (laid_out layout (list (items_view K.text D.literal items.now)))) }
-    ensures err { OnErr result (O.begins out.old out.new (laid_out layout (list (items_view K.text D.literal items.now)))) }
+    ensures { Prints O.appends O.begins result out.old out.new (laid_out layout (list (items_view K.text D.literal items.now))) }
 {
     test_level(layout)?;
     let mut list = layout.open_list(out)?;
@@ -75,8 +74,7 @@ fn print_members<K: ObjectKey, D: Literal, O: Refuses>(
     layout: Layout,
     out: &mut O,
 ) -> Result<(), AllocError>
-    ensures ok { OnOk result (O.appends out.old out.new (laid_out layout (object (members_view K.text D.literal members.now)))) }
-    ensures err { OnErr result (O.begins out.old out.new (laid_out layout (object (members_view K.text D.literal members.now)))) }
+    ensures { Prints O.appends O.begins result out.old out.new (laid_out layout (object (members_view K.text D.literal members.now))) }
 {
     test_level(layout)?;
     let mut object = layout.open_object(out)?;
@@ -93,8 +91,7 @@ fn append<K: ObjectKey, D: Literal>(
     layout: Layout,
     out: &mut Vec<u8>,
 ) -> Result<(), AllocError>
-    ensures ok { OnOk result (out.new.items ≡ out.old.items ++ laid_out layout (value_tree K.text D.literal value.now)) }
-    ensures err { OnErr result (out.new.items ≡ out.old.items) }
+    ensures { AppendsOrLeaves result out.old.items out.new.items (laid_out layout (value_tree K.text D.literal value.now)) }
 {
     let start = out.len();
     let alloc = *out.allocator();
@@ -113,8 +110,7 @@ impl<K: ObjectKey, D: Literal> Value<K, D> {
     ///
     /// `AllocError` if there is no memory for the text. Nothing is then appended.
     pub fn encode(&self, out: &mut Vec<u8>) -> Result<(), AllocError>
-        ensures ok { OnOk result (out.new.items ≡ out.old.items ++ text (value_tree K.text D.literal self.now)) }
-        ensures err { OnErr result (out.new.items ≡ out.old.items) }
+        ensures { AppendsOrLeaves result out.old.items out.new.items (text (value_tree K.text D.literal self.now)) }
     {
         append(self, Layout::Compact, out)
     }
@@ -128,8 +124,7 @@ impl<K: ObjectKey, D: Literal> Value<K, D> {
     ///
     /// `AllocError` if there is no memory for the text. Nothing is then appended.
     pub fn encode_pp(&self, out: &mut Vec<u8>) -> Result<(), AllocError>
-        ensures ok { OnOk result (out.new.items ≡ out.old.items ++ pretty (value_tree K.text D.literal self.now)) }
-        ensures err { OnErr result (out.new.items ≡ out.old.items) }
+        ensures { AppendsOrLeaves result out.old.items out.new.items (pretty (value_tree K.text D.literal self.now)) }
     {
         append(self, Layout::Indented(0), out)
     }

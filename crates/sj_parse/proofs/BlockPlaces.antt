@@ -1,11 +1,14 @@
 -- The first byte of a text that passes a test, by the bits of its first block.
-use Rattle.std.specs.Prelude.{◌≡◌, ◌≢◌, ℕ, zero, suc, ◌/◌, ◌^◌, ◌<◌, ◌≤◌, ◌||◌, Bool, true, false, List, [], ◌∷◌, length, take, bit_or, slice_index, if◌then◌else◌}
+use Rattle.std.specs.Prelude.{◌≡◌, ◌≢◌, ℕ, zero, suc, ◌/◌, ◌^◌, ◌<◌, ◌≤◌, ◌||◌, nat_lt, Bool, true, false, List, [], ◌∷◌, length, take, bit_or, slice_index, if◌then◌else◌}
 use Rattle.std.specs.Int.{bit_at, trailing_zeros}
 use Rattle.std.specs.Simd.Lanes.{chunk}
 use Rattle.std.proofs.Common.{refl, sym, ap, ◌∙◌, arith, zero-add, zero-lt-suc, mod-lt, w64, inl, inr}
-use Rattle.std.proofs.lemmas.Bool.{cases_eq, or_cases, or_left, or_right, false_from_ne_true}
+use Rattle.std.specs.Char.{is_ascii_digit}
+use Rattle.std.proofs.lemmas.Bool.{cases_eq, or_cases, or_parts, or_left, or_right, false_from_ne_true, ltb-true, ltb-false}
 use Rattle.std.proofs.lemmas.Nat.Bits.{bit_at-trailing_zeros, bit_at_or}
 use Rattle.std.proofs.lemmas.Simd.{get_or-chunk}
+use Rattle.sj_base.specs.NumberTests.{front_digits}
+use Rattle.sj_base.proofs.Literals.{from_test, to_test}
 use Rattle.sj_scan.specs.Positions.{is_whitespace, is_operator}
 use Rattle.sj_parse.specs.Token.{word}
 use Rattle.sj_parse.specs.inside.Blocks.{Places}
@@ -83,3 +86,33 @@ word-first (b ∷ bs) zero first = sym (ap (λ (stop : Bool). if stop then [] el
 word-first (b ∷ bs) (suc n) first =
     let rest : IsFirst is_separator bs n = record { within = omega (arith, first.within); passes = first.passes; none = λ k h. first.none (suc k) (omega arith) } in
     ap (λ (ys : List ℕ). b ∷ ys) (word-first bs n rest) ∙ sym (ap (λ (stop : Bool). if stop then [] else b ∷ word bs) (first.none 0 (omega arith)))
+
+-- ---- digits
+
+-- A byte is no digit.
+abbrev pub is_no_digit : ℕ → Bool
+is_no_digit b = nat_lt b 0x30 || nat_lt 0x39 b
+
+digit : (b : ℕ) → is_no_digit b ≡ false → is_ascii_digit b ≡ true
+digit b e =
+    let p = or_parts (nat_lt b 0x30) (nat_lt 0x39 b) e in
+    let low : 48 ≤ b = ltb-false b 48 p.0 in
+    let high : b ≤ 57 = ltb-false 57 b p.1 in
+    to_test b (low, high)
+
+no_digit : (b : ℕ) → is_no_digit b ≡ true → is_ascii_digit b ≡ false
+no_digit b e = false_from_ne_true (is_ascii_digit b) (λ is.
+    let d = from_test b is in
+    let low : 48 ≤ b = d.0 in
+    let high : b ≤ 57 = d.1 in
+    elim (or_cases (nat_lt b 0x30) (nat_lt 0x39 b) e) [
+      | inl below ↦ let less : b < 48 = ltb-true b 48 below in absurd (omega arith)
+      | inr above ↦ let more : 57 < b = ltb-true 57 b above in absurd (omega arith)
+    ])
+
+pub digits-first : (bytes : List ℕ) (n : ℕ) → IsFirst is_no_digit bytes n → take n bytes ≡ front_digits bytes
+digits-first [] n first = let within = first.within in absurd (omega (arith, within))
+digits-first (b ∷ bs) zero first = sym (ap (λ (is : Bool). if is then b ∷ front_digits bs else []) (no_digit b first.passes))
+digits-first (b ∷ bs) (suc n) first =
+    let rest : IsFirst is_no_digit bs n = record { within = omega (arith, first.within); passes = first.passes; none = λ k h. first.none (suc k) (omega arith) } in
+    ap (λ (ys : List ℕ). b ∷ ys) (digits-first bs n rest) ∙ sym (ap (λ (is : Bool). if is then b ∷ front_digits bs else []) (digit b (first.none 0 (omega arith))))

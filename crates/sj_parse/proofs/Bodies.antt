@@ -1,5 +1,5 @@
 -- Bodies of strings and words, byte by byte.
-use Rattle.std.proofs.Common.{◌≡◌, ℕ, zero, suc, ◌+◌, ◌<◌, ◌≤◌, ne_eqb, Bool, true, false, not, ◌&&◌, List, [], ◌∷◌, ◌++◌, length, take, drop, refl, sym, ap, ◌∙◌, arith, append-nil, append_assoc, add-one, inr, Option, Some, Result, Ok, Err}
+use Rattle.std.proofs.Common.{◌≡◌, ℕ, zero, suc, ◌+◌, ◌<◌, ◌≤◌, ne_eqb, Bool, true, false, not, ◌&&◌, List, [], ◌∷◌, ◌++◌, length, take, drop, refl, sym, ap, ◌∙◌, arith, append-nil, append_assoc, add-one, take-add, drop-drop, inr, Option, Some, Result, Ok, Err}
 use Rattle.std.proofs.lemmas.Bool.{eqb-true}
 use Rattle.std.proofs.lemmas.List.{get_or-drop}
 use Rattle.sj_base.specs.declared.error.ErrorType.{ErrorType}
@@ -132,3 +132,30 @@ pub body-plain : (n : ℕ) (bytes : List ℕ) → n ≤ length bytes → ((k : �
 body-plain n bytes h plain =
     body-body_from (0x22 ∷ []) bytes ∙ body_from-plain n bytes h plain
     ∙ ap (λ (ys : List ℕ). take n bytes ++ ys) (sym (body-body_from (0x22 ∷ []) (drop n bytes)))
+
+-- as far as the body is known, it goes on past such bytes
+pub body-run : (bytes : List ℕ) (i n : ℕ) → n ≤ length (drop i bytes) → ((k : ℕ) → k < n → IsPlain (slice_index (drop i bytes) k)) → string_body bytes ≡ take i bytes ++ body_from false (drop i bytes) → string_body bytes ≡ take (i + n) bytes ++ body_from false (drop (i + n) bytes)
+body-run bytes i n h plain so_far =
+    so_far
+    ∙ ap (λ (ys : List ℕ). take i bytes ++ ys) (body_from-plain n (drop i bytes) h plain)
+    ∙ sym (append_assoc (take i bytes) (take n (drop i bytes)) (body_from false (drop n (drop i bytes))))
+    ∙ ap (λ (ys : List ℕ). ys ++ body_from false (drop n (drop i bytes))) (sym (take-add i n bytes))
+    ∙ ap (λ (ys : List ℕ). take (i + n) bytes ++ body_from false ys) (drop-drop n i bytes)
+
+never : (b : Bool) → (b && false) ≡ false
+never true = refl
+never false = refl
+
+-- and past a backslash, which escapes the byte behind it
+pub body-escaped : (bytes : List ℕ) (i : ℕ) → i < length bytes → slice_index bytes i ≡ 0x5c → string_body bytes ≡ take i bytes ++ body_from false (drop i bytes) → string_body bytes ≡ take (i + 1) bytes ++ body_from true (drop (i + 1) bytes)
+body-escaped bytes i h slash so_far =
+    body-more bytes i false h (ap (λ (b : ℕ). b == 0x22 && true) slash) so_far
+    ∙ ap (λ (b : ℕ). take (i + 1) bytes ++ body_from (b == 0x5c && true) (drop (i + 1) bytes)) slash
+
+pub body-skip : (bytes : List ℕ) (i : ℕ) → i + 1 < length bytes → slice_index bytes i ≡ 0x5c → string_body bytes ≡ take i bytes ++ body_from false (drop i bytes) → string_body bytes ≡ take (i + 2) bytes ++ body_from false (drop (i + 2) bytes)
+body-skip bytes i h slash so_far =
+    let x = slice_index bytes (i + 1) in
+    let two : i + 1 + 1 ≡ i + 2 = omega arith in
+    body-more bytes (i + 1) true h (never (x == 0x22)) (body-escaped bytes i (omega (arith, h)) slash so_far)
+    ∙ ap (λ (e : Bool). take (i + 1 + 1) bytes ++ body_from e (drop (i + 1 + 1) bytes)) (never (x == 0x5c))
+    ∙ ap (λ (k : ℕ). take k bytes ++ body_from false (drop k bytes)) two

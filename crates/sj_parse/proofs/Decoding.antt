@@ -1,9 +1,11 @@
 -- Decoding in place: what is read and written so far.
 use Rattle.std.specs.Prelude.{◌-◌, true, nat_lt, unwrap_or, ◌≡◌, ◌≢◌, ℕ, zero, suc, ◌<◌, ◌≤◌, ◌+◌, List, [], ◌∷◌, ◌++◌, length, take, drop, None, Ok, encode_utf8}
 use Rattle.std.specs.Char.{len_utf8}
-use Rattle.std.specs.List.{AllByRecursion}
-use Rattle.std.proofs.Common.{take_at, refl, sym, ap, ◌∙◌, subst, arith, append_assoc, append-nil, set, get_or, length-append, length-drop, take-append-drop, drop-drop}
-use Rattle.std.proofs.lemmas.List.{drop_more, drop_all, take_more_set, drop-set-lt, length-set, length-take-le}
+use Rattle.std.specs.List.{AllByRecursion, copy_within}
+use lib.Seq.{paste}
+use Rattle.std.proofs.Common.{take_at, refl, sym, ap, ◌∙◌, subst, arith, append_assoc, append-nil, get_or, length-append, length-drop, take-append-drop, drop-drop}
+use Rattle.std.proofs.lemmas.List.{drop_more, drop_all, length-take-le}
+use Rattle.std.proofs.lemmas.List.Edits.{drop-paste, take-paste, length-paste}
 use Rattle.std.proofs.lemmas.Bool.{agree_below_at, ltb-true}
 use Rattle.std.proofs.lemmas.Str.{length-encode, len_utf8_bounds, len_utf8_ascii}
 use Rattle.std.proofs.Math.Seq.{take-append-add, drop-append-add}
@@ -48,27 +50,39 @@ next_byte old now read h e =
     let first = drop_more now read 0 h in
     (sym e ∙ first, sym (drop-drop 1 read now) ∙ ap (λ (bs : List ℕ). drop 1 bs) e ∙ drop-drop 1 read old)
 
-pub decoding_raw : (place read written : ℕ) (old now : List ℕ) → Decoding place read written old now → read < length now → get_or now read 0 ≢ 0x5c → Decoding place (read + 1) (written + 1) old (set now written (get_or now read 0))
-decoding_raw place read written old now d h other =
-    let n = next_byte old now read h d.rest in
+-- A run without a backslash is copied.
+pub decoding_run : (place read written n : ℕ) (old now : List ℕ) → Decoding place read written old now → read + n ≤ length now → ((k : ℕ) → k < n → get_or (drop read now) k 0 ≢ 0x5c) → Decoding place (read + n) (written + n) old (copy_within now read (read + n) written)
+decoding_run place read written n old now d h none =
     let ordered = d.ordered in
     let same = d.same_length in
-    let left : drop read old ≡ get_or now read 0 ∷ drop (read + 1) old = n.0 ∙ ap (λ (bs : List ℕ). get_or now read 0 ∷ bs) n.1 in
-    let one = decoded-raw (get_or now read 0 ∷ []) (drop (read + 1) old) (other, tt) in
-    let past = bad_escape-raw (get_or now read 0 ∷ []) (drop (read + 1) old) (read + place) (other, tt) in
-    let next : 1 + (read + place) ≡ read + 1 + place = omega arith in
-    let behind : written < read + 1 = omega arith in
-    let there : written < length now = omega arith in
-    record {
+    let size : read + n - read ≡ n = omega arith in
+    let left = length-drop read now in
+    let front = front_raw n (drop read now) none in
+    let run = take n (drop read now) in
+    let behind : drop n (drop read now) ≡ drop (read + n) old = ap (λ (bs : List ℕ). drop n bs) d.rest ∙ drop-drop n read old in
+    let parts : drop read old ≡ run ++ drop (read + n) old =
+    sym d.rest ∙ sym (take-append-drop n (drop read now)) ∙ ap (λ (bs : List ℕ). run ++ bs) behind in
+    let long : length run ≡ n = length-take-le n (drop read now) (omega arith) in
+    let there : written ≤ length now = omega arith in
+    let new = paste now written (drop read now) n in
+    let is_new : copy_within now read (read + n) written ≡ new = ap (λ m. paste now written (drop read now) m) size in
+    let more : written + n + (read - written) ≡ read + n = omega arith in
+    let room : n ≤ length (drop read now) = omega arith in
+    let next : n + (read + place) ≡ read + n + place = omega arith in
+    let kept : Decoding place (read + n) (written + n) old new = record {
       ordered = omega arith;
       within = omega arith;
-      same_length = length-set now written (get_or now read 0) ∙ d.same_length;
-      rest = drop-set-lt (read + 1) now written (get_or now read 0) behind ∙ n.1;
-      text = d.text ∙ ap (λ (bs : List ℕ). take written now ++ decoded bs) left ∙ ap (λ (bs : List ℕ). take written now ++ bs) one
-          ∙ sym (append_assoc (take written now) (get_or now read 0 ∷ []) (decoded (drop (read + 1) old)))
-          ∙ ap (λ (bs : List ℕ). bs ++ decoded (drop (read + 1) old)) (sym (take_more_set now written (get_or now read 0) there));
-      stops = d.stops ∙ ap (λ (bs : List ℕ). bad_escape (read + place) bs) left ∙ past ∙ ap (λ p. bad_escape p (drop (read + 1) old)) next;
-    }
+      same_length = length-paste now written (drop read now) n (omega arith) room ∙ d.same_length;
+      rest = ap (λ m. drop m new) (sym more) ∙ sym (drop-drop (read - written) (written + n) new)
+          ∙ ap (λ (bs : List ℕ). drop (read - written) bs) (drop-paste now written (drop read now) n there room)
+          ∙ drop-drop (read - written) (written + n) now ∙ ap (λ m. drop m now) more ∙ sym (drop-drop n read now) ∙ behind;
+      text = d.text ∙ ap (λ (bs : List ℕ). take written now ++ decoded bs) parts ∙ ap (λ (bs : List ℕ). take written now ++ bs) (decoded-raw run (drop (read + n) old) front)
+          ∙ sym (append_assoc (take written now) run (decoded (drop (read + n) old)))
+          ∙ ap (λ (bs : List ℕ). bs ++ decoded (drop (read + n) old)) (sym (take-paste now written (drop read now) n there room));
+      stops = d.stops ∙ ap (λ (bs : List ℕ). bad_escape (read + place) bs) parts ∙ bad_escape-raw run (drop (read + n) old) (read + place) front
+          ∙ ap (λ m. bad_escape (m + (read + place)) (drop (read + n) old)) long ∙ ap (λ p. bad_escape p (drop (read + n) old)) next;
+    } in
+    subst (λ (bs : List ℕ). Decoding place (read + n) (written + n) old bs) (sym is_new) kept
 
 -- An escape is not shorter than its character, and it is there.
 pub record Fits (n : ℕ) (bs : List ℕ) : Type 0 where

@@ -4,7 +4,9 @@ pub mod Machine
 pub mod OpenContainers
 pub mod Bodies
 pub mod BlockPlaces
+pub mod LanePlaces
 pub mod NumberLemmas
+pub mod PlainNumbers
 pub mod EscapeForms
 pub mod FormSteps
 pub mod StringLemmas

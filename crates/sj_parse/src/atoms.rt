@@ -43,7 +43,7 @@ fn is_atom(literal: &[u8], bytes: &[u8]) -> bool
 
 // Whether nothing, whitespace or an operator comes first.
 #[inline(always)]
-fn ends_word(bytes: &[u8]) -> bool
+pub(crate) fn ends_word(bytes: &[u8]) -> bool
     ensures { result ≡ ends_word bytes.now }
 {
     match bytes.first() {

@@ -1,9 +1,13 @@
 //! Numbers: an integer by its value, any other by its text.
-ghost use Rattle.std.specs.Prelude.{◌≡◌, ◌<◌, ◌≤◌, ◌^◌, true, false, pos, neg_ℤ, MatchOption, SomeIff};
+ghost use Rattle.std.specs.Prelude.{◌≡◌, ◌<◌, ◌≤◌, ◌^◌, true, false, pos, neg_ℤ, length, take, MatchOption, IfSome, SomeIff};
+ghost use Rattle.std.specs.Str.{all_ascii_digits};
+ghost use Rattle.sj_parse.specs.Token.{word};
 ghost use Rattle.std.specs.Str.Parse.{digits_value};
 ghost use Rattle.sj_base.specs.NumberTests.{is_negative, magnitude, is_whole, is_decimal, is_number};
 ghost use Rattle.sj_parse.specs.inside.NumberNode.{IsNumberNode};
 
+use crate::atoms::ends_word;
+use crate::search::digits_len;
 use sj_base::{Decimal, StaticNode};
 use sj_tape::Node;
 
@@ -22,7 +26,46 @@ pub(crate) fn number<'a>(text: &'a [u8]) -> Option<Node<'a>>
     }
 }
 
+/// The length of the number that the bytes begin with, and whether it has a fraction, if it stands as a whole word and has no
+/// exponent. Of an integer not even the digits are looked at again, so its word may be no number.
+#[inline(always)]
+pub(crate) fn plain_number(bytes: &[u8]) -> Option<(usize, bool)>
+    ensures within { IfSome result (λ p. p.0 ≤ length bytes.now) }
+    ensures word { IfSome result (λ p. take p.0 bytes.now ≡ word bytes.now) }
+    ensures decimal { IfSome result (λ p. p.1 ≡ true → is_decimal (word bytes.now) ≡ true) }
+{
+    let (_, magnitude) = split_minus(bytes);
+    let whole = digits_len(magnitude);
+    let (digits, behind) = magnitude.split_at(whole);
+    let len = bytes.len() - magnitude.len() + whole;
+    let Some((b'.', fraction)) = behind.split_first() else {
+        return if ends_word(behind) {
+            Some((len, false))
+        } else {
+            None
+        };
+    };
+    let places = digits_len(fraction);
+    if places > 0 && is_whole(digits) && ends_word(&fraction[places..]) {
+        Some((len + 1 + places, true))
+    } else {
+        None
+    }
+}
+
+// Whether the digits are `0`, or begin with another one.
+fn is_whole(digits: &[u8]) -> bool
+    requires { all_ascii_digits digits.now ≡ true }
+    ensures { result ≡ is_whole digits.now }
+{
+    match digits {
+        [] => false,
+        [first, others @ ..] => *first != b'0' || others.is_empty(),
+    }
+}
+
 // Whether a minus stands in front, and what stands behind it.
+#[inline(always)]
 fn split_minus(text: &[u8]) -> (bool, &[u8])
     ensures negative { result.0 ≡ is_negative text.now }
     ensures magnitude { result.1.now ≡ magnitude text.now }

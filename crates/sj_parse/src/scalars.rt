@@ -1,10 +1,12 @@
 //! Strings, numbers and literals, read where they stand in the input.
 ghost use Rattle.std.specs.Prelude.{◌≡◌, ◌≢◌, ℕ, ◌+◌, ◌<◌, ◌≤◌, ◌^◌, ◌∷◌, [], None, Some, true, false, MatchResult, IfErr, IfOk, length, take, drop, slice_index, IsUtf8};
+ghost use Rattle.sj_base.specs.NumberTests.{is_decimal};
 ghost use Rattle.sj_parse.specs.Token.{word};
 ghost use Rattle.sj_parse.specs.Escapes.{bad_escape};
 ghost use Rattle.sj_parse.specs.inside.Trees.{decoded};
 ghost use Rattle.sj_parse.specs.inside.Step.{string_body, StopsAt};
 
+use crate::numbers::plain_number;
 use crate::search::{plain_len, word_len};
 use crate::stop::Stop;
 use crate::strings::decode;
@@ -16,14 +18,19 @@ fn body_len(bytes: &[u8]) -> usize
     ensures within { result ≤ length bytes.now }
     ensures body { take result bytes.now ≡ string_body bytes.now }
 {
-    let mut escaped = false;
-    for (place, byte) in bytes.iter().enumerate() {
-        if *byte == b'"' && !escaped {
-            return place;
+    let mut len = 0;
+    while len < bytes.len() {
+        len += plain_len(&bytes[len..]);
+        if len == bytes.len() || bytes[len] == b'"' {
+            return len;
         }
-        escaped = *byte == b'\\' && !escaped;
+        // A backslash goes with the byte behind it.
+        if bytes.len() - len < 2 {
+            return bytes.len();
+        }
+        len += 2;
     }
-    bytes.len()
+    len
 }
 
 /// The length of the body that begins the bytes, and a number of its first bytes that are no backslashes: all of them if
@@ -65,15 +72,29 @@ pub(crate) fn take_string<'i>(
     Ok((text, behind))
 }
 
-/// The word that begins at `skip`, and the input behind it.
+/// The length of the word that begins the bytes, and whether it is known to be a decimal literal.
 #[inline(always)]
-pub(crate) fn take_word<'i>(skip: usize, rest: &'i mut [u8]) -> (&'i [u8], &'i mut [u8])
+fn find_word(bytes: &[u8]) -> (usize, bool)
+    ensures within { result.0 ≤ length bytes.now }
+    ensures word { take result.0 bytes.now ≡ word bytes.now }
+    ensures decimal { result.1 ≡ true → is_decimal (word bytes.now) ≡ true }
+{
+    match plain_number(bytes) {
+        Some(found) => found,
+        None => (word_len(bytes), false),
+    }
+}
+
+/// The word that begins at `skip`, whether it is known to be a decimal literal, and the input behind it.
+#[inline(always)]
+pub(crate) fn take_word<'i>(skip: usize, rest: &'i mut [u8]) -> (&'i [u8], bool, &'i mut [u8])
     requires { skip ≤ length rest.old }
     ensures word { result.0.now ≡ word (drop skip rest.entry.now) }
-    ensures rest { result.1.now ≡ drop (skip + length (word (drop skip rest.entry.now))) rest.entry.now }
+    ensures decimal { result.1 ≡ true → is_decimal (word (drop skip rest.entry.now)) ≡ true }
+    ensures rest { result.2.now ≡ drop (skip + length (word (drop skip rest.entry.now))) rest.entry.now }
 {
-    let len = word_len(&rest[skip..]);
+    let (len, known_decimal) = find_word(&rest[skip..]);
     let (_, from_word) = rest.split_at_mut(skip);
     let (word, behind) = from_word.split_at_mut(len);
-    (word, behind)
+    (word, known_decimal, behind)
 }

@@ -1,5 +1,6 @@
 //! The search for the ends of strings and words, by blocks of 32 bytes.
-ghost use Rattle.std.specs.Prelude.{◌≡◌, ◌==◌, ℕ, ◌<◌, ◌≤◌, length, take, slice_index};
+ghost use Rattle.std.specs.Prelude.{◌≡◌, ◌==◌, ◌||◌, true, nat_lt, ℕ, ◌<◌, ◌≤◌, length, take, slice_index};
+ghost use Rattle.sj_base.specs.NumberTests.{front_digits};
 ghost use Rattle.sj_scan.specs.Positions.{is_whitespace, is_operator};
 ghost use Rattle.sj_parse.specs.Token.{word};
 ghost use Rattle.sj_parse.specs.inside.Step.{IsPlain};
@@ -16,6 +17,7 @@ const BLOCK: usize = 32;
 pub(crate) fn plain_len(bytes: &[u8]) -> usize
     ensures within { result ≤ length bytes.now }
     ensures plain { (k : ℕ) → k < result → IsPlain (slice_index bytes.now k) }
+    ensures ends { result < length bytes.now → (slice_index bytes.now result == 0x22 || slice_index bytes.now result == 0x5c) ≡ true }
 {
     // Most strings end in their first block.
     if bytes.len() >= BLOCK {
@@ -45,7 +47,37 @@ pub(crate) fn word_len(bytes: &[u8]) -> usize
     scan_word(bytes)
 }
 
+/// The number of digits that the bytes begin with.
+#[inline(always)]
+pub(crate) fn digits_len(bytes: &[u8]) -> usize
+    ensures within { result ≤ length bytes.now }
+    ensures digits { take result bytes.now ≡ front_digits bytes.now }
+{
+    // Most numbers end in their first block.
+    if bytes.len() >= BLOCK {
+        let block = u8x32::from_slice(bytes);
+        let others = below(block, b'0') | above(block, b'9');
+        if others != 0 {
+            return others.trailing_zeros() as usize;
+        }
+    }
+    count_digits(bytes)
+}
+
 /// The same, byte by byte.
+fn count_digits(bytes: &[u8]) -> usize
+    ensures within { result ≤ length bytes.now }
+    ensures digits { take result bytes.now ≡ front_digits bytes.now }
+{
+    for (place, byte) in bytes.iter().enumerate() {
+        if !byte.is_ascii_digit() {
+            return place;
+        }
+    }
+    bytes.len()
+}
+
+/// As [`word_len`], byte by byte.
 fn scan_word(bytes: &[u8]) -> usize
     ensures within { result ≤ length bytes.now }
     ensures word { take result bytes.now ≡ word bytes.now }
@@ -83,4 +115,20 @@ fn equal_to(block: u8x32, byte: u8) -> u64
     ensures { Places (λ b. b == byte) block result }
 {
     block.simd_eq(u8x32::splat(byte)).to_bitmask()
+}
+
+/// The places of the bytes below this one, as bits.
+#[inline(always)]
+fn below(block: u8x32, byte: u8) -> u64
+    ensures { Places (λ b. nat_lt b byte) block result }
+{
+    block.simd_lt(u8x32::splat(byte)).to_bitmask()
+}
+
+/// The places of the bytes above this one, as bits.
+#[inline(always)]
+fn above(block: u8x32, byte: u8) -> u64
+    ensures { Places (λ b. nat_lt byte b) block result }
+{
+    block.simd_gt(u8x32::splat(byte)).to_bitmask()
 }

@@ -2,7 +2,7 @@
 ghost use Rattle.std.specs.Prelude.{◌≡◌, ◌≢◌, ℕ, List, [], ◌∷◌, ◌++◌, ◌+◌, ◌<◌, ◌≤◌, ◌^◌, ◌⊎◌, IfOk, IfErr, OnOk, MatchResult, Some, None, Ok, Err, true, false, if◌then◌else◌, min, length, drop, slice_index, IsUtf8, vec_len, vec_capacity};
 ghost use Rattle.sj_tape.specs.Nodes.{entries};
 ghost use Rattle.sj_parse.specs.Escapes.{stop};
-ghost use Rattle.sj_base.specs.NumberTests.{is_number};
+ghost use Rattle.sj_base.specs.NumberTests.{is_decimal, is_number};
 ghost use Rattle.sj_parse.specs.inside.NumberNode.{IsNumberNode};
 ghost use Rattle.sj_parse.specs.Token.{Token};
 ghost use Rattle.sj_parse.specs.Descent.{scalar_stop};
@@ -24,7 +24,7 @@ use crate::containers::{Frame, add_scalar, close, open};
 use crate::numbers::number;
 use crate::scalars::{take_string, take_word};
 use crate::stop::Stop;
-use sj_base::{Error, ErrorType, StaticNode};
+use sj_base::{Decimal, Error, ErrorType, StaticNode};
 use sj_tape::Node;
 
 /// What may come next.
@@ -179,10 +179,14 @@ fn node_if(
 
 /// The node of the number that the word is.
 #[inline(always)]
-fn number_node<'i>(place: usize, word: &'i [u8]) -> Result<Node<'i>, Stop>
+fn number_node<'i>(place: usize, word: &'i [u8], known_decimal: bool) -> Result<Node<'i>, Stop>
+    requires { known_decimal ≡ true → is_decimal word.now ≡ true }
     ensures { MatchResult result (IsNumberNode word.now)
         (λ s. (is_number word.now ≡ false) × (s ≡ stop ErrorType.InvalidNumber place)) }
 {
+    if known_decimal {
+        return Ok(Node::Decimal(Decimal::from_bytes_unchecked(word)));
+    }
     number(word).ok_or(Stop {
         kind: ErrorType::InvalidNumber,
         place,
@@ -226,8 +230,8 @@ fn read_value<'i>(
             Ok((add_scalar(Node::Static(node), nodes, stack), rest))
         }
         Opening::Number => {
-            let (word, behind) = take_word(skip, rest);
-            let node = number_node(place, word)?;
+            let (word, known_decimal, behind) = take_word(skip, rest);
+            let node = number_node(place, word, known_decimal)?;
             Ok((add_scalar(node, nodes, stack), behind))
         }
         Opening::Nothing => Err(Stop {

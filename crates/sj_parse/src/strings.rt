@@ -6,6 +6,7 @@ ghost use Rattle.sj_parse.specs.inside.Decoded.{decoded};
 use crate::characters::write_character;
 use crate::escapes::read_escape;
 use crate::stop::Stop;
+use memchr::memchr;
 
 /// Decodes the body of a string in place and returns its text, which borrows from these bytes. The body begins at
 /// `place`, in bytes from the start of the input, and its first `plain` bytes are no backslashes.
@@ -29,6 +30,15 @@ pub(crate) fn decode<'a>(place: usize, plain: usize, body: &'a mut [u8]) -> Resu
     let len = decode_from(plain, place, body)?;
     let text: &'a [u8] = body;
     Ok(unsafe { std::str::from_utf8_unchecked(&text[..len]) })
+}
+
+// The number of bytes before the first backslash, or of all bytes if there is none.
+fn run_len(bytes: &[u8]) -> usize
+    ensures within { result ≤ length bytes.now }
+    ensures none { (k : ℕ) → k < result → slice_index bytes.now k ≢ 0x5c }
+    ensures ends { result < length bytes.now → slice_index bytes.now result ≡ 0x5c }
+{
+    memchr(b'\\', bytes).unwrap_or(bytes.len())
 }
 
 // Decodes a body whose first backslash is not before `first`, and returns the length of its text.
@@ -57,9 +67,10 @@ fn decode_from(first: usize, place: usize, body: &mut [u8]) -> Result<usize, Sto
             written += write_character(escaped.character, &mut body[written..]);
             read += 1 + escaped.len;
         } else {
-            body[written] = body[read];
-            written += 1;
-            read += 1;
+            let plain = run_len(&body[read..]);
+            body.copy_within(read..read + plain, written);
+            written += plain;
+            read += plain;
         }
     }
     Ok(written)

@@ -6,12 +6,12 @@ use Rattle.sj_base.specs.Tree.{Tree, depth}
 use Rattle.sj_base.specs.Path.{Part}
 use Rattle.sj_base.proofs.Depths.{depth_when_kept, depth_of_part, depth_when_put, depth_with_member, depth_when_dropped, depth_when_pushed, depth_when_popped}
 use Rattle.sj_scripts.specs.Command.{Step, get, contains, type_of, len, keys, insert, remove, push, pop, set_at, reload, reload_pp}
-use Rattle.sj_scripts.specs.Step.{Job, Keeping, from_start, from_write, State, Word, Change, start, begun, base, fits, fits_below, insertion, removal, pushing, popping, setting, write_at, settled, written, step, after}
+use Rattle.sj_scripts.specs.Step.{Job, Keeping, from_start, from_write, State, Word, Rewrite, start, begun, base, fits, fits_below, insertion, removal, pushing, popping, setting, write_at, settled, written, step, after}
 use Rattle.sj_scripts.proofs.Changes.{inserted, removed, pushed, popped, within, write_done}
 use Rattle.sj_records.specs.Laws.{HoldsInState, DepthStays}
 
 -- A new part stays within the limit where the old one did.
-abbrev StaysWithin : ℕ → List Part → Change → Type 0
+abbrev StaysWithin : ℕ → List Part → Rewrite → Type 0
 StaysWithin limit path change = (part : Tree) (n : Tree × Tree) → change part ≡ Ok n → length path + depth part ≤ limit → length path + depth n.1 ≤ limit
 
 insertion_within : (limit : ℕ) (path : List Part) (k : List ℕ) (v : Tree) → StaysWithin limit path (insertion (fits_below path v limit) k v)
@@ -66,7 +66,7 @@ start_within limit t from_write h = h
 abbrev pub Within : ℕ → State → Type 0
 Within limit s = HoldsInState (λ u. depth u ≤ limit) s
 
-settled_within : (limit : ℕ) (t : Tree) (bases : List Tree) (path : List Part) (change : Change) (r : Result (Tree × Tree) Word) → write_at t path change ≡ r → StaysWithin limit path change
+settled_within : (limit : ℕ) (t : Tree) (bases : List Tree) (path : List Part) (change : Rewrite) (r : Result (Tree × Tree) Word) → write_at t path change ≡ r → StaysWithin limit path change
     → depth t ≤ limit → AllByRecursion (λ u. depth u ≤ limit) bases → Within limit (settled t bases r).1
 settled_within limit t bases path change (Err word) e fine h hs = (h, hs)
 settled_within limit t bases path change (Ok w) e fine h hs =
@@ -77,7 +77,7 @@ settled_within limit t bases path change (Ok w) e fine h hs =
     let is = ap (λ (w : Tree × Tree). depth w.1) d.4 in
     (omega arith, (h, hs))
 
-written_within : (job : Job) (s : State) (path : List Part) (change : Change) → StaysWithin job.limit path change → Within job.limit s → Within job.limit (written job s path change).1
+written_within : (job : Job) (s : State) (path : List Part) (change : Rewrite) → StaysWithin job.limit path change → Within job.limit s → Within job.limit (written job s path change).1
 written_within job s path change fine h =
     settled_within job.limit (base s.tree job.keeping) s.bases path change (write_at (base s.tree job.keeping) path change) refl fine (base_within job.limit s.tree job.keeping h.0) h.1
 

@@ -10,7 +10,7 @@ use Rattle.sj_base.specs.Edit as edits
 use Rattle.sj_base.specs.Keep.{keep_members, IsKept}
 use Rattle.sj_base.proofs.Keys.{same_key, own_key}
 use Rattle.sj_base.proofs.Kept.{kept_member, kept_part, object_parts}
-use Rattle.sj_scripts.specs.Step.{Change as Write, reply_of, insertion, removal, pushing, popping, setting}
+use Rattle.sj_scripts.specs.Step.{Rewrite, reply_of, insertion, removal, pushing, popping, setting}
 use Rattle.sj_scripts.specs.Inverse.{Change, drop_item, place_of, place_in, put_at, changed, back, insertion_back, removal_back, popping_back}
 use Rattle.sj_records.specs.Laws.{Undoes, InsertUndone, RemoveUndone, PushUndone, PopUndone, SetUndone}
 use Rattle.sj_scripts.proofs.Changes.{inserted, removed, pushed, popped, within, write_done}
@@ -217,10 +217,10 @@ pop_back ts (Some t) e = ap (λ us. Some (list us)) (popped_pushed ts t e)
 
 -- ---- the whole write
 
-abbrev Restores : Write → (Tree → Option Tree → Change) → Type 0
+abbrev Restores : Rewrite → (Tree → Option Tree → Change) → Type 0
 Restores write inverse = (part : Tree) (n : Tree × Tree) → IsKept part → write part ≡ Ok n → (found : Option Tree) × (n.0 ≡ reply_of found) × (changed (inverse part found) n.1 ≡ Some part)
 
-undone : (path : List Part) (write : Write) (inverse : Tree → Option Tree → Change) → Restores write inverse → Undoes path write inverse
+undone : (path : List Part) (write : Rewrite) (inverse : Tree → Option Tree → Change) → Restores write inverse → Undoes path write inverse
 undone path write inverse local t reply u kept e =
     let d = write_done t path write (reply, u) e in
     let l = local d.0 d.2 (kept_part t path d.0 kept d.1) d.3 in

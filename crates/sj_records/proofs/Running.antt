@@ -8,7 +8,7 @@ use Rattle.sj_records.specs.declared.run_error.RunError.TheVariants.{Memory, Wri
 use Rattle.sj_scripts.specs.Step.{Job}
 use Rattle.sj_records.specs.Lines.{ended, unended, if_any}
 use Rattle.sj_records.specs.Record.{AreRecords}
-use Rattle.sj_records.specs.Run.{Transfers, Leaves}
+use Rattle.sj_records.specs.Run.{Transfers, LeavesOutput}
 use Rattle.sj_records.specs.inside.Progress.{HasNoLineFeed, Wrote, WroteSome, WrotePrefix, LeavesLines}
 use Rattle.sj_records.proofs.Cut.{ended-append, unended-append, unended-HasNoLineFeed}
 use Rattle.sj_records.proofs.Written.{Wrote-nothing, Wrote-then, WroteSome-then, WroteSome-none, WrotePrefix-then, AreRecords-append}
@@ -52,7 +52,7 @@ module _ (job : Job) where
   -- ---- what stands written at the end
 
   abbrev pub Stands : Option (List ℕ) → Option (List ℕ) → Option (List ℕ) → Option (List ℕ) → Result Unit RunError → Type 0
-  Stands r0 r1 w0 w1 result = Transfers r0 r1 w0 w1 (Leaves result job)
+  Stands r0 r1 w0 w1 result = Transfers r0 r1 w0 w1 (LeavesOutput result job)
 
   -- a read failed
   pub Running-failed : (r0 r1 r2 w0 w1 : Option (List ℕ)) (line : List ℕ) → Running job r0 r1 w0 w1 line → Keeps r1 r2 → Stands r0 r2 w0 w1 (Err Read)

@@ -18,7 +18,7 @@ use Rattle.sj_base.specs.Laws.{OneLine}
 use Rattle.sj_base.proofs.Trees.{only_trees}
 use Rattle.sj_base.proofs.Valid.{valid_when_kept, valid_part, valid_last, valid_put, valid_with_member, valid_dropped, valid_pushed, valid_popped}
 use Rattle.sj_scripts.specs.Command.{Step, get, contains, type_of, len, keys, insert, remove, push, pop, set_at, reload, reload_pp, ◌>>=◌}
-use Rattle.sj_scripts.specs.Step.{Job, Keeping, from_start, from_write, State, Word, Change, start, begun, base, answer, part_at, reply_of, type_name, count, key_items, fits, fits_below, insertion, removal, pushing, popping, setting, write_at, settled, written, step, replies, after}
+use Rattle.sj_scripts.specs.Step.{Job, Keeping, from_start, from_write, State, Word, Rewrite, start, begun, base, answer, part_at, reply_of, type_name, count, key_items, fits, fits_below, insertion, removal, pushing, popping, setting, write_at, settled, written, step, replies, after}
 use Rattle.sj_records.specs.Record.{record_of, character_of, fault_record}
 use Rattle.sj_records.specs.Laws.{NoLineFeed}
 use Rattle.sj_scripts.proofs.Changes.{inserted, removed, pushed, popped, within, write_done}
@@ -95,7 +95,7 @@ module _ (text_visible : OneLine) where
 
   -- ---- what a write makes of a valid tree
 
-  abbrev StaysValid : Change → Type 0
+  abbrev StaysValid : Rewrite → Type 0
   StaysValid change = (part : Tree) (n : Tree × Tree) → change part ≡ Ok n → IsValidTree part → Shown n.0 × IsValidTree n.1
 
   both : (m n : Tree × Tree) → m ≡ n → Shown m.0 × IsValidTree m.1 → Shown n.0 × IsValidTree n.1
@@ -144,14 +144,14 @@ module _ (text_visible : OneLine) where
   abbrev Fine : Tree × State → Type 0
   Fine p = Shown p.0 × IsValidTree p.1.tree
 
-  settled_fine : (t : Tree) (bases : List Tree) (path : List Part) (change : Change) (r : Result (Tree × Tree) Word) → write_at t path change ≡ r → StaysValid change → IsValidTree t → Fine (settled t bases r)
+  settled_fine : (t : Tree) (bases : List Tree) (path : List Part) (change : Rewrite) (r : Result (Tree × Tree) Word) → write_at t path change ≡ r → StaysValid change → IsValidTree t → Fine (settled t bases r)
   settled_fine t bases path change (Err word) e fine h = (quoted_visible word, h)
   settled_fine t bases path change (Ok w) e fine h =
       let d = write_done t path change w e in
       let new = fine d.0 d.2 d.3 (valid_part t path d.0 h d.1) in
       both _ w d.4 (new.0, valid_put t path d.2.1 h new.1)
 
-  written_fine : (job : Job) (s : State) (path : List Part) (change : Change) → StaysValid change → IsValidTree s.tree → Fine (written job s path change)
+  written_fine : (job : Job) (s : State) (path : List Part) (change : Rewrite) → StaysValid change → IsValidTree s.tree → Fine (written job s path change)
   written_fine job s path change fine h = settled_fine (base s.tree job.keeping) s.bases path change _ refl fine (base_valid s.tree job.keeping h)
 
   step_fine : (job : Job) (s : State) (c : Step) → Sound c → IsValidTree s.tree → Fine (step job s c)

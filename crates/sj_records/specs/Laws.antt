@@ -9,7 +9,7 @@ use Rattle.sj_base.specs.Text.{text}
 use Rattle.sj_base.specs.declared.error.Error.{Error}
 use Rattle.sj_parse.specs.Fault.{fault}
 use Rattle.sj_scripts.specs.Command.{Step, get, contains, type_of, len, keys, insert, remove, push, pop, set_at, reload, reload_pp}
-use Rattle.sj_scripts.specs.Step.{Job, Keeping, from_start, from_write, State, begun, reload_reply, replies, after, Change as Write, reply_of, insertion, removal, pushing, popping, setting, write_at}
+use Rattle.sj_scripts.specs.Step.{Job, Keeping, from_start, from_write, State, begun, reload_reply, replies, after, Rewrite, reply_of, insertion, removal, pushing, popping, setting, write_at}
 use Rattle.sj_scripts.specs.Inverse.{Change, drop_item, place_in, back, insertion_back, removal_back, popping_back, setting_back}
 use Rattle.sj_base.specs.Path.{Part, at}
 use Rattle.sj_records.specs.Record.{IsRecord, record_of, fault_record}
@@ -113,7 +113,7 @@ ChangesNothing c print =
     IsRecord (with_script job (before ++ behind)) line (text (fault_record e)) × IsRecord (with_script job (before ++ c ∷ behind)) line (text (fault_record e)))
 
 -- A write on a kept base that isn't refused replies what `found` says, and this change takes it back.
-abbrev pub Undoes : List Part → Write → (Tree → Option Tree → Change) → Type 0
+abbrev pub Undoes : List Part → Rewrite → (Tree → Option Tree → Change) → Type 0
 Undoes path write inverse =
     (t reply u : Tree) → IsKept t → write_at t path write ≡ Ok (reply, u)
     → (part : Tree) × (found : Option Tree) × (at t path ≡ Some part) × (reply ≡ reply_of found) × (back path (inverse part found) u ≡ Some t)

@@ -26,12 +26,12 @@ abbrev pub RecordsPrefix : Job → List ℕ → List ℕ → Type 0
 RecordsPrefix job input output = (unwritten : List ℕ) × IsOutput job input (output ++ unwritten)
 
 -- What is written, by the result.
-abbrev pub Leaves : Result Unit RunError → Job → List ℕ → List ℕ → Type 0
-Leaves (Ok done) job input output = IsOutput job input output
-Leaves (Err Memory) job input output = RecordsOfSome job input output
-Leaves (Err Write) job input output = RecordsPrefix job input output
-Leaves (Err Read) job input output = RecordsOfEnded job input output
-Leaves (Err TooManyReads) job input output = RecordsOfEnded job input output
+abbrev pub LeavesOutput : Result Unit RunError → Job → List ℕ → List ℕ → Type 0
+LeavesOutput (Ok done) job input output = IsOutput job input output
+LeavesOutput (Err Memory) job input output = RecordsOfSome job input output
+LeavesOutput (Err Write) job input output = RecordsPrefix job input output
+LeavesOutput (Err Read) job input output = RecordsOfEnded job input output
+LeavesOutput (Err TooManyReads) job input output = RecordsOfEnded job input output
 
 -- No read failed other than by an interruption, and exactly one gave nothing.
 abbrev pub ReachesEnd : Calls → Calls → Type 0

@@ -3,7 +3,7 @@ ghost use Rattle.std.specs.Prelude.{◌≡◌, ◌+◌, ◌≤◌, ◌^◌, [], 
 ghost use Rattle.std.specs.Io.KnownBytes.{IsAtEnd};
 ghost use Rattle.sj_parse.specs.Answers.{buffer_limit};
 ghost use Rattle.sj_records.specs.Lines.{ended, unended, if_any};
-ghost use Rattle.sj_records.specs.Run.{Transfers, Leaves, ReadsFor, WritesFor};
+ghost use Rattle.sj_records.specs.Run.{Transfers, LeavesOutput, ReadsFor, WritesFor};
 ghost use Rattle.sj_records.specs.Job.{job_of};
 ghost use Rattle.sj_records.specs.inside.Progress.{HasNoLineFeed, LeavesLines, LeavesBytes, task_job};
 
@@ -207,7 +207,7 @@ fn run_within<R: Source, W: Sink>(
     requires { buffer_limit buffers.old ≡ task.depth }
     ensures stands { Transfers (R.remaining reader.old) (R.remaining reader.new)
         (W.contents writer.old) (W.contents writer.new)
-        (Leaves result (task_job task.entry)) }
+        (LeavesOutput result (task_job task.entry)) }
     ensures at_end { OnOk result (IsAtEnd (R.remaining reader.new)) }
     ensures reads { ReadsFor max_reads result (R.calls reader.old) (R.calls reader.new) }
     ensures bound { (R.calls reader.new).made ≤ (R.calls reader.old).made + max_reads }
@@ -257,7 +257,7 @@ pub fn run<R: Source, W: Sink>(
     // What is written, by the result.
     ensures stands { Transfers (R.remaining reader.old) (R.remaining reader.new)
         (W.contents writer.old) (W.contents writer.new)
-        (Leaves result (job_of script.now depth form)) }
+        (LeavesOutput result (job_of script.now depth form)) }
     ensures at_end { OnOk result (IsAtEnd (R.remaining reader.new)) }
 
     // When each result comes, by the calls of the reader and the writer.
@@ -288,7 +288,7 @@ pub fn run_with<R: Source, W: Sink>(
     // As of `run`, with the limit of the buffers in the place of `depth`.
     ensures stands { Transfers (R.remaining reader.old) (R.remaining reader.new)
         (W.contents writer.old) (W.contents writer.new)
-        (Leaves result (job_of script.now (buffer_limit buffers.old) form)) }
+        (LeavesOutput result (job_of script.now (buffer_limit buffers.old) form)) }
     ensures at_end { OnOk result (IsAtEnd (R.remaining reader.new)) }
     ensures reads { ReadsFor (2 ^ 62) result (R.calls reader.old) (R.calls reader.new) }
     ensures bound { (R.calls reader.new).made ≤ (R.calls reader.old).made + 2 ^ 62 }

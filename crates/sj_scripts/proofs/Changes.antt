@@ -7,7 +7,7 @@ use Rattle.sj_base.specs.Path.{Part, member_at, at, put}
 use Rattle.sj_base.specs.Containers.{items_in, members_in}
 use Rattle.sj_base.specs.Edit.{put_member, drop_member, push_item, last_item, pop_item}
 use Rattle.sj_scripts.specs.Command.{◌>>=◌}
-use Rattle.sj_scripts.specs.Step.{Change, if_fits, part_at, reply_of, insertion, removal, pushing, popping, write_at}
+use Rattle.sj_scripts.specs.Step.{Rewrite, if_fits, part_at, reply_of, insertion, removal, pushing, popping, write_at}
 
 pub same_ok : {A F : Type 0} (x y : A) (r s : Result A F) → r ≡ Ok x → s ≡ Ok y → r ≡ s → x ≡ y
 same_ok x y r s f g e = cc
@@ -67,7 +67,7 @@ popped part w e =
     (inside.0, a_list part inside.0 (there (items_in part) _ inside.0 inside.1), same_ok _ w _ _ refl refl inside.2)
 
 -- the whole tree after a write
-pub write_done : (t : Tree) (path : List Part) (change : Change) (w : Tree × Tree) → write_at t path change ≡ Ok w
+pub write_done : (t : Tree) (path : List Part) (change : Rewrite) (w : Tree × Tree) → write_at t path change ≡ Ok w
     → (part : Tree) × (at t path ≡ Some part) × (n : Tree × Tree) × (change part ≡ Ok n) × ((n.0, put t path n.1) ≡ w)
 write_done t path change w e =
     let found = bind_ok (part_at t path) _ w e in

@@ -5,12 +5,12 @@ use Rattle.sj_base.specs.Tree.{Tree}
 use Rattle.sj_base.specs.Keep.{IsKept}
 use Rattle.sj_base.specs.Path.{Part}
 use Rattle.sj_base.proofs.Kept.{kept_part, kept_put, kept_with_member, kept_pushed, kept_dropped, kept_popped}
-use Rattle.sj_scripts.specs.Step.{State, Word, Change, insertion, removal, pushing, popping, setting, write_at, settled}
+use Rattle.sj_scripts.specs.Step.{State, Word, Rewrite, insertion, removal, pushing, popping, setting, write_at, settled}
 use Rattle.sj_scripts.proofs.Changes.{inserted, removed, pushed, popped, within, write_done}
 
 -- ---- a change of a kept part
 
-abbrev pub StaysKept : Change → Type 0
+abbrev pub StaysKept : Rewrite → Type 0
 StaysKept change = (part : Tree) (n : Tree × Tree) → change part ≡ Ok n → IsKept part → IsKept n.1
 
 second : (m n : Tree × Tree) → m ≡ n → IsKept m.1 → IsKept n.1
@@ -38,7 +38,7 @@ setting_kept test v good part n e h = let i = within test _ n e in second _ n i.
 abbrev pub BothKept : State → Type 0
 BothKept s = IsKept s.tree × AllByRecursion IsKept s.bases
 
-pub settled_kept : (t : Tree) (bases : List Tree) (path : List Part) (change : Change) (r : Result (Tree × Tree) Word) → write_at t path change ≡ r → StaysKept change → IsKept t → AllByRecursion IsKept bases
+pub settled_kept : (t : Tree) (bases : List Tree) (path : List Part) (change : Rewrite) (r : Result (Tree × Tree) Word) → write_at t path change ≡ r → StaysKept change → IsKept t → AllByRecursion IsKept bases
     → BothKept (settled t bases r).1
 settled_kept t bases path change (Err word) e fine h hs = (h, hs)
 settled_kept t bases path change (Ok w) e fine h hs =

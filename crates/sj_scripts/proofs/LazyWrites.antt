@@ -11,7 +11,7 @@ use Rattle.sj_lazy.specs.declared.value.Value.{Value}
 use Rattle.sj_lazy.specs.declared.value.Value.TheVariants as lazy
 use Rattle.sj_base.proofs.Keeping.{keeps_once}
 use Rattle.sj_scripts.specs.Script.{Settles}
-use Rattle.sj_scripts.specs.Step.{Change, from_start, from_write, write_at}
+use Rattle.sj_scripts.specs.Step.{Rewrite, from_start, from_write, write_at}
 use Rattle.sj_scripts.specs.inside.LazyDocuments.{RepeatsNoKey}
 use Rattle.sj_scripts.proofs.KeptChanges.{StaysKept, settled_kept}
 use Rattle.sj_scripts.proofs.KeptTrees.{kept-found, kept-told}
@@ -28,7 +28,7 @@ owned_of (lazy.Tape view) d h = absurd h
 owned_of (lazy.Value (Borrowed e)) d h = absurd h
 owned_of (lazy.Value (Owned e)) d h = ap (λ x. lazy.Value (Owned x)) h
 
-module _ {E : Type 0} (old new : List ℕ) (path : List Part) (change : Change) where
+module _ {E : Type 0} (old new : List ℕ) (path : List Part) (change : Rewrite) where
   -- A write on a kept tree leaves a kept tree, also where memory is lacking.
   pub settles_kept : (r : Result Unit E) (t u : Tree) → StaysKept change → IsKept t → Settles r old new from_start t u path change → IsKept u
   settles_kept (Ok done) t u fine kept h = subst IsKept (sym h.1) (settled_kept t [] path change (write_at t path change) refl fine kept tt).0

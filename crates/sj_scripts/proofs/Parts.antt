@@ -14,7 +14,7 @@ use Rattle.sj_owned.proofs.Layers.{tree-Array, tree-Object}
 use Rattle.sj_owned.proofs.Members.{value_member}
 use Rattle.sj_owned.proofs.Writes.{tree_of_members, object_set, array_set}
 use Rattle.sj_scripts.specs.Command.{◌>>=◌}
-use Rattle.sj_scripts.specs.Step.{Word, Change, part_at, reply_of, write_at}
+use Rattle.sj_scripts.specs.Step.{Word, Rewrite, part_at, reply_of, write_at}
 use Rattle.sj_scripts.specs.declared.read_error.ReadError.{ReadError}
 use Rattle.sj_scripts.specs.declared.read_error.ReadError.TheVariants.{Memory, Refused}
 use Rattle.sj_scripts.specs.declared.refusal.Refusal.{Refusal}
@@ -85,12 +85,12 @@ done_twice : (r : Result (Tree × Tree) Word) (g h q : Tree → Tree) → ((new 
 done_twice (Err word) g h q same = refl
 done_twice (Ok w) g h q same = ap (λ new. done (λ _. new) w) (same w.1)
 
-found_twice : (r : Result Tree Word) (change : Change) (g h q : Tree → Tree) → ((new : Tree) → g new ≡ q (h new))
+found_twice : (r : Result Tree Word) (change : Rewrite) (g h q : Tree → Tree) → ((new : Tree) → g new ≡ q (h new))
     → (r >>= λ part. change part >>= done g) ≡ ((r >>= λ part. change part >>= done h) >>= done q)
 found_twice (Err word) change g h q same = refl
 found_twice (Ok part) change g h q same = done_twice (change part) g h q same
 
-module _ (t u : Tree) (p : Part) (rest : List Part) (change : Change) (there : child t p ≡ Some u) where
+module _ (t u : Tree) (p : Part) (rest : List Part) (change : Rewrite) (there : child t p ≡ Some u) where
   write_below : write_at t (p ∷ rest) change ≡ (write_at u rest change >>= done (λ new. put t (p ∷ []) new))
   write_below =
       ap (λ o. ok_or (option_and_then (λ v. at v rest) o) (codes "NoSuchPath") >>= λ part. change part >>= done (λ new. put t (p ∷ rest) new)) there
@@ -106,7 +106,7 @@ module _ (t u : Tree) (p : Part) (rest : List Part) (change : Change) (there : c
   edited_below tree (Err Memory) t2 u2 is edited = is ∙ ap (λ v. put t (p ∷ []) v) edited ∙ put_same t u p there
 
 -- nothing is written where there is no part
-pub write_nowhere : (t : Tree) (p : Part) (rest : List Part) (change : Change) → child t p ≡ None → write_at t (p ∷ rest) change ≡ Err (codes "NoSuchPath")
+pub write_nowhere : (t : Tree) (p : Part) (rest : List Part) (change : Rewrite) → child t p ≡ None → write_at t (p ∷ rest) change ≡ Err (codes "NoSuchPath")
 write_nowhere t p rest change none =
     ap (λ o. ok_or (option_and_then (λ v. at v rest) o) (codes "NoSuchPath") >>= λ part. change part >>= done (λ new. put t (p ∷ rest) new)) none
 
@@ -127,14 +127,14 @@ module _ {K D : Type 0} (text : K → List ℕ) (literal : D → List ℕ) (v : 
     pub object_again : value_tree text literal (Object es) ≡ value_tree text literal v
     object_again = tree-Object text literal es ∙ sym (tree_of_members text literal v es is)
 
-    pub member_edited : (m w : Value K D) (rest : List Part) (change : Change) (r : Result (Option (Value K D)) (ReadError Refusal)) → Some m ≡ value_at text es k
+    pub member_edited : (m w : Value K D) (rest : List Part) (change : Rewrite) (r : Result (Option (Value K D)) (ReadError Refusal)) → Some m ≡ value_at text es k
         → IsEdited (value_tree text literal) r (value_tree text literal m) (value_tree text literal w) (write_at (value_tree text literal m) rest change)
         → IsEdited (value_tree text literal) r (value_tree text literal v) (value_tree text literal (Object (set_value text es k w))) (write_at (value_tree text literal v) (key k ∷ rest) change)
     member_edited m w rest change r found edited =
         edited_below (value_tree text literal v) (value_tree text literal m) (key k) rest change (member_child ∙ sym (ap (option_map (value_tree text literal)) found)) (value_tree text literal) r _ (value_tree text literal w)
         (object_set text literal v es k w is) edited
 
-    pub member_missing : (rest : List Part) (change : Change) → None ≡ value_at text es k → write_at (value_tree text literal v) (key k ∷ rest) change ≡ Err (codes "NoSuchPath")
+    pub member_missing : (rest : List Part) (change : Rewrite) → None ≡ value_at text es k → write_at (value_tree text literal v) (key k ∷ rest) change ≡ Err (codes "NoSuchPath")
     member_missing rest change none = write_nowhere (value_tree text literal v) (key k) rest change (member_child ∙ sym (ap (option_map (value_tree text literal)) none))
 
   item_there : (vs : List (Value K D)) (i : ℕ) (m : Value K D) → i < length vs → m ≡ get_or vs i m → Some (value_tree text literal m) ≡ item_at (items_view text literal vs) i
@@ -154,12 +154,12 @@ module _ {K D : Type 0} (text : K → List ℕ) (literal : D → List ℕ) (v : 
     pub array_again : value_tree text literal (Array vs) ≡ value_tree text literal v
     array_again = tree-Array text literal vs ∙ sym (tree_of_items text literal v vs.items is)
 
-    pub item_edited : (m w : Value K D) (rest : List Part) (change : Change) (r : Result (Option (Value K D)) (ReadError Refusal)) → i < length vs.items → m ≡ get_or vs.items i m
+    pub item_edited : (m w : Value K D) (rest : List Part) (change : Rewrite) (r : Result (Option (Value K D)) (ReadError Refusal)) → i < length vs.items → m ≡ get_or vs.items i m
         → IsEdited (value_tree text literal) r (value_tree text literal m) (value_tree text literal w) (write_at (value_tree text literal m) rest change)
         → IsEdited (value_tree text literal) r (value_tree text literal v) (value_tree text literal (Array (with_item vs i w))) (write_at (value_tree text literal v) (place i ∷ rest) change)
     item_edited m w rest change r within found edited =
         edited_below (value_tree text literal v) (value_tree text literal m) (place i) rest change (array_child ∙ sym (item_there vs.items i m within found)) (value_tree text literal) r _ (value_tree text literal w)
         (array_set text literal vs i w ∙ ap (λ t. put t (place i ∷ []) (value_tree text literal w)) array_again) edited
 
-    pub item_missing : (rest : List Part) (change : Change) → length vs.items ≤ i → write_at (value_tree text literal v) (place i ∷ rest) change ≡ Err (codes "NoSuchPath")
+    pub item_missing : (rest : List Part) (change : Rewrite) → length vs.items ≤ i → write_at (value_tree text literal v) (place i ∷ rest) change ≡ Err (codes "NoSuchPath")
     item_missing rest change past = write_nowhere (value_tree text literal v) (place i) rest change (array_child ∙ item_beyond vs.items i past)

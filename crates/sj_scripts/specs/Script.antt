@@ -15,7 +15,7 @@ use Rattle.sj_scripts.specs.declared.script.ScriptFault.{ScriptFault}
 use Rattle.sj_scripts.specs.declared.script.ScriptFault.TheVariants.{Json, NotAnArray, Command as CommandAt, Memory}
 use Rattle.sj_scripts.specs.Values.{document_tree}
 use Rattle.sj_scripts.specs.Command.{Step, get, contains, type_of, len, keys, insert, remove, push, pop, set_at, reload, reload_pp, Refusal, json, not_an_array, command, commands_of}
-use Rattle.sj_scripts.specs.Step.{Keeping, base, Change, settled, write_at}
+use Rattle.sj_scripts.specs.Step.{Keeping, base, Rewrite, settled, write_at}
 use Rattle.sj_scripts.specs.Reading.{ComesOf}
 
 abbrev pub part_view : PathPart → Part
@@ -61,14 +61,9 @@ IsRefusedAs NotAnArray bytes = IsReadAs bytes (Err not_an_array)
 IsRefusedAs (CommandAt index fault) bytes = IsReadAs bytes (Err (command index fault))
 IsRefusedAs Memory bytes = ⊤
 
--- The bytes were appended, or the vector is as it was.
-abbrev pub AppendsOrLeaves : {E : Type 0} → Result Unit E → List ℕ → List ℕ → List ℕ → Type 0
-AppendsOrLeaves (Ok done) old new bytes = new ≡ old ++ bytes
-AppendsOrLeaves (Err e) old new bytes = new ≡ old
-
 -- What a write leaves of the vector and of the tree t of the document: the reply is appended, and the tree is that after the
 -- write. On an error the vector is as it was, and the tree is t, the base of the write, or that after it.
-abbrev pub Settles : {E : Type 0} → Result Unit E → List ℕ → List ℕ → Keeping → Tree → Tree → List Part → Change → Type 0
+abbrev pub Settles : {E : Type 0} → Result Unit E → List ℕ → List ℕ → Keeping → Tree → Tree → List Part → Rewrite → Type 0
 Settles (Ok done) old new keeping t u path change =
     let w = settled (base t keeping) [] (write_at (base t keeping) path change) in
     (new ≡ old ++ text w.0) × (u ≡ w.1.tree)

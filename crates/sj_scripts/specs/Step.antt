@@ -108,30 +108,30 @@ keys_reply t path = answer (keys_at t path)
 
 -- ---- writes: the reply, and what stands in the place of the part that the path selects
 
-abbrev pub Change : Type 0
-Change = Tree → Result (Tree × Tree) Word
+abbrev pub Rewrite : Type 0
+Rewrite = Tree → Result (Tree × Tree) Word
 
 -- nothing where the value fits, and otherwise the word that it doesn't
 abbrev pub if_fits : {A : Type 0} → Bool → A → Result A Word
 if_fits test x = cond test (Ok x) (Err (codes "TooDeep"))
 
-abbrev pub insertion : Bool → List ℕ → Tree → Change
+abbrev pub insertion : Bool → List ℕ → Tree → Rewrite
 insertion test k v part = ok_or (members_in part) (codes "NotAnObject") >>= λ ms. if_fits test (reply_of (member_at ms k), object (put_member ms k v))
 
-abbrev pub removal : List ℕ → Change
+abbrev pub removal : List ℕ → Rewrite
 removal k part = ok_or (members_in part) (codes "NotAnObject") >>= λ ms. Ok (reply_of (member_at ms k), object (drop_member ms k))
 
-abbrev pub pushing : Bool → Tree → Change
+abbrev pub pushing : Bool → Tree → Rewrite
 pushing test v part = ok_or (items_in part) (codes "NotAnArray") >>= λ ts. if_fits test (list no_items, list (push_item ts v))
 
-abbrev pub popping : Change
+abbrev pub popping : Rewrite
 popping part = ok_or (items_in part) (codes "NotAnArray") >>= λ ts. Ok (reply_of (last_item ts), list (pop_item ts))
 
-abbrev pub setting : Bool → Tree → Change
+abbrev pub setting : Bool → Tree → Rewrite
 setting test v part = if_fits test (reply_of (Some part), v)
 
 -- the reply, and the whole tree after the change of the part that the path selects
-abbrev pub write_at : Tree → List Part → Change → Result (Tree × Tree) Word
+abbrev pub write_at : Tree → List Part → Rewrite → Result (Tree × Tree) Word
 write_at t path change = part_at t path >>= λ part. change part >>= λ w. Ok (w.0, put t path w.1)
 
 -- the reply to a write on this base, and the state after it
@@ -139,7 +139,7 @@ abbrev pub settled : Tree → List Tree → Result (Tree × Tree) Word → Tree 
 settled t bases (Ok w) = (w.0, record { tree = w.1; bases = t ∷ bases })
 settled t bases (Err word) = (string word, record { tree = t; bases = bases })
 
-abbrev pub written : Job → State → List Part → Change → Tree × State
+abbrev pub written : Job → State → List Part → Rewrite → Tree × State
 written job s path change = let t = base s.tree job.keeping in settled t s.bases (write_at t path change)
 
 -- ---- reloads: whether the text of the document isn't too long to be read again

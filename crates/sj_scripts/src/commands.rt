@@ -5,7 +5,7 @@ ghost use Rattle.sj_base.specs.Tree.{list};
 ghost use Rattle.sj_base.specs.Scalar.{static_tree};
 ghost use Rattle.sj_scripts.specs.Values.{document_tree, items_view};
 ghost use Rattle.sj_scripts.specs.Script.{part_view, path_view, command_view, commands_view};
-ghost use Rattle.sj_scripts.specs.inside.ReadErrors.{GivesCommand, GivesScript};
+ghost use Rattle.sj_scripts.specs.inside.ReadErrors.{GivesCommand, GivesSteps};
 
 use crate::path::PathPart;
 use crate::read_error::ReadError;
@@ -204,7 +204,7 @@ pub(crate) fn read_commands(
     alloc: Global,
     document: OwnedValue,
 ) -> Result<Vec<Command>, ScriptFault>
-    ensures { GivesScript (λ commands. commands_view commands.items) result
+    ensures { GivesSteps (λ commands. commands_view commands.items) result
         (commands_in (document_tree document)) }
 {
     match document {
@@ -214,7 +214,7 @@ pub(crate) fn read_commands(
 }
 
 fn read_command_list(alloc: Global, items: Vec<OwnedValue>) -> Result<Vec<Command>, ScriptFault>
-    ensures { GivesScript (λ commands. commands_view commands.items) result
+    ensures { GivesSteps (λ commands. commands_view commands.items) result
         (commands_from 0 (items_view items.items)) }
 {
     let mut commands = Vec::new(alloc);

@@ -8,7 +8,8 @@ ghost use Rattle.sj_scripts.specs.Step.{Keeping, from_start, reply_of, part_at, 
 ghost use Rattle.sj_scripts.specs.Step.{fits, fits_below, insertion, removal, pushing, popping, setting};
 ghost use Rattle.sj_scripts.specs.Values.{document_tree};
 ghost use Rattle.sj_scripts.specs.inside.Documents.{GivesReply, reply_view, ShowsEdit, AppendsOrGrows};
-ghost use Rattle.sj_scripts.specs.Script.{part_view, path_view, AppendsOrLeaves, Settles};
+ghost use Rattle.sj_scripts.specs.Script.{part_view, path_view, Settles};
+ghost use Rattle.sj_base.specs.Output.{AppendsOrLeaves};
 
 use crate::edit::{Edit, ScriptText, edit_at, is_within, is_within_below};
 use crate::path::PathPart;

@@ -7,7 +7,8 @@ ghost use Rattle.sj_base.specs.Tree.{Tree, integer, list};
 ghost use Rattle.sj_owned.specs.Views.{value_tree, members_view};
 ghost use Rattle.sj_tape.specs.Views.{value_tree as view_tree, object_members};
 ghost use Rattle.sj_scripts.specs.Step.{count, key_items, type_name};
-ghost use Rattle.sj_scripts.specs.Script.{part_view, AppendsOrLeaves};
+ghost use Rattle.sj_scripts.specs.Script.{part_view};
+ghost use Rattle.sj_base.specs.Output.{AppendsOrLeaves};
 ghost use Rattle.sj_scripts.specs.inside.Documents.{PutsKeys, AppendsOrGrows};
 
 use crate::path::PathPart;

@@ -3,7 +3,8 @@ ghost use Rattle.std.specs.Prelude.{◌≡◌, ◌++◌, option_map};
 ghost use Rattle.sj_base.specs.Path.{at};
 ghost use Rattle.sj_base.specs.Text.{text};
 ghost use Rattle.sj_scripts.specs.Step.{reply_of, part_at, contains_reply, type_reply, len_reply, keys_reply};
-ghost use Rattle.sj_scripts.specs.Script.{path_view, AppendsOrLeaves};
+ghost use Rattle.sj_scripts.specs.Script.{path_view};
+ghost use Rattle.sj_base.specs.Output.{AppendsOrLeaves};
 ghost use Rattle.sj_scripts.specs.inside.Documents.{GivesReply, reply_view, separator, AppendsOrGrows};
 
 use crate::part::Part;

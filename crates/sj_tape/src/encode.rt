@@ -1,9 +1,9 @@
 //! Encoders: the JSON text of a value, appended to a vector or written to a sink.
-ghost use Rattle.std.specs.Prelude.{◌≡◌, ◌+◌, ◌++◌, ◌<◌, ◌^◌, length, OnOk, OnErr};
+ghost use Rattle.std.specs.Prelude.{◌≡◌, ◌+◌, ◌++◌, ◌<◌, ◌^◌, length};
 ghost use Rattle.sj_base.specs.Tree.{list, object};
 ghost use Rattle.sj_base.specs.Text.{text, pretty};
 ghost use Rattle.sj_base.specs.Layout.{level_of, laid_out};
-ghost use Rattle.sj_base.specs.Output.{WritesAll, WritesPrefix};
+ghost use Rattle.sj_base.specs.Output.{AppendsOrLeaves, Prints, Writes};
 ghost use Rattle.sj_tape.specs.Listing.{listing};
 ghost use Rattle.sj_tape.specs.Views.{value_tree, array_items, object_members};
 
@@ -23,8 +23,7 @@ fn print_value<O: Output>(
     out: &mut O,
 ) -> Result<(), O::Fault>
     requires { level_of layout + length (listing (value_tree value.now)) < 2 ^ 64 }
-    ensures ok { OnOk result (O.appends out.old out.new (laid_out layout (value_tree value.now))) }
-    ensures err { OnErr result (O.begins out.old out.new (laid_out layout (value_tree value.now))) }
+    ensures { Prints O.appends O.begins result out.old out.new (laid_out layout (value_tree value.now)) }
 {
     if let Some(items) = value.as_array() {
         return print_items(items, layout, out);
@@ -42,8 +41,7 @@ fn print_value<O: Output>(
 #[cycle(print)]
 fn print_items<O: Output>(items: Array<'_, '_>, layout: Layout, out: &mut O) -> Result<(), O::Fault>
     requires { level_of layout + length (listing (list (array_items items))) < 2 ^ 64 }
-    ensures ok { OnOk result (O.appends out.old out.new (laid_out layout (list (array_items items.entry)))) }
-    ensures err { OnErr result (O.begins out.old out.new (laid_out layout (list (array_items items.entry)))) }
+    ensures { Prints O.appends O.begins result out.old out.new (laid_out layout (list (array_items items.entry))) }
 {
     let mut list = layout.open_list(out)?;
     let mut rest = items;
@@ -62,8 +60,7 @@ fn print_members<O: Output>(
     out: &mut O,
 ) -> Result<(), O::Fault>
     requires { level_of layout + length (listing (object (object_members members))) < 2 ^ 64 }
-    ensures ok { OnOk result (O.appends out.old out.new (laid_out layout (object (object_members members.entry)))) }
-    ensures err { OnErr result (O.begins out.old out.new (laid_out layout (object (object_members members.entry)))) }
+    ensures { Prints O.appends O.begins result out.old out.new (laid_out layout (object (object_members members.entry))) }
 {
     let mut object = layout.open_object(out)?;
     let mut rest = members;
@@ -78,8 +75,7 @@ fn print_members<O: Output>(
 // The outermost level is 0, and each level of nesting is a node, so every level fits a `usize`.
 fn print<O: Output>(value: Value<'_, '_>, layout: Layout, out: &mut O) -> Result<(), O::Fault>
     requires { level_of layout ≡ 0 }
-    ensures ok { OnOk result (O.appends out.old out.new (laid_out layout (value_tree value.entry))) }
-    ensures err { OnErr result (O.begins out.old out.new (laid_out layout (value_tree value.entry))) }
+    ensures { Prints O.appends O.begins result out.old out.new (laid_out layout (value_tree value.entry)) }
 {
     print_value(&value, layout, out)
 }
@@ -87,8 +83,7 @@ fn print<O: Output>(value: Value<'_, '_>, layout: Layout, out: &mut O) -> Result
 // Appends the text, or nothing.
 fn append(value: Value<'_, '_>, layout: Layout, out: &mut Vec<u8>) -> Result<(), AllocError>
     requires { level_of layout ≡ 0 }
-    ensures ok { OnOk result (out.new.items ≡ out.old.items ++ laid_out layout (value_tree value.entry)) }
-    ensures err { OnErr result (out.new.items ≡ out.old.items) }
+    ensures { AppendsOrLeaves result out.old.items out.new.items (laid_out layout (value_tree value.entry)) }
 {
     let start = out.len();
     let alloc = *out.allocator();
@@ -107,8 +102,7 @@ impl Value<'_, '_> {
     ///
     /// `AllocError` if there is no memory for the text. Nothing is then appended.
     pub fn encode(&self, out: &mut Vec<u8>) -> Result<(), AllocError>
-        ensures ok { OnOk result (out.new.items ≡ out.old.items ++ text (value_tree self.now)) }
-        ensures err { OnErr result (out.new.items ≡ out.old.items) }
+        ensures { AppendsOrLeaves result out.old.items out.new.items (text (value_tree self.now)) }
     {
         append(*self, Layout::Compact, out)
     }
@@ -122,8 +116,7 @@ impl Value<'_, '_> {
     ///
     /// `AllocError` if there is no memory for the text. Nothing is then appended.
     pub fn encode_pp(&self, out: &mut Vec<u8>) -> Result<(), AllocError>
-        ensures ok { OnOk result (out.new.items ≡ out.old.items ++ pretty (value_tree self.now)) }
-        ensures err { OnErr result (out.new.items ≡ out.old.items) }
+        ensures { AppendsOrLeaves result out.old.items out.new.items (pretty (value_tree self.now)) }
     {
         append(*self, Layout::Indented(0), out)
     }
@@ -136,8 +129,7 @@ impl Value<'_, '_> {
     ///
     /// The fault of the output. A prefix of the text is then printed.
     pub fn print<O: Output>(&self, out: &mut O) -> Result<(), O::Fault>
-        ensures ok { OnOk result (O.appends out.old out.new (text (value_tree self.now))) }
-        ensures err { OnErr result (O.begins out.old out.new (text (value_tree self.now))) }
+        ensures { Prints O.appends O.begins result out.old out.new (text (value_tree self.now)) }
     {
         print(*self, Layout::Compact, out)
     }
@@ -150,10 +142,7 @@ impl Value<'_, '_> {
     ///
     /// `WriteFault` if a write fails, is interrupted or takes no byte. A prefix of the text is then written.
     pub fn write<W: Sink>(&self, writer: &mut W) -> Result<(), WriteFault>
-        ensures ok { OnOk result (WritesAll (W.contents writer.old) (W.contents writer.new)
-            (W.calls writer.old) (W.calls writer.new) (text (value_tree self.now))) }
-        ensures err { OnErr result (WritesPrefix (W.contents writer.old) (W.contents writer.new)
-            (W.calls writer.old) (W.calls writer.new) (text (value_tree self.now))) }
+        ensures { Writes W.contents W.calls result writer.old writer.new (text (value_tree self.now)) }
     {
         print(*self, Layout::Compact, writer)
     }
@@ -167,10 +156,7 @@ impl Value<'_, '_> {
     ///
     /// `WriteFault` if a write fails, is interrupted or takes no byte. A prefix of the text is then written.
     pub fn write_pp<W: Sink>(&self, writer: &mut W) -> Result<(), WriteFault>
-        ensures ok { OnOk result (WritesAll (W.contents writer.old) (W.contents writer.new)
-            (W.calls writer.old) (W.calls writer.new) (pretty (value_tree self.now))) }
-        ensures err { OnErr result (WritesPrefix (W.contents writer.old) (W.contents writer.new)
-            (W.calls writer.old) (W.calls writer.new) (pretty (value_tree self.now))) }
+        ensures { Writes W.contents W.calls result writer.old writer.new (pretty (value_tree self.now)) }
     {
         print(*self, Layout::Indented(0), writer)
     }

@@ -14,8 +14,8 @@ use Rattle.sj_scripts.specs.declared.read_error.ReadError.TheVariants.{Memory, R
 use Rattle.std.specs.declared.alloc.AllocError.{AllocError}
 use Rattle.sj_base.specs.Text.{text, items_text, more_items_text}
 use Rattle.sj_scripts.specs.Values.{document_tree}
-use Rattle.sj_scripts.specs.Script.{AppendsOrLeaves}
-use Rattle.sj_scripts.specs.Step.{Word, Change, reply_of, insertion, removal, pushing, popping, setting, key_items}
+use Rattle.sj_base.specs.Output.{AppendsOrLeaves}
+use Rattle.sj_scripts.specs.Step.{Word, Rewrite, reply_of, insertion, removal, pushing, popping, setting, key_items}
 
 -- what stands before an element that is the first or another
 abbrev pub separator : Bool → List ℕ
@@ -51,7 +51,7 @@ reply_view (Ok s) = scalar_tree s
 reply_view (Err why) = string (refusal_name why)
 
 -- the change that an edit makes of a part
-abbrev pub change_of : Edit → Change
+abbrev pub change_of : Edit → Rewrite
 change_of (Insert k v fits) = insertion fits k.now (document_tree v.now)
 change_of (Remove k) = removal k.now
 change_of (Push v fits) = pushing fits (document_tree v.now)

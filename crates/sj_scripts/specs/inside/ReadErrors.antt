@@ -13,8 +13,8 @@ use Rattle.sj_scripts.specs.declared.script.ScriptFault.TheVariants as faults
 use Rattle.sj_scripts.specs.Command.{Refusal, not_an_array, command}
 
 -- the tree of the line, with the first member of each key alone
-abbrev pub IsKept : List ℕ → ℕ → Tree → Type 0
-IsKept line limit u = (t : Tree) × Document line limit t × (u ≡ keep t)
+abbrev pub IsReadTree : List ℕ → ℕ → Tree → Type 0
+IsReadTree line limit u = (t : Tree) × Document line limit t × (u ≡ keep t)
 
 -- for a refusal, and not for want of memory
 abbrev pub IfRefused : {T : Type 0} → ReadError T → (T → Type 0) → Type 0
@@ -47,6 +47,6 @@ IsRefusalOf faults.NotAnArray read = read ≡ Err not_an_array
 IsRefusalOf (faults.Command place fault) read = read ≡ Err (command place fault)
 IsRefusalOf faults.Memory read = ⊤
 
-abbrev pub GivesScript : {X A : Type 0} → (X → A) → Result X ScriptFault → Result A Refusal → Type 0
-GivesScript view (Ok x) read = read ≡ Ok (view x)
-GivesScript view (Err e) read = IsRefusalOf e read
+abbrev pub GivesSteps : {X A : Type 0} → (X → A) → Result X ScriptFault → Result A Refusal → Type 0
+GivesSteps view (Ok x) read = read ≡ Ok (view x)
+GivesSteps view (Err e) read = IsRefusalOf e read

@@ -8,4 +8,4 @@ returns-then-is_empty c =
     rw (text_of-empty c.args.tape.now (c.if-is_empty.ensures.0 refl)) (sym (append-nil c.args.out.now.items))
 
 pub returns : goal.returns
-returns c = rw (text_of-tree c.args.tape.now _ c.as_value.ensures.tree) c.encode.ensures.ok
+returns c = rw (text_of-tree c.args.tape.now _ c.as_value.ensures.tree) c.encode.ensures

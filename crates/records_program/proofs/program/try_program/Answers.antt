@@ -13,7 +13,7 @@ use Rattle.records_program.specs.declared.fault.Fault.TheVariants.{Memory, Read,
 use Rattle.records_program.specs.declared.arguments.Arguments.TheVariants.{Run, Help}
 use Rattle.records_program.specs.declared.arguments.RunArguments.{RunArguments}
 use Rattle.records_program.specs.Arguments.{AreParsedAs, AskForHelp, AskForRun}
-use Rattle.records_program.specs.Program.{Loads, HasCommands, ProgramLeaves, RefusesBytes, RunEnds, job_of}
+use Rattle.records_program.specs.Program.{Loads, HasCommands, ProgramLeaves, RefusesBytes, RunEnds, run_job}
 use Rattle.records_program.proofs.program.try_program.Goals as goal
 
 -- a script that is refused
@@ -28,7 +28,7 @@ script_refused loads words unread held run bytes Unreadable given loaded refused
 
 -- a script that ran
 script_ran : (loads : Loads) (words : List (List ℕ)) (unread old new : Option (List ℕ)) (run : RunArguments) (script : List Step) (ended : Result Unit Fault)
-    → HasCommands loads words run script → RunEnds unread old new (job_of run script) ended → ProgramLeaves loads words unread old new ended
+    → HasCommands loads words run script → RunEnds unread old new (run_job run script) ended → ProgramLeaves loads words unread old new ended
 script_ran loads words unread old new run script (Ok done) has ends = inl (run, script, has, ends)
 script_ran loads words unread old new run script (Err Memory) has ends = inl (run, script, has, ends)
 script_ran loads words unread old new run script (Err Read) has ends = (run, script, has, ends)

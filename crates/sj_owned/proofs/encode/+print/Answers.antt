@@ -4,7 +4,7 @@ use Rattle.sj_base.specs.Text.{quoted}
 use Rattle.sj_base.specs.declared.layout.Layout.{Layout}
 use Rattle.sj_base.specs.Tree.{object, Members, item, member}
 use Rattle.sj_base.specs.declared.layout.Container.{Container}
-use Rattle.sj_base.proofs.Prints.{on_err}
+use Rattle.std.proofs.lemmas.Result.{err_from_is_err_and}
 use Rattle.sj_base.proofs.Towards.{Toward, fault, list_fault, list_opened, object_fault, object_opened, next_item, next_member, value_fault, value_printed}
 use Rattle.sj_tape.proofs.Printing.{fewer_items, fewer_members}
 use Rattle.sj_owned.proofs.Pieces.{cut_at}
@@ -13,29 +13,29 @@ use Rattle.sj_tape.specs.Listing.{members_listing}
 use Rattle.sj_owned.specs.Views.{value_tree, items_view, members_view}
 use Rattle.sj_owned.proofs.encode.+print.Goals as goal
 
-pub print_items-returns-in_err-list-clause-err : goal.print_items-returns-in_err-list-clause-err
-print_items-returns-in_err-list-clause-err g t c =
+pub print_items-returns-in_err-list : goal.print_items-returns-in_err-list
+print_items-returns-in_err-list g t c =
     let view = items_view g.K.ObjectKey.text g.D.Literal.literal in
-    on_err c.from_residual-in_err-list.result (list_fault g.met.O.Output.laws c.args.layout (view c.args.items.now) c.in_err-list.ensures.err)
+    rw (err_from_is_err_and c.from_residual-in_err-list.result c.from_residual-in_err-list.ensures.1).1 (list_fault g.met.O.Output.laws c.args.layout (view c.args.items.now) c.in_err-list.ensures.printed)
 
 pub print_items-loop-item-init : goal.print_items-loop-item-init
 print_items-loop-item-init g t c =
     let view = items_view g.K.ObjectKey.text g.D.Literal.literal in (
       omega arith,
       ap (λ (x : Container). x.inside) c.in_ok-list.ensures.container,
-      list_opened g.met.O.Output.laws c.args.layout (view c.args.items.now) c.in_ok-list.list c.in_ok-list.ensures.container c.in_ok-list.ensures.ok,
+      list_opened g.met.O.Output.laws c.args.layout (view c.args.items.now) c.in_ok-list.list c.in_ok-list.ensures.container c.in_ok-list.ensures.printed,
     )
 
-pub print_members-returns-in_err-object-clause-err : goal.print_members-returns-in_err-object-clause-err
-print_members-returns-in_err-object-clause-err g t c =
+pub print_members-returns-in_err-object : goal.print_members-returns-in_err-object
+print_members-returns-in_err-object g t c =
     let view = members_view g.K.ObjectKey.text g.D.Literal.literal in
-    on_err c.from_residual-in_err-object.result (object_fault g.met.O.Output.laws c.args.layout (view c.args.members.now) c.in_err-object.ensures.err)
+    rw (err_from_is_err_and c.from_residual-in_err-object.result c.from_residual-in_err-object.ensures.1).1 (object_fault g.met.O.Output.laws c.args.layout (view c.args.members.now) c.in_err-object.ensures.printed)
 
 pub print_members-loop-key-init : goal.print_members-loop-key-init
 print_members-loop-key-init g t c =
     let view = members_view g.K.ObjectKey.text g.D.Literal.literal in
     let whole : entries_left c.into_iter-key-iterator.result ≡ c.args.members.now = search rules in
-    let opened = object_opened g.met.O.Output.laws c.args.layout (view c.args.members.now) c.in_ok-object.object c.in_ok-object.ensures.container c.in_ok-object.ensures.ok in
+    let opened = object_opened g.met.O.Output.laws c.args.layout (view c.args.members.now) c.in_ok-object.object c.in_ok-object.ensures.container c.in_ok-object.ensures.printed in
     let same = ap view whole in (
       tt,
       tt,
@@ -44,8 +44,8 @@ print_members-loop-key-init g t c =
       subst (λ (ms : Members). Toward g.O.Output.appends g.O.Output.begins c.args.out.now c.open_object.new.out (rest_text c.in_ok-object.object (member_texts c.in_ok-object.object.inside ms)) (laid_out c.args.layout (object (view c.args.members.now)))) (sym same) opened,
     )
 
-pub print_items-returns-in_err-print_value-clause-err : goal.print_items-returns-in_err-print_value-clause-err
-print_items-returns-in_err-print_value-clause-err g t c =
+pub print_items-returns-in_err-print_value : goal.print_items-returns-in_err-print_value
+print_items-returns-in_err-print_value g t c =
     let text = g.K.ObjectKey.text in
     let literal = g.D.Literal.literal in
     let view = items_view text literal in
@@ -56,8 +56,8 @@ print_items-returns-in_err-print_value-clause-err g t c =
     let cut : view (drop i all) ≡ item value (view (drop (i + 1) all)) = ap view (cut_at all i c.item-item.result (omega (arith, c.loop-item-test.true, c.loop-item.auto.item-index-end)) c.item-item.is) in
     let left = next_item list (view (drop i all)) value (view (drop (i + 1) all)) c.loop-item.invariant.2 cut in
     let inside = c.inside.ensures ∙ ap (λ (x : Container). x.inside) c.in_ok-next.ensures.container in
-    let begun = subst (λ (y : Layout). g.O.Output.begins c.next.new.out c.print_value.new.out (laid_out y value)) inside c.in_err-print_value.ensures.err in
-    on_err c.from_residual-in_err-print_value.result (value_fault g.met.O.Output.laws (before_next list) (laid_out list.inside value) (rest_text (filled list) (item_texts list.inside (view (drop (i + 1) all)))) left c.in_ok-next.ensures.ok begun)
+    let begun = subst (λ (y : Layout). g.O.Output.begins c.next.new.out c.print_value.new.out (laid_out y value)) inside c.in_err-print_value.ensures in
+    rw (err_from_is_err_and c.from_residual-in_err-print_value.result c.from_residual-in_err-print_value.ensures.1).1 (value_fault g.met.O.Output.laws (before_next list) (laid_out list.inside value) (rest_text (filled list) (item_texts list.inside (view (drop (i + 1) all)))) left c.in_ok-next.ensures.printed begun)
 
 pub print_items-loop-item-preserved : goal.print_items-loop-item-preserved
 print_items-loop-item-preserved g t c =
@@ -73,15 +73,15 @@ print_items-loop-item-preserved g t c =
     let left = next_item list (view (drop i all)) value more c.loop-item.invariant.2 cut in
     let fewer = fewer_items (view (drop i all)) value more cut in
     let inside = c.inside.ensures ∙ ap (λ (x : Container). x.inside) c.in_ok-next.ensures.container in
-    let printed = subst (λ (y : Layout). g.O.Output.appends c.next.new.out c.print_value.new.out (laid_out y value)) inside c.in_ok-print_value.ensures.ok in
+    let printed = subst (λ (y : Layout). g.O.Output.appends c.next.new.out c.print_value.new.out (laid_out y value)) inside c.in_ok-print_value.ensures in
     rw c.in_ok-next.ensures.container (
       omega (arith, fewer, c.loop-item.invariant.0),
       c.loop-item.invariant.1,
-      value_printed g.met.O.Output.laws (before_next list) (laid_out list.inside value) (rest_text (filled list) (item_texts list.inside more)) left c.in_ok-next.ensures.ok printed,
+      value_printed g.met.O.Output.laws (before_next list) (laid_out list.inside value) (rest_text (filled list) (item_texts list.inside more)) left c.in_ok-next.ensures.printed printed,
     )
 
-pub print_members-returns-in_err-key-clause-err : goal.print_members-returns-in_err-key-clause-err
-print_members-returns-in_err-key-clause-err g t c =
+pub print_members-returns-in_err-key : goal.print_members-returns-in_err-key
+print_members-returns-in_err-key g t c =
     let text = g.K.ObjectKey.text in
     let literal = g.D.Literal.literal in
     let view = members_view text literal in
@@ -92,10 +92,10 @@ print_members-returns-in_err-key-clause-err g t c =
     let first : entries_left c.loop-key.key-iterator ≡ record { key = c.in-Some.key.now; value = c.in-Some.value.now } ∷ entries_left c.next.new.self = search rules in
     let cut : view (entries_left c.loop-key.key-iterator) ≡ member key value more = ap view first ∙ ap (λ k. member k value more) (sym c.as_text.ensures) in
     let left = next_member object (view (entries_left c.loop-key.key-iterator)) key value more c.loop-key.invariant.4 cut in
-    on_err c.from_residual-in_err-key.result (fault g.met.O.Output.laws (before_next object ++ (quoted key ++ colon object.inside)) (laid_out object.inside value ++ rest_text (filled object) (member_texts object.inside more)) left c.in_err-key.ensures.err)
+    rw (err_from_is_err_and c.from_residual-in_err-key.result c.from_residual-in_err-key.ensures.1).1 (fault g.met.O.Output.laws (before_next object ++ (quoted key ++ colon object.inside)) (laid_out object.inside value ++ rest_text (filled object) (member_texts object.inside more)) left c.in_err-key.ensures.printed)
 
-pub print_members-returns-in_err-print_value-clause-err : goal.print_members-returns-in_err-print_value-clause-err
-print_members-returns-in_err-print_value-clause-err g t c =
+pub print_members-returns-in_err-print_value : goal.print_members-returns-in_err-print_value
+print_members-returns-in_err-print_value g t c =
     let text = g.K.ObjectKey.text in
     let literal = g.D.Literal.literal in
     let view = members_view text literal in
@@ -107,8 +107,8 @@ print_members-returns-in_err-print_value-clause-err g t c =
     let cut : view (entries_left c.loop-key.key-iterator) ≡ member key value more = ap view first ∙ ap (λ k. member k value more) (sym c.as_text.ensures) in
     let left = next_member object (view (entries_left c.loop-key.key-iterator)) key value more c.loop-key.invariant.4 cut in
     let inside = c.inside.ensures ∙ ap (λ (x : Container). x.inside) c.in_ok-key.ensures.container in
-    let begun = subst (λ (y : Layout). g.O.Output.begins c.key.new.out c.print_value.new.out (laid_out y value)) inside c.in_err-print_value.ensures.err in
-    on_err c.from_residual-in_err-print_value.result (value_fault g.met.O.Output.laws (before_next object ++ (quoted key ++ colon object.inside)) (laid_out object.inside value) (rest_text (filled object) (member_texts object.inside more)) left c.in_ok-key.ensures.ok begun)
+    let begun = subst (λ (y : Layout). g.O.Output.begins c.key.new.out c.print_value.new.out (laid_out y value)) inside c.in_err-print_value.ensures in
+    rw (err_from_is_err_and c.from_residual-in_err-print_value.result c.from_residual-in_err-print_value.ensures.1).1 (value_fault g.met.O.Output.laws (before_next object ++ (quoted key ++ colon object.inside)) (laid_out object.inside value) (rest_text (filled object) (member_texts object.inside more)) left c.in_ok-key.ensures.printed begun)
 
 pub print_members-loop-key-preserved : goal.print_members-loop-key-preserved
 print_members-loop-key-preserved g t c =
@@ -124,11 +124,11 @@ print_members-loop-key-preserved g t c =
     let left = next_member object (view (entries_left c.loop-key.key-iterator)) key value more c.loop-key.invariant.4 cut in
     let fewer = fewer_members (view (entries_left c.loop-key.key-iterator)) key value more cut in
     let inside = c.inside.ensures ∙ ap (λ (x : Container). x.inside) c.in_ok-key.ensures.container in
-    let printed = subst (λ (y : Layout). g.O.Output.appends c.key.new.out c.print_value.new.out (laid_out y value)) inside c.in_ok-print_value.ensures.ok in
+    let printed = subst (λ (y : Layout). g.O.Output.appends c.key.new.out c.print_value.new.out (laid_out y value)) inside c.in_ok-print_value.ensures in
     rw c.in_ok-key.ensures.container (
       tt,
       tt,
       omega (arith, fewer, c.loop-key.invariant.2),
       c.loop-key.invariant.3,
-      value_printed g.met.O.Output.laws (before_next object ++ (quoted key ++ colon object.inside)) (laid_out object.inside value) (rest_text (filled object) (member_texts object.inside more)) left c.in_ok-key.ensures.ok printed,
+      value_printed g.met.O.Output.laws (before_next object ++ (quoted key ++ colon object.inside)) (laid_out object.inside value) (rest_text (filled object) (member_texts object.inside more)) left c.in_ok-key.ensures.printed printed,
     )

@@ -17,3 +17,8 @@ returns-then-ends-ne0-clause-plain c =
     let byte = slice_index c.args.bytes.now k in
     let p = or_parts (byte == 0x22) (byte == 0x5c) (first.none k h) in
     (eqb-false byte 0x22 p.0, eqb-false byte 0x5c p.1)
+
+pub returns-then-ends-ne0-clause-ends : goal.returns-then-ends-ne0-clause-ends
+returns-then-ends-ne0-clause-ends c = λ h.
+    let first = lowest_place _ c.args.bytes.now _ c.if-bytes-ge-BLOCK.true (or_lt 64 c.equal_to.result c.equal_to-then-bytes-ge-BLOCK.result c.equal_to.type_inv c.equal_to-then-bytes-ge-BLOCK.type_inv) c.if-ends-ne0.true (either c.equal_to.ensures c.equal_to-then-bytes-ge-BLOCK.ensures) in
+    first.passes

@@ -2,14 +2,21 @@ use borrow.Rule.Slice.PartMut.{put_mid}
 use Rattle.std.specs.Prelude.{◌≡◌, ℕ, ◌+◌, ◌-◌, List, [], ◌++◌, take, drop, length}
 use Rattle.std.proofs.Common.{◌∙◌, ap, arith, append-nil, length-drop}
 use Rattle.std.proofs.lemmas.List.{take_rest, drop_all}
-use Rattle.sj_parse.proofs.Decoding.{decoding_starts, decoding_raw, decoding_escape, escape_fits}
+use Rattle.sj_parse.proofs.Decoding.{decoding_starts, decoding_run, decoding_escape, escape_fits}
 use Rattle.sj_parse.proofs.strings.decode_from.Goals as goal
 
 pub loop-read-init : goal.loop-read-init
 loop-read-init c = decoding_starts c.args.place c.args.first c.args.body.now c.requires.within c.requires.none
 
 pub loop-read-preserved : goal.loop-read-preserved
-loop-read-preserved c = decoding_raw c.args.place c.loop-read.read c.loop-read.written c.args.body.now c.loop-read.body c.loop-read.invariant c.loop-read-test.true c.if-body-read-eq92.false
+loop-read-preserved c =
+    let body = c.loop-read.body in
+    let rest = take_rest body c.loop-read.read in
+    let run = rw rest at c.run_len-plain.ensures in
+    let within = run.within in
+    let left = length-drop c.loop-read.read body in
+    rw c.copy_within.ensures.after
+    (decoding_run c.args.place c.loop-read.read c.loop-read.written c.run_len-plain.result c.args.body.now body c.loop-read.invariant (omega (arith, c.loop-read-test.true)) run.none)
 
 pub overflow_add-read-then-body-read-eq92 : goal.overflow_add-read-then-body-read-eq92
 overflow_add-read-then-body-read-eq92 c =

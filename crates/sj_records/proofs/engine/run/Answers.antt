@@ -1,12 +1,12 @@
 use Rattle.std.proofs.Common.{ℕ, subst}
 use Rattle.sj_records.specs.Job.{job_of}
-use Rattle.sj_records.specs.Run.{Transfers, Leaves}
+use Rattle.sj_records.specs.Run.{Transfers, LeavesOutput}
 use Rattle.sj_records.proofs.engine.run.Goals as goal
 
 pub returns-clause-stands : goal.returns-clause-stands
 returns-clause-stands g c =
     subst (λ (limit : ℕ). Transfers (g.R.Source.remaining c.args.reader.now) (g.R.Source.remaining c.run_with.new.reader) (g.W.Sink.contents c.args.writer.now) (g.W.Sink.contents c.run_with.new.writer)
-    (Leaves c.run_with.result (job_of c.args.script.now limit c.args.form)))
+    (LeavesOutput c.run_with.result (job_of c.args.script.now limit c.args.form)))
     c.in_ok-buffers.ensures.limit c.run_with.ensures.stands
 
 pub returns-clause-reads : goal.returns-clause-reads

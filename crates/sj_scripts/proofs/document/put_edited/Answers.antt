@@ -1,7 +1,7 @@
 use Rattle.std.proofs.Common.{List, ℕ, ap, subst, rules}
 use Rattle.sj_base.specs.Text.{text}
 use Rattle.sj_owned.specs.Views.{value_tree}
-use Rattle.sj_scripts.specs.Script.{AppendsOrLeaves}
+use Rattle.sj_base.specs.Output.{AppendsOrLeaves}
 use Rattle.sj_scripts.specs.Step.{reply_of}
 use Rattle.sj_scripts.proofs.Settled.{shown_trees}
 use Rattle.sj_scripts.proofs.document.put_edited.Goals as goal

@@ -1,20 +1,14 @@
-use Rattle.std.proofs.lemmas.Result.{on_ok_weaker, on_err_weaker}
+use Rattle.std.proofs.lemmas.Result.{err_from_is_err_and}
 use Rattle.sj_base.specs.Text.{quoted}
 use Rattle.sj_base.specs.Layout.{colon}
-use Rattle.sj_base.proofs.Prints.{on_err}
+use Rattle.sj_base.proofs.Prints.{prints_behind}
 use Rattle.sj_base.proofs.layout.Layout.print_key.Goals as goal
 
-pub returns-in_err-print_string-clause-err : goal.returns-in_err-print_string-clause-err
-returns-in_err-print_string-clause-err g c =
+pub returns-in_err-print_string : goal.returns-in_err-print_string
+returns-in_err-print_string g c =
     let l = g.met.O.Output.laws in
-    on_err c.from_residual.result (l.before _ _ (quoted c.args.key.now) (colon c.args.self) c.in_err-print_string.ensures.err)
+    rw (err_from_is_err_and c.from_residual.result c.from_residual.ensures.1).1 (l.before _ _ (quoted c.args.key.now) (colon c.args.self) c.in_err-print_string.ensures)
 
-pub returns-clause-ok : goal.returns-clause-ok
-returns-clause-ok g c =
-    let l = g.met.O.Output.laws in
-    on_ok_weaker c.print_colon.result (λ k. l.then _ _ _ (quoted c.args.key.now) (colon c.args.self) c.in_ok-print_string.ensures.ok k) c.print_colon.ensures.ok
-
-pub returns-clause-err : goal.returns-clause-err
-returns-clause-err g c =
-    let l = g.met.O.Output.laws in
-    on_err_weaker c.print_colon.result (λ k. l.fails _ _ _ (quoted c.args.key.now) (colon c.args.self) c.in_ok-print_string.ensures.ok k) c.print_colon.ensures.err
+pub returns : goal.returns
+returns g c =
+    prints_behind g.met.O.Output.laws c.print_colon.result _ _ _ (quoted c.args.key.now) (colon c.args.self) c.in_ok-print_string.ensures c.print_colon.ensures

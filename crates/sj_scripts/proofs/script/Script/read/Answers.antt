@@ -5,15 +5,15 @@ use Rattle.sj_scripts.specs.declared.script.ScriptFault.{ScriptFault}
 use Rattle.sj_scripts.specs.declared.script.ScriptFault.TheVariants.{Json, NotAnArray, Command, Memory}
 use Rattle.sj_scripts.specs.Command.{Step, Refusal, commands_in}
 use Rattle.sj_scripts.specs.Script.{IsReadAs, IsRefusedAs, script_limit}
-use Rattle.sj_scripts.specs.inside.ReadErrors.{IsRefusalOf, IsKept}
+use Rattle.sj_scripts.specs.inside.ReadErrors.{IsRefusalOf, IsReadTree}
 use Rattle.sj_scripts.specs.Values.{document_tree}
 use Rattle.sj_scripts.proofs.script.Script.read.Goals as goal
 
 -- what is read of a kept tree is read of the tree
-read_as : (bytes : List ℕ) (u : Tree) (r : Result (List Step) Refusal) → IsKept bytes script_limit u → commands_in u ≡ r → IsReadAs bytes r
+read_as : (bytes : List ℕ) (u : Tree) (r : Result (List Step) Refusal) → IsReadTree bytes script_limit u → commands_in u ≡ r → IsReadAs bytes r
 read_as bytes u r kept read = inl (kept.0, kept.1, sym read ∙ ap commands_in kept.2)
 
-refused_as : (e : ScriptFault) (bytes : List ℕ) (u : Tree) → IsKept bytes script_limit u → IsRefusalOf e (commands_in u) → IsRefusedAs e bytes
+refused_as : (e : ScriptFault) (bytes : List ℕ) (u : Tree) → IsReadTree bytes script_limit u → IsRefusalOf e (commands_in u) → IsRefusedAs e bytes
 refused_as (Json e) bytes u kept read = absurd read
 refused_as NotAnArray bytes u kept read = read_as bytes u _ kept read
 refused_as (Command place fault) bytes u kept read = read_as bytes u _ kept read

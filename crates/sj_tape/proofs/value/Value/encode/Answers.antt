@@ -1,4 +1,4 @@
 use Rattle.sj_tape.proofs.value.Value.encode.Goals as goal
 
-pub returns-clause-ok : goal.returns-clause-ok
-returns-clause-ok c = c.append.ensures.ok
+pub returns : goal.returns
+returns c = c.append.ensures

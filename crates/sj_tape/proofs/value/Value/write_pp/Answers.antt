@@ -1,7 +1,4 @@
 use Rattle.sj_tape.proofs.value.Value.write_pp.Goals as goal
 
-pub returns-clause-ok : goal.returns-clause-ok
-returns-clause-ok g c = c.print.ensures.ok
-
-pub returns-clause-err : goal.returns-clause-err
-returns-clause-err g c = c.print.ensures.err
+pub returns : goal.returns
+returns g c = c.print.ensures
