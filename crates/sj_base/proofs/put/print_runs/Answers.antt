@@ -2,7 +2,6 @@ use Rattle.std.proofs.Common.{List, ℕ, [], ◌++◌, flat_map, ap}
 use Rattle.std.proofs.lemmas.Result.{err_from_is_err_and}
 use Rattle.sj_base.specs.Text.{escaped}
 use Rattle.sj_base.proofs.Blocks.{run_first, none_left}
-use Rattle.sj_base.proofs.Prints.{prints_behind}
 use Rattle.sj_base.proofs.Towards.{same_left, step, fault}
 use Rattle.sj_base.proofs.put.print_runs.Goals as goal
 
