@@ -1,13 +1,15 @@
-use Rattle.std.proofs.Common.{◌≡◌, ◌++◌, ◌∙◌, ◌-◌, refl, sym, ap, List, ℕ, arith}
+use Rattle.std.proofs.Common.{◌≡◌, ◌+◌, ◌++◌, ◌∙◌, ◌-◌, refl, sym, ap, List, ℕ, arith}
 use Rattle.std.specs.Prelude.{◌∷◌, length, take, drop, true}
 use Rattle.std.specs.Str.{all_ascii_digits}
 use Rattle.sj_base.specs.Number.{minus}
 use Rattle.std.proofs.lemmas.List.{take_rest}
-use Rattle.sj_base.specs.NumberTests.{is_negative, is_whole}
+use Rattle.sj_base.specs.NumberTests.{is_negative, is_whole, is_decimal}
 use Rattle.sj_base.proofs.Literals.{sign_parts, front_digits-all}
 use Rattle.sj_parse.specs.Atoms.{ends_word}
+use Rattle.sj_parse.specs.Token.{word}
 use Rattle.sj_parse.proofs.PlainNumbers.{plain_whole, plain_decimal}
 use Rattle.sj_parse.proofs.numbers.plain_number.Goals as goal
+use Rattle.sj_parse.proofs.numbers.plain_number.Goals.{Then-ends_word-2}
 
 pub returns-then-ends_word-clause-word : goal.returns-then-ends_word-clause-word
 returns-then-ends_word-clause-word c =
@@ -20,8 +22,11 @@ returns-then-ends_word-clause-word c =
 pub is_whole-requires : goal.is_whole-requires
 is_whole-requires c = ap all_ascii_digits (c.split_at.ensures.front ∙ c.digits_len-whole.ensures.digits) ∙ front_digits-all c.split_minus.result.1.now
 
-pub returns-then-ends_word-2-clause-word : goal.returns-then-ends_word-2-clause-word
-returns-then-ends_word-2-clause-word c =
+-- The number with a fraction is the whole word, and a decimal literal.
+word_found : (c : Then-ends_word-2)
+    → (take (length c.args.bytes.now - length c.split_minus.result.1.now + c.digits_len-whole.result + 1 + c.digits_len-places.result) c.args.bytes.now ≡ word c.args.bytes.now)
+    × (is_decimal (word c.args.bytes.now) ≡ true)
+word_found c =
     let bytes = c.args.bytes.now in
     let m = c.split_minus.result.1.now in
     let f = c.in-Some-eq46-default.fraction.now in
@@ -29,15 +34,10 @@ returns-then-ends_word-2-clause-word c =
     let point : drop c.digits_len-whole.result m ≡ 0x2e ∷ f = sym c.split_at.ensures.back ∙ c.in-Some-eq46-default.ensures.cases.0 ∙ ap (λ b. b ∷ f) c.in-Some-eq46-default.field-0-0-test in
     let whole : is_whole (take c.digits_len-whole.result m) ≡ true = ap is_whole (sym c.split_at.ensures.front) ∙ sym c.is_whole.ensures ∙ c.if-is_whole.true in
     let ends : ends_word (drop c.digits_len-places.result f) ≡ true = ap ends_word (sym (take_rest f c.digits_len-places.result)) ∙ sym c.ends_word-then-is_whole.ensures ∙ c.if-ends_word-2.true in
-    (plain_decimal bytes (is_negative bytes) m (length bytes - length m) c.digits_len-whole.result c.digits_len-places.result f parts refl c.digits_len-whole.ensures.within c.digits_len-whole.ensures.digits point c.digits_len-places.ensures.within c.digits_len-places.ensures.digits (omega (arith, c.if-places-gt0.true)) whole ends).0
+    plain_decimal bytes (is_negative bytes) m (length bytes - length m) c.digits_len-whole.result c.digits_len-places.result f parts refl c.digits_len-whole.ensures.within c.digits_len-whole.ensures.digits point c.digits_len-places.ensures.within c.digits_len-places.ensures.digits (omega (arith, c.if-places-gt0.true)) whole ends
+
+pub returns-then-ends_word-2-clause-word : goal.returns-then-ends_word-2-clause-word
+returns-then-ends_word-2-clause-word c = (word_found c).0
 
 pub returns-then-ends_word-2-clause-decimal : goal.returns-then-ends_word-2-clause-decimal
-returns-then-ends_word-2-clause-decimal c = λ is.
-    let bytes = c.args.bytes.now in
-    let m = c.split_minus.result.1.now in
-    let f = c.in-Some-eq46-default.fraction.now in
-    let parts = sign_parts bytes ∙ ap (λ (xs : List ℕ). minus (is_negative bytes) ++ xs) (sym c.split_minus.ensures.magnitude) in
-    let point : drop c.digits_len-whole.result m ≡ 0x2e ∷ f = sym c.split_at.ensures.back ∙ c.in-Some-eq46-default.ensures.cases.0 ∙ ap (λ b. b ∷ f) c.in-Some-eq46-default.field-0-0-test in
-    let whole : is_whole (take c.digits_len-whole.result m) ≡ true = ap is_whole (sym c.split_at.ensures.front) ∙ sym c.is_whole.ensures ∙ c.if-is_whole.true in
-    let ends : ends_word (drop c.digits_len-places.result f) ≡ true = ap ends_word (sym (take_rest f c.digits_len-places.result)) ∙ sym c.ends_word-then-is_whole.ensures ∙ c.if-ends_word-2.true in
-    (plain_decimal bytes (is_negative bytes) m (length bytes - length m) c.digits_len-whole.result c.digits_len-places.result f parts refl c.digits_len-whole.ensures.within c.digits_len-whole.ensures.digits point c.digits_len-places.ensures.within c.digits_len-places.ensures.digits (omega (arith, c.if-places-gt0.true)) whole ends).1
+returns-then-ends_word-2-clause-decimal c = λ is. (word_found c).1
