@@ -1,13 +1,9 @@
 -- Steps of printing line breaks and strings.
-use Rattle.std.proofs.Common.{◌≡◌, ℕ, ◌+◌, ◌-◌, ◌*◌, ◌<◌, List, [], ◌∷◌, ◌++◌, take, drop, flat_map, replicate, Result, Ok, Err, OnErr, ap, sym, ◌∙◌, arith}
+use Rattle.std.proofs.Common.{◌≡◌, ℕ, ◌+◌, ◌-◌, ◌*◌, ◌<◌, List, [], ◌∷◌, ◌++◌, take, drop, flat_map, replicate, Result, Ok, Err, ap, sym, ◌∙◌, arith}
 use Rattle.std.proofs.lemmas.List.{replicate-append-replicate, take-append-drop}
 use Rattle.std.proofs.lemmas.List.Concat.{flat_map-append}
 use Rattle.sj_base.specs.Output.{Continues, Prints}
 use Rattle.sj_base.specs.Text.{escaped}
-
-pub on_err : {T E : Type 0} (r : Result T E) {P : Type 0} → P → OnErr r P
-on_err (Ok x) p = tt
-on_err (Err e) p = p
 
 -- Bytes are printed behind others that were appended.
 pub prints_behind : {S X E : Type 0} {A B : S → S → List ℕ → Type 0} → Continues A B → (r : Result X E) (s t u : S) (xs ys : List ℕ) → A s t xs → Prints A B r t u ys → Prints A B r s u (xs ++ ys)

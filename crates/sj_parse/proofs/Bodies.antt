@@ -5,11 +5,11 @@ use Rattle.std.proofs.lemmas.List.{get_or-drop}
 use Rattle.sj_base.specs.declared.error.ErrorType.{ErrorType}
 use Rattle.sj_parse.specs.declared.stop.Stop.{Stop}
 use Rattle.sj_parse.specs.Escapes.{stop, escape, past_escape, bad_escape, bad_escape_behind}
-use Rattle.std.specs.Prelude.{◌==◌, ◌||◌, if◌then◌else◌, slice_index}
+use Rattle.std.specs.Prelude.{◌==◌, if◌then◌else◌, slice_index}
 use Rattle.std.proofs.Math.Seq.{take-suc, drop-cons, drop-length}
-use Rattle.sj_scan.specs.Positions.{is_odd, is_whitespace, is_operator, backslashes, is_real_quote}
+use Rattle.sj_scan.specs.Positions.{is_odd, backslashes, is_real_quote}
 use Rattle.sj_scan.proofs.States.{is_odd-run}
-use Rattle.sj_parse.specs.Token.{word, body}
+use Rattle.sj_parse.specs.Token.{body}
 use Rattle.sj_parse.specs.inside.Step.{string_body, IsPlain, StopsAt}
 
 -- the bytes up to a quote that isn't escaped; the flag says whether the first byte is escaped
@@ -46,30 +46,6 @@ body-end bytes i e h ends so_far =
 pub body-all : (bytes : List ℕ) (i : ℕ) (e : Bool) → i ≡ length bytes → string_body bytes ≡ take i bytes ++ body_from e (drop i bytes) → take i bytes ≡ string_body bytes
 body-all bytes i e is so_far =
     sym (so_far ∙ ap (λ (ys : List ℕ). take i bytes ++ body_from e ys) (ap (λ (k : ℕ). drop k bytes) is ∙ drop-length bytes) ∙ append-nil (take i bytes))
-
--- one more byte of a word, or its end
-pub word-more : (bytes : List ℕ) (i : ℕ) → i < length bytes → (is_whitespace (slice_index bytes i) || is_operator (slice_index bytes i)) ≡ false → word bytes ≡ take i bytes ++ word (drop i bytes) → word bytes ≡ take (i + 1) bytes ++ word (drop (i + 1) bytes)
-word-more bytes i h goes_on so_far =
-    let b = slice_index bytes i in
-    let next = word (drop (suc i) bytes) in
-    so_far
-    ∙ ap (λ (ys : List ℕ). take i bytes ++ word ys) (drop-cons bytes i 0 h)
-    ∙ ap (λ (stop : Bool). take i bytes ++ (if stop then [] else b ∷ next)) goes_on
-    ∙ sym (append_assoc (take i bytes) (b ∷ []) next)
-    ∙ ap (λ (ys : List ℕ). ys ++ next) (sym (take-suc bytes i 0 h))
-    ∙ ap (λ (k : ℕ). take k bytes ++ word (drop k bytes)) (sym (add-one i))
-
-pub word-end : (bytes : List ℕ) (i : ℕ) → i < length bytes → (is_whitespace (slice_index bytes i) || is_operator (slice_index bytes i)) ≡ true → word bytes ≡ take i bytes ++ word (drop i bytes) → take i bytes ≡ word bytes
-word-end bytes i h ends so_far =
-    let b = slice_index bytes i in
-    sym (so_far
-    ∙ ap (λ (ys : List ℕ). take i bytes ++ word ys) (drop-cons bytes i 0 h)
-    ∙ ap (λ (stop : Bool). take i bytes ++ (if stop then [] else b ∷ word (drop (suc i) bytes))) ends
-    ∙ append-nil (take i bytes))
-
-pub word-all : (bytes : List ℕ) (i : ℕ) → i ≡ length bytes → word bytes ≡ take i bytes ++ word (drop i bytes) → take i bytes ≡ word bytes
-word-all bytes i is so_far =
-    sym (so_far ∙ ap (λ (ys : List ℕ). take i bytes ++ word ys) (ap (λ (k : ℕ). drop k bytes) is ∙ drop-length bytes) ∙ append-nil (take i bytes))
 
 -- a body is the front of what stands behind the quote
 front_if : (stop : Bool) (b : ℕ) (xs ys : List ℕ) → ((j : ℕ) → j < length xs → slice_index xs j ≡ slice_index ys j) → (i : ℕ) → i < length (if stop then [] else b ∷ xs) → slice_index (if stop then [] else b ∷ xs) i ≡ slice_index (b ∷ ys) i

@@ -27,7 +27,7 @@ pub(crate) fn number<'a>(text: &'a [u8]) -> Option<Node<'a>>
 }
 
 /// The length of the number that the bytes begin with, and whether it has a fraction, if it stands as a whole word and has no
-/// exponent. Of an integer not even the digits are looked at again, so its word may be no number.
+/// exponent. A number with a fraction is tested. An integer is not: `01` and `-` are found too.
 #[inline(always)]
 pub(crate) fn plain_number(bytes: &[u8]) -> Option<(usize, bool)>
     ensures within { IfSome result (λ p. p.0 ≤ length bytes.now) }
