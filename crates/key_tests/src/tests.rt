@@ -14,7 +14,14 @@ use sj_reads::{ValueAsScalar, ValueGetScalar};
 use sj_values::{BorrowedValue, to_borrowed_value};
 use std::alloc::Global;
 use std::borrow::CowStr;
+use std::fmt::Debug;
+use std::process::Abort;
 use std::test::Fail;
+
+// Fails unless both are equal. It is proved once, and an `assert_eq!` with all that its test holds.
+fn expect_eq<T: PartialEq + Debug + Drop>(rt: &impl Abort, found: T, expected: T) {
+    assert_eq!(rt; found, expected);
+}
 
 // A write to a member, of which a caller knows what it leaves of any target.
 fn write<T: KnownKeyTargetMut>(target: &mut T, key: &KnownKey<'_>, value: T::Output)
@@ -59,16 +66,17 @@ fn lookup_or_insert(rt: HostRuntime) -> Result<(), Fail> {
     let mut document = to_borrowed_value(alloc, &mut text)?;
     for (key, value, wanted) in [("key", 2u64, 1), ("cake", 3, 3), ("cake", 4, 3)] {
         let found = number_at(alloc, &mut document, key, BorrowedValue::from(value))?;
-        assert_eq!(rt; found, Some(wanted));
+        expect_eq(&rt, found, Some(wanted));
     }
     let mut out = Vec::new(alloc);
     document.encode(&mut out)?;
-    assert_eq!(rt; out.as_slice(), br#"{"key":1,"cake":3}"#.as_slice());
+    expect_eq(&rt, out.as_slice(), br#"{"key":1,"cake":3}"#.as_slice());
     let mut null = BorrowedValue::null();
     let refused = number_at(alloc, &mut null, "key", BorrowedValue::from(true));
-    assert_eq!(rt;
+    expect_eq(
+        &rt,
         refused.err(),
-        Some(KnownKeyError::NotAnObject(ValueType::Null))
+        Some(KnownKeyError::NotAnObject(ValueType::Null)),
     );
     Ok(())
 }
@@ -85,7 +93,7 @@ fn keys(rt: HostRuntime) -> Result<(), Fail> {
     let (CowStr::Borrowed("Aa"), CowStr::Owned(text)) = (key.key(), owned.key()) else {
         return Err(Fail::new("another text"));
     };
-    assert_eq!(rt; text.as_str(), "Aa");
+    expect_eq(&rt, text.as_str(), "Aa");
     Ok(())
 }
 
@@ -97,13 +105,13 @@ fn written_members(rt: HostRuntime) -> Result<(), Fail> {
     let key = KnownKey::from("b");
     key.lookup(&document).ok_or("no member")?;
     write_document(&mut document, &key, BorrowedValue::from(3u8));
-    assert_eq!(rt; document.get_u64("b"), Some(3));
+    expect_eq(&rt, document.get_u64("b"), Some(3));
     *key.lookup_mut(&mut document).ok_or("no member")? = BorrowedValue::from(4u8);
-    assert_eq!(rt; document.get_u64("b"), Some(4));
+    expect_eq(&rt, document.get_u64("b"), Some(4));
     let members = document.as_object_mut().ok_or("no object")?;
     *key.map_lookup_mut(members).ok_or("no member")? = BorrowedValue::from(5u8);
     assert!(rt; KnownKey::from("c").map_lookup_mut(members).is_none());
-    assert_eq!(rt; document.get_u64("b"), Some(5));
+    expect_eq(&rt, document.get_u64("b"), Some(5));
     assert!(rt; key.lookup_mut(&mut BorrowedValue::from(true)).is_none());
     Ok(())
 }
@@ -124,20 +132,21 @@ fn inserted_members(rt: HostRuntime) -> Result<(), Fail> {
             .is_none()
     );
     let old = key.insert(alloc, &mut document, OwnedValue::from(2u8))?;
-    assert_eq!(rt; old.ok_or("no old value")?.as_u64(), Some(1));
+    expect_eq(&rt, old.ok_or("no old value")?.as_u64(), Some(1));
     let members = document.as_object_mut().ok_or("no object")?;
     let old = key.map_insert(alloc, members, OwnedValue::from(3u8))?;
-    assert_eq!(rt; old.ok_or("no old value")?.as_u64(), Some(2));
+    expect_eq(&rt, old.ok_or("no old value")?.as_u64(), Some(2));
     let mut out = Vec::new(alloc);
     document.encode(&mut out)?;
-    assert_eq!(rt; out.as_slice(), br#"{"b":3,"a":null}"#.as_slice());
+    expect_eq(&rt, out.as_slice(), br#"{"b":3,"a":null}"#.as_slice());
     let mut number = OwnedValue::from(7u8);
     let refused = key.insert(alloc, &mut number, OwnedValue::null());
-    assert_eq!(rt;
+    expect_eq(
+        &rt,
         refused.err(),
-        Some(KnownKeyError::NotAnObject(ValueType::U64))
+        Some(KnownKeyError::NotAnObject(ValueType::U64)),
     );
-    assert_eq!(rt; number.as_u64(), Some(7));
+    expect_eq(&rt, number.as_u64(), Some(7));
     Ok(())
 }
 
@@ -156,16 +165,16 @@ fn made_for_new_keys(rt: HostRuntime) -> Result<(), Fail> {
         match KnownKey::from(text).map_lookup_or_insert_mut(alloc, &mut object, with) {
             Ok(found) => {
                 let wanted = if text == "key" { 1 } else { 2 };
-                assert_eq!(rt; *found, wanted);
+                expect_eq(&rt, *found, wanted);
             }
             Err(error) => {
-                assert_eq!(rt; error, KnownKeyError::Memory);
-                assert_eq!(rt; (calls, object.len()), before);
+                expect_eq(&rt, error, KnownKeyError::Memory);
+                expect_eq(&rt, (calls, object.len()), before);
                 return Err(Fail::new("no memory"));
             }
         }
     }
-    assert_eq!(rt; (calls, object.len()), (2, 2));
+    expect_eq(&rt, (calls, object.len()), (2, 2));
     Ok(())
 }
 
@@ -175,7 +184,7 @@ fn shown_errors(rt: HostRuntime) -> Result<(), Fail> {
         (KnownKeyError::NotAnObject(ValueType::Array), "NotAnObject"),
         (KnownKeyError::Memory, "Memory"),
     ] {
-        assert_eq!(rt; error.to_string(rt.alloc())?.as_str(), text);
+        expect_eq(&rt, error.to_string(rt.alloc())?.as_str(), text);
     }
     Ok(())
 }

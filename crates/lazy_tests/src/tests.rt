@@ -9,6 +9,7 @@ use sj_values::{BorrowedValue, to_borrowed_value};
 use std::alloc::{AllocError, Global};
 use std::borrow::CowStr;
 use std::collections::HashMap;
+use std::fmt::Debug;
 use std::process::Abort;
 use std::test::Fail;
 
@@ -24,6 +25,11 @@ fn lazy<'t, 'i>(tape: &'t Tape<'i>) -> Result<Value<'t, 't, 'i>, Fail> {
     Ok(Value::from_tape(tape.as_value()))
 }
 
+// Fails unless both are equal. It is proved once, and an `assert_eq!` with all that its test holds.
+fn expect_eq<T: PartialEq + Debug + Drop>(rt: &impl Abort, found: T, expected: T) {
+    assert_eq!(rt; found, expected);
+}
+
 fn expect_text(
     rt: &impl Abort,
     alloc: Global,
@@ -32,8 +38,7 @@ fn expect_text(
 ) -> Result<(), AllocError> {
     let mut out = Vec::new(alloc);
     value.encode(&mut out)?;
-    let shown = std::str::from_utf8(&out);
-    assert_eq!(rt; shown, Ok(text));
+    assert_eq!(rt; out.as_slice(), text.as_bytes());
     Ok(())
 }
 
@@ -43,12 +48,12 @@ fn upgrade_on_insert(rt: HostRuntime) -> Result<(), Fail> {
     let mut text = bytes(alloc, r#"{"key": "value", "snot": 42}"#)?;
     let tape = to_tape(alloc, &mut text)?;
     let mut value = lazy(&tape)?;
-    assert_eq!(rt; value.get_str("key"), Some("value"));
+    expect_eq(&rt, value.get_str("key"), Some("value"));
     assert!(rt; value.is_tape() && !value.is_value());
     value.insert(alloc, CowStr::Borrowed("new"), BorrowedValue::from(42u64))?;
     assert!(rt; value.is_value() && !value.is_tape());
-    assert_eq!(rt; value.get_str("key"), Some("value"));
-    assert_eq!(rt; value.get_u64("new"), Some(42));
+    expect_eq(&rt, value.get_str("key"), Some("value"));
+    expect_eq(&rt, value.get_u64("new"), Some(42));
     expect_text(&rt, alloc, &value, r#"{"key":"value","snot":42,"new":42}"#)?;
     Ok(())
 }
@@ -59,21 +64,21 @@ fn typed_reads(rt: HostRuntime) -> Result<(), Fail> {
     let mut text = bytes(alloc, r#"{"snot": 1, "badger":[2, 2.5]}"#)?;
     let tape = to_tape(alloc, &mut text)?;
     let value = lazy(&tape)?;
-    assert_eq!(rt; value.get_u64("snot"), Some(1));
-    assert_eq!(rt; value.get_i8("badger"), None);
+    expect_eq(&rt, value.get_u64("snot"), Some(1));
+    expect_eq(&rt, value.get_i8("badger"), None);
     let number_met = TryTypeError {
         expected: ValueType::String,
         got: ValueType::U64,
     };
-    assert_eq!(rt; value.try_get_str("snot"), Err(number_met));
-    assert_eq!(rt; value.try_get_bool("x"), Ok(None));
+    expect_eq(&rt, value.try_get_str("snot"), Err(number_met));
+    expect_eq(&rt, value.try_get_bool("x"), Ok(None));
     let mut text = bytes(alloc, "[]")?;
     let tape = to_tape(alloc, &mut text)?;
     let array_met = TryTypeError {
         expected: ValueType::Object,
         got: ValueType::Array,
     };
-    assert_eq!(rt; lazy(&tape)?.try_get_bool("x"), Err(array_met));
+    expect_eq(&rt, lazy(&tape)?.try_get_bool("x"), Err(array_met));
     Ok(())
 }
 
@@ -87,17 +92,15 @@ fn refused_writes(rt: HostRuntime) -> Result<(), Fail> {
     assert!(rt; value.is_value());
     assert!(rt; value.as_object_mut(alloc)?.is_none());
     assert!(rt; value.get_mut(alloc, "a")?.is_none() && value.get_idx_mut(alloc, 0)?.is_none());
-    assert_eq!(rt;
-        value.remove(alloc, "a").err(),
-        Some(AccessError::NotAnObject)
-    );
-    assert_eq!(rt; value.pop(alloc).err(), Some(AccessError::NotAnArray));
+    let refused = value.remove(alloc, "a").err();
+    expect_eq(&rt, refused, Some(AccessError::NotAnObject));
+    expect_eq(&rt, value.pop(alloc).err(), Some(AccessError::NotAnArray));
     let mut text = bytes(alloc, r#"{"a":1,"a":2}"#)?;
     let tape = to_tape(alloc, &mut text)?;
     let mut value = lazy(&tape)?;
     expect_text(&rt, alloc, &value, r#"{"a":1,"a":2}"#)?;
     let pushed = value.push(alloc, BorrowedValue::from(0u64));
-    assert_eq!(rt; pushed, Err(AccessError::NotAnArray));
+    expect_eq(&rt, pushed, Err(AccessError::NotAnArray));
     expect_text(&rt, alloc, &value, r#"{"a":1}"#)?;
     Ok(())
 }
@@ -123,10 +126,10 @@ fn borrowed_document(rt: HostRuntime) -> Result<(), Fail> {
     let document = to_borrowed_value(alloc, &mut text)?;
     let mut value = Value::Value(Held::Borrowed(&document));
     let inside = value.get_array("a").ok_or("no array")?;
-    assert_eq!(rt; inside.len(), 2);
+    expect_eq(&rt, inside.len(), 2);
     let string = value.get("s").ok_or("no member")?;
     let copied = string.into_string()?.ok_or("no string")?;
-    assert_eq!(rt; copied.as_str(), "x");
+    expect_eq(&rt, copied.as_str(), "x");
     value.remove(alloc, "a")?;
     expect_text(&rt, alloc, &value, r#"{"s":"x"}"#)?;
     let whole = Value::Value(Held::Borrowed(&document));
@@ -146,7 +149,7 @@ fn writes_to_items(rt: HostRuntime) -> Result<(), Fail> {
     value.push(alloc, BorrowedValue::null())?;
     assert!(rt; value.pop(alloc)?.ok_or("no item")?.is_null());
     let item = value.get_idx_mut(alloc, 1)?.ok_or("no item")?;
-    assert_eq!(rt; item.remove("b")?.ok_or("no member")?.as_u64(), Some(2));
+    expect_eq(&rt, item.remove("b")?.ok_or("no member")?.as_u64(), Some(2));
     expect_text(&rt, alloc, &value, "[1,{}]")?;
     value.as_array_mut(alloc)?.ok_or("no array")?.clear();
     expect_text(&rt, alloc, &value, "[]")?;
@@ -167,7 +170,7 @@ fn writes_to_members(rt: HostRuntime) -> Result<(), Fail> {
     let Ok(document) = value.into_value(alloc) else {
         return Err(Fail::new("no document"));
     };
-    assert_eq!(rt; document.get_bool("k"), Some(true));
+    expect_eq(&rt, document.get_bool("k"), Some(true));
     Ok(())
 }
 
@@ -187,7 +190,7 @@ fn copies(rt: HostRuntime) -> Result<(), Fail> {
     assert!(rt; kept.is_tape());
     let mut out = Vec::new(alloc);
     kept.get("o").ok_or("no member")?.encode_pp(&mut out)?;
-    assert_eq!(rt; out.as_slice(), b"{\n  \"k\": null\n}".as_slice());
+    expect_eq(&rt, out.as_slice(), b"{\n  \"k\": null\n}".as_slice());
     Ok(())
 }
 
@@ -285,16 +288,16 @@ fn shown_values(rt: HostRuntime) -> Result<(), Fail> {
         let mut text = bytes(alloc, json)?;
         let tape = to_tape(alloc, &mut text)?;
         let mut value = lazy(&tape)?;
-        assert_eq!(rt; value.to_string(alloc)?.as_str(), shown);
+        expect_eq(&rt, value.to_string(alloc)?.as_str(), shown);
         value.value_mut(alloc)?;
-        assert_eq!(rt; value.to_string(alloc)?.as_str(), shown);
+        expect_eq(&rt, value.to_string(alloc)?.as_str(), shown);
     }
     let mut text = bytes(alloc, r#"{"a": 1, "a": 2}"#)?;
     let tape = to_tape(alloc, &mut text)?;
     let mut value = lazy(&tape)?;
-    assert_eq!(rt; value.to_string(alloc)?.as_str(), r#"{"a":1,"a":2}"#);
+    expect_eq(&rt, value.to_string(alloc)?.as_str(), r#"{"a":1,"a":2}"#);
     value.value_mut(alloc)?;
-    assert_eq!(rt; value.to_string(alloc)?.as_str(), r#"{"a":1}"#);
-    assert_eq!(rt; Value::null().to_string(alloc)?.as_str(), "null");
+    expect_eq(&rt, value.to_string(alloc)?.as_str(), r#"{"a":1}"#);
+    expect_eq(&rt, Value::null().to_string(alloc)?.as_str(), "null");
     Ok(())
 }

@@ -1,5 +1,5 @@
 -- What the words of the command line ask for.
-use Rattle.std.specs.Prelude.{◌≡◌, ◌≢◌, ◌⊎◌, ◌<◌, ◌^◌, ℕ, true, codes, List, [], ◌∷◌, Option, Some, None, Result, Ok, Err, cond, option_and_then, bytes_eq, ⊤}
+use Rattle.std.specs.Prelude.{◌≡◌, ◌≢◌, ◌⊎◌, ◌<◌, ◌^◌, ℕ, true, codes, List, [], ◌∷◌, Option, Some, None, option_and_then, bytes_eq, if◌then◌else◌}
 use Rattle.std.specs.Str.Parse.{IsNumeral, digits_value, without_leading_plus}
 use Rattle.clap.specs.Words.{App, Kinds, IsAmong, first_of, new_app, new_rule, with_rule, matches_of, fault_of}
 use Rattle.clap.specs.Walk.{Row, Rule}
@@ -9,11 +9,7 @@ use Rattle.clap.specs.declared.error.kind.ErrorKind.{ErrorKind}
 use Rattle.clap.specs.declared.error.kind.ErrorKind.TheVariants.{DisplayHelp}
 use Rattle.sj_records.specs.declared.form.Form.{Form}
 use Rattle.sj_records.specs.declared.form.Form.TheVariants.{Owned, Borrowed, Lazy}
-use Rattle.records_program.specs.declared.arguments.Arguments.{Arguments}
-use Rattle.records_program.specs.declared.arguments.Arguments.TheVariants.{Run, Help}
 use Rattle.records_program.specs.declared.arguments.RunArguments.{RunArguments}
-use Rattle.records_program.specs.declared.fault.Fault.{Fault}
-use Rattle.records_program.specs.declared.fault.Fault.TheVariants as faults
 
 -- the arguments `[--form FORM] [--depth LEVELS] SCRIPT`, with the words that stand for those which aren't given
 abbrev pub form_rule : Rule
@@ -39,7 +35,10 @@ rows_in words = matches_of app words
 
 -- the form with this name
 abbrev pub form_named : List ℕ → Option Form
-form_named name = cond (bytes_eq name (codes "owned")) (Some Owned) (cond (bytes_eq name (codes "borrowed")) (Some Borrowed) (cond (bytes_eq name (codes "lazy")) (Some Lazy) None))
+form_named name =
+    if bytes_eq name (codes "owned") then Some Owned else
+    if bytes_eq name (codes "borrowed") then Some Borrowed else
+    if bytes_eq name (codes "lazy") then Some Lazy else None
 
 -- The text is this number in decimal. A plus may stand first.
 abbrev pub IsNumber : List ℕ → ℕ → Type 0
@@ -63,14 +62,3 @@ AskForHelp words = IsAmong DisplayHelp (kinds_of words)
 abbrev pub AreRefused : List (List ℕ) → Type 0
 AreRefused words = ((kind : ErrorKind) × (kind ≢ DisplayHelp) × IsAmong kind (kinds_of words))
     ⊎ ((kinds_of words ≡ []) × ((run : RunArguments) → Hold (rows_in words) run → ⊥))
-
--- What the words are parsed as. Any allocation may fail.
-abbrev pub AreParsedAs : List (List ℕ) → Result Arguments Fault → Type 0
-AreParsedAs words (Ok (Run run)) = AskForRun words run
-AreParsedAs words (Ok (Help text)) = AskForHelp words
-AreParsedAs words (Err (faults.Arguments text)) = AreRefused words
-AreParsedAs words (Err faults.Memory) = ⊤
-AreParsedAs words (Err faults.Read) = ⊥
-AreParsedAs words (Err faults.Write) = ⊥
-AreParsedAs words (Err faults.Unreadable) = ⊥
-AreParsedAs words (Err (faults.Script line)) = ⊥

@@ -1,5 +1,5 @@
 -- What stands when the program ends: on its output, and on `faults`.
-use Rattle.std.specs.Prelude.{◌≡◌, ◌≢◌, ◌⊎◌, ℕ, List, [], Option, Result, Ok, Err, OnOk, Vec, ⊤}
+use Rattle.std.specs.Prelude.{◌≡◌, ◌≢◌, ◌⊎◌, ℕ, List, [], Option, Result, Ok, Err, OnOk, Vec}
 use Rattle.std.specs.Io.KnownBytes.{Appends, IsAtEnd, Keeps}
 use Rattle.std.specs.declared.alloc.Global.{Global}
 use Rattle.sj_base.specs.Calls.{Calls}
@@ -7,10 +7,9 @@ use Rattle.sj_base.specs.Output.{AppendsPrefix, WritesAll, WritesPrefix}
 use Rattle.sj_scripts.specs.Command.{Step}
 use Rattle.sj_scripts.specs.Step.{Job}
 use Rattle.sj_records.specs.Record.{IsOutput}
-use Rattle.sj_records.specs.Run.{Transfers, LeavesOutput, RecordsOfSome, RecordsOfEnded, RecordsPrefix}
+use Rattle.sj_records.specs.Run.{Transfers, RecordsOfSome, RecordsOfEnded, RecordsPrefix}
 use Rattle.sj_records.specs.Job.{keeping_of}
 use Rattle.sj_scripts.specs.Script.{IsReadAs, IsRefusedAs}
-use Rattle.sj_records.specs.declared.run_error.RunError.{RunError}
 use Rattle.sj_scripts.specs.declared.script.ScriptFault.{ScriptFault}
 use Rattle.sj_scripts.specs.declared.script.ScriptFault.TheVariants.{Memory as NoMemory}
 use Rattle.records_program.specs.Arguments.{AskForRun, AskForHelp, AreRefused}
@@ -27,10 +26,6 @@ use Rattle.records_program.specs.declared.fault.Fault.TheVariants.{Memory, Read,
 abbrev pub ReadsAndWrites : Option (List ℕ) → Option (List ℕ) → Option (List ℕ) → {E : Type 0} → Result Unit E → (List ℕ → List ℕ → Type 0) → Type 0
 ReadsAndWrites unread held_old held_new result P =
     (left : Option (List ℕ)) × Transfers unread left held_old held_new P × OnOk result (IsAtEnd left)
-
--- What a run leaves.
-abbrev pub RunLeaves : Option (List ℕ) → Option (List ℕ) → Option (List ℕ) → Job → Result Unit RunError → Type 0
-RunLeaves unread held_old held_new job result = ReadsAndWrites unread held_old held_new result (LeavesOutput result job)
 
 -- What a run leaves, by the fault that it ends the program with. A flush that fails is a failed write.
 abbrev pub WrittenBy : Result Unit Fault → Job → List ℕ → List ℕ → Type 0
@@ -65,15 +60,6 @@ run_job run script = record { script = script; limit = run.depth; keeping = keep
 -- The bytes are refused as a script with this line.
 abbrev pub IsRefusedWith : List ℕ → List ℕ → Type 0
 IsRefusedWith line bytes = (fault : ScriptFault) × (fault ≢ NoMemory) × IsRefusedAs fault bytes × (line ≡ refusal_line fault)
-
--- The fault of such bytes, where memory suffices.
-abbrev pub RefusesBytes : List ℕ → Fault → Type 0
-RefusesBytes bytes (Script line) = IsRefusedWith line.items bytes
-RefusesBytes bytes Memory = ⊤
-RefusesBytes bytes Read = ⊥
-RefusesBytes bytes Write = ⊥
-RefusesBytes bytes (Arguments text) = ⊥
-RefusesBytes bytes Unreadable = ⊥
 
 -- The words ask for a run whose script is refused with this line.
 abbrev pub HasRefusal : Loads → List (List ℕ) → List ℕ → Type 0

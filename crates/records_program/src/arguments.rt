@@ -1,7 +1,8 @@
 //! The arguments of the command line.
 ghost use Rattle.std.specs.Prelude.{◌≡◌, IfOk, IfSome, List, [], ℕ, None, codes, false, map};
 ghost use Rattle.clap.specs.Words.{FailsBy, HasKind, app_of, found_of, new_app, rows_of, rule_of};
-ghost use Rattle.records_program.specs.Arguments.{AreParsedAs, Hold, app, depth_rule, form_named, form_rule, kinds_of, rows_in, script_rule};
+ghost use Rattle.records_program.specs.Arguments.{Hold, app, depth_rule, form_named, form_rule, kinds_of, rows_in, script_rule};
+ghost use Rattle.records_program.specs.inside.Parts.{AreParsedAs};
 
 use crate::fault::Fault;
 use clap::error::ErrorKind;

@@ -3,7 +3,8 @@ ghost use Rattle.std.specs.Prelude.{◌≡◌, ℕ, OnErr, OnOk};
 ghost use Rattle.std.specs.Io.KnownBytes.{Appends};
 ghost use Rattle.sj_base.specs.Output.{AppendsPrefix};
 ghost use Rattle.sj_scripts.specs.Steps.{steps_of};
-ghost use Rattle.records_program.specs.Program.{RunLeaves, run_job};
+ghost use Rattle.records_program.specs.Program.{run_job};
+ghost use Rattle.records_program.specs.inside.Parts.{RunLeaves};
 
 use crate::arguments::RunArguments;
 use sj_base::{Counted, Output, WriteFault};

@@ -6,7 +6,8 @@ ghost use Rattle.sj_base.specs.Output.{AppendsPrefix};
 ghost use Rattle.sj_scripts.specs.Steps.{steps_of};
 ghost use Rattle.sj_scripts.specs.Script.{IsReadAs};
 ghost use Rattle.records_program.specs.Fault.{exit_status, refusal_line, status_of};
-ghost use Rattle.records_program.specs.Program.{ProgramLeaves, Reports, RunEnds, RefusesBytes, run_job};
+ghost use Rattle.records_program.specs.Program.{ProgramLeaves, Reports, RunEnds, run_job};
+ghost use Rattle.records_program.specs.inside.Parts.{RefusesBytes};
 ghost use Rattle.records_program.specs.declared.fault.Fault.{Fault};
 
 use crate::arguments::{Arguments, RunArguments, parse_arguments};

@@ -11,7 +11,7 @@ use Rattle.sj_base.proofs.Kept.{list_parts, item_parts}
 use Rattle.sj_base.proofs.Trees.{only_trees}
 use Rattle.sj_base.proofs.Valid.{valid_when_kept}
 use Rattle.sj_scripts.specs.declared.script.CommandFault.{CommandFault}
-use Rattle.sj_scripts.specs.Command.{Step, get, contains, type_of, len, keys, insert, remove, push, pop, set_at, reload, reload_pp, ◌>>=◌, path_of, key_of, path_alone, path_and_key, path_and_value, path_key_value, nullary, named, command_of, placed, commands_from, commands_in}
+use Rattle.sj_scripts.specs.Command.{Step, get, contains, type_of, len, keys, insert, remove, push, pop, set_at, reload, reload_pp, ◌>>=◌, as_path, as_key, path_alone, path_and_key, path_and_value, path_key_value, nullary, named, command_of, with_index, commands_from, commands_in}
 use Rattle.sj_scripts.specs.Script.{IsAccepted}
 use Rattle.sj_scripts.proofs.Changes.{bind_ok, same_ok}
 
@@ -51,7 +51,7 @@ nullary_sound : (c : Step) (ts : Items) → Sound c → OkSound (nullary c ts)
 nullary_sound c no_items h = h
 nullary_sound c (item t ts) h = tt
 
-key_utf8 : (u : Tree) (k : List ℕ) → key_of u ≡ Ok k → IsValidTree u → IsUtf8 k
+key_utf8 : (u : Tree) (k : List ℕ) → as_key u ≡ Ok k → IsValidTree u → IsUtf8 k
 key_utf8 (string s) k e h = subst IsUtf8 (same_ok s k _ _ refl refl e) h
 key_utf8 null k e h = absurd cc
 key_utf8 (boolean b) k e h = absurd cc
@@ -64,7 +64,7 @@ good_value : (ts : Items) (a : List Part × Tree) → path_and_value ts ≡ Ok a
 good_value no_items a e h = absurd cc
 good_value (item t no_items) a e h = absurd cc
 good_value (item t (item u no_items)) a e h =
-    let path = bind_ok (path_of t) _ a e in
+    let path = bind_ok (as_path t) _ a e in
     let same : (path.0, u) ≡ a = same_ok _ a _ _ refl refl path.2 in
     subst (λ (a : List Part × Tree). Good a.1) same (good_item u no_items (good_item t (item u no_items) h).1).0
 good_value (item t (item u (item v ts))) a e h = absurd cc
@@ -74,8 +74,8 @@ good_key_value no_items a e h = absurd cc
 good_key_value (item t no_items) a e h = absurd cc
 good_key_value (item t (item u no_items)) a e h = absurd cc
 good_key_value (item t (item u (item v no_items))) a e h =
-    let path = bind_ok (path_of t) _ a e in
-    let key = bind_ok (key_of u) _ a path.2 in
+    let path = bind_ok (as_path t) _ a e in
+    let key = bind_ok (as_key u) _ a path.2 in
     let same : (path.0, key.0, v) ≡ a = same_ok _ a _ _ refl refl key.2 in
     let behind = good_item u (item v no_items) (good_item t (item u (item v no_items)) h).1 in
     subst (λ (a : List Part × List ℕ × Tree). IsUtf8 a.1 × Good a.2) same (key_utf8 u key.0 key.1 behind.0.1, (good_item v no_items behind.1).0)
@@ -113,18 +113,18 @@ command_sound (decimal literal) h = tt
 command_sound (string s) h = tt
 command_sound (object ms) h = tt
 
-placed_sound : (n : ℕ) (r : Result Step CommandFault) (c : Step) → OkSound r → placed n r ≡ Ok c → Sound c
-placed_sound n (Ok d) c h e = subst Sound (same_ok d c _ _ refl refl e) h
-placed_sound n (Err f) c h e = absurd cc
+with_index_sound : (n : ℕ) (r : Result Step CommandFault) (c : Step) → OkSound r → with_index n r ≡ Ok c → Sound c
+with_index_sound n (Ok d) c h e = subst Sound (same_ok d c _ _ refl refl e) h
+with_index_sound n (Err f) c h e = absurd cc
 
 commands_sound : (n : ℕ) (ts : Items) (cs : List Step) → Good (list ts) → commands_from n ts ≡ Ok cs → AllByRecursion Sound cs
 commands_sound n no_items cs h e = subst (λ (ds : List Step). AllByRecursion Sound ds) (same_ok [] cs _ _ refl refl e) tt
 commands_sound n (item t ts) cs h e =
     let both = good_item t ts h in
-    let first = bind_ok (placed n (command_of t)) _ cs e in
+    let first = bind_ok (with_index n (command_of t)) _ cs e in
     let rest = bind_ok (commands_from (suc n) ts) _ cs first.2 in
     let same : first.0 ∷ rest.0 ≡ cs = same_ok _ cs _ _ refl refl rest.2 in
-    subst (λ (ds : List Step). AllByRecursion Sound ds) same (placed_sound n (command_of t) first.0 (command_sound t both.0) first.1, commands_sound (suc n) ts rest.0 both.1 rest.1)
+    subst (λ (ds : List Step). AllByRecursion Sound ds) same (with_index_sound n (command_of t) first.0 (command_sound t both.0) first.1, commands_sound (suc n) ts rest.0 both.1 rest.1)
 
 script_sound : (t : Tree) (cs : List Step) → Good t → commands_in t ≡ Ok cs → AllByRecursion Sound cs
 script_sound (list ts) cs h e = commands_sound 0 ts cs h e

@@ -6,7 +6,7 @@ use Rattle.sj_base.specs.Tree.{Tree, depth}
 use Rattle.sj_base.specs.Path.{Part}
 use Rattle.sj_base.proofs.Depths.{depth_when_kept, depth_of_part, depth_when_put, depth_with_member, depth_when_dropped, depth_when_pushed, depth_when_popped}
 use Rattle.sj_scripts.specs.Command.{Step, get, contains, type_of, len, keys, insert, remove, push, pop, set_at, reload, reload_pp}
-use Rattle.sj_scripts.specs.Step.{Job, Keeping, from_start, from_write, State, Word, Rewrite, start, begun, base, fits, fits_below, insertion, removal, pushing, popping, setting, write_at, settled, written, step, after}
+use Rattle.sj_scripts.specs.Step.{Job, Keeping, from_start, from_write, State, Word, Rewrite, start, begun, base, fits, fits_below, insertion, removal, pushing, popping, setting, write_at, settled, rewritten, step, after}
 use Rattle.sj_scripts.proofs.Changes.{inserted, removed, pushed, popped, within, write_done}
 use Rattle.sj_records.specs.Laws.{HoldsInState, DepthStays}
 
@@ -77,8 +77,8 @@ settled_within limit t bases path change (Ok w) e fine h hs =
     let is = ap (λ (w : Tree × Tree). depth w.1) d.4 in
     (omega arith, (h, hs))
 
-written_within : (job : Job) (s : State) (path : List Part) (change : Rewrite) → StaysWithin job.limit path change → Within job.limit s → Within job.limit (written job s path change).1
-written_within job s path change fine h =
+rewritten_within : (job : Job) (s : State) (path : List Part) (change : Rewrite) → StaysWithin job.limit path change → Within job.limit s → Within job.limit (rewritten job s path change).1
+rewritten_within job s path change fine h =
     settled_within job.limit (base s.tree job.keeping) s.bases path change (write_at (base s.tree job.keeping) path change) refl fine (base_within job.limit s.tree job.keeping h.0) h.1
 
 step_within : (job : Job) (s : State) (c : Step) → Within job.limit s → Within job.limit (step job s c).1
@@ -89,11 +89,11 @@ step_within job s (len path) h = h
 step_within job s (keys path) h = h
 step_within job s reload h = h
 step_within job s reload_pp h = h
-step_within job s (insert path k v) h = written_within job s path _ (insertion_within job.limit path k v) h
-step_within job s (remove path k) h = written_within job s path _ (removal_within job.limit path k) h
-step_within job s (push path v) h = written_within job s path _ (pushing_within job.limit path v) h
-step_within job s (pop path) h = written_within job s path _ (popping_within job.limit path) h
-step_within job s (set_at path v) h = written_within job s path _ (setting_within job.limit path v) h
+step_within job s (insert path k v) h = rewritten_within job s path _ (insertion_within job.limit path k v) h
+step_within job s (remove path k) h = rewritten_within job s path _ (removal_within job.limit path k) h
+step_within job s (push path v) h = rewritten_within job s path _ (pushing_within job.limit path v) h
+step_within job s (pop path) h = rewritten_within job s path _ (popping_within job.limit path) h
+step_within job s (set_at path v) h = rewritten_within job s path _ (setting_within job.limit path v) h
 
 pub after_within : (job : Job) (s : State) (cs : List Step) → Within job.limit s → Within job.limit (after job s cs)
 after_within job s [] h = h

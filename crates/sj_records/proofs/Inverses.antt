@@ -11,7 +11,7 @@ use Rattle.sj_base.specs.Keep.{keep_members, IsKept}
 use Rattle.sj_base.proofs.Keys.{same_key, own_key}
 use Rattle.sj_base.proofs.Kept.{kept_member, kept_part, object_parts}
 use Rattle.sj_scripts.specs.Step.{Rewrite, reply_of, insertion, removal, pushing, popping, setting}
-use Rattle.sj_scripts.specs.Inverse.{Change, drop_item, place_of, place_in, put_at, changed, back, insertion_back, removal_back, popping_back}
+use Rattle.sj_scripts.specs.Inverse.{Change, drop_item, place_of, place_in, put_member_at, changed, back, insertion_back, removal_back, popping_back}
 use Rattle.sj_records.specs.Laws.{Undoes, InsertUndone, RemoveUndone, PushUndone, PopUndone, SetUndone}
 use Rattle.sj_scripts.proofs.Changes.{inserted, removed, pushed, popped, within, write_done}
 
@@ -138,12 +138,12 @@ none_dropped (member name t ms) k e = stay_first name t ms k (bytes_eq name k) e
 
 -- a removed member, put at its place again
 again_first : (name : List ℕ) (t : Tree) (ms : Members) (k : List ℕ) (old : Tree) (b : Bool) → bytes_eq name k ≡ b → cond b (Some t) (member_at ms k) ≡ Some old
-    → (member_at ms k ≡ Some old → put_at (edits.drop_member ms k) (place_of ms k) k old ≡ ms)
-    → put_at (cond b ms (member name t (edits.drop_member ms k))) (cond b 0 (suc (place_of ms k))) k old ≡ member name t ms
+    → (member_at ms k ≡ Some old → put_member_at (edits.drop_member ms k) (place_of ms k) k old ≡ ms)
+    → put_member_at (cond b ms (member name t (edits.drop_member ms k))) (cond b 0 (suc (place_of ms k))) k old ≡ member name t ms
 again_first name t ms k old true is e rest = ap₂ (λ n u. member n u ms) (sym (same_key name k is)) (sym (same_Some t old e))
 again_first name t ms k old false is e rest = ap (member name t) (rest e)
 
-put_again : (ms : Members) (k : List ℕ) (old : Tree) → member_at ms k ≡ Some old → put_at (edits.drop_member ms k) (place_of ms k) k old ≡ ms
+put_again : (ms : Members) (k : List ℕ) (old : Tree) → member_at ms k ≡ Some old → put_member_at (edits.drop_member ms k) (place_of ms k) k old ≡ ms
 put_again no_members k old e = absurd (none-some old e)
 put_again (member name t ms) k old e = again_first name t ms k old (bytes_eq name k) refl e (put_again ms k old)
 
@@ -204,7 +204,7 @@ remove_back : (ms : Members) (k : List ℕ) (o : Option Tree) → keep_members m
 remove_back ms k None kept e = ap (λ ns. Some (object ns)) (none_dropped ms k e)
 remove_back ms k (Some old) kept e =
     let ns = edits.drop_member ms k in
-    ap₂ (λ (o : Option Tree) (b : Bool). if not (is_some o) && b then Some (object (put_at ns (place_of ms k) k old)) else None) (dropped_gone ms k old kept e) (le-leb (place_of ms k) (members_len ns) (place_within ms k old e))
+    ap₂ (λ (o : Option Tree) (b : Bool). if not (is_some o) && b then Some (object (put_member_at ns (place_of ms k) k old)) else None) (dropped_gone ms k old kept e) (le-leb (place_of ms k) (members_len ns) (place_within ms k old e))
     ∙ ap (λ ns. Some (object ns)) (put_again ms k old e)
 
 push_back : (ts : Items) (v : Tree) → changed drop_item (list (edits.push_item ts v)) ≡ Some (list ts)

@@ -18,7 +18,7 @@ use Rattle.sj_base.specs.Laws.{OneLine}
 use Rattle.sj_base.proofs.Trees.{only_trees}
 use Rattle.sj_base.proofs.Valid.{valid_when_kept, valid_part, valid_last, valid_put, valid_with_member, valid_dropped, valid_pushed, valid_popped}
 use Rattle.sj_scripts.specs.Command.{Step, get, contains, type_of, len, keys, insert, remove, push, pop, set_at, reload, reload_pp, ◌>>=◌}
-use Rattle.sj_scripts.specs.Step.{Job, Keeping, from_start, from_write, State, Word, Rewrite, start, begun, base, answer, part_at, reply_of, type_name, count, key_items, fits, fits_below, insertion, removal, pushing, popping, setting, write_at, settled, written, step, replies, after}
+use Rattle.sj_scripts.specs.Step.{Job, Keeping, from_start, from_write, State, Word, Rewrite, start, begun, base, answer, part_at, reply_of, type_name, count, key_items, fits, fits_below, insertion, removal, pushing, popping, setting, write_at, settled, rewritten, step, replies, after}
 use Rattle.sj_records.specs.Record.{record_of, character_of, fault_record}
 use Rattle.sj_records.specs.Laws.{NoLineFeed}
 use Rattle.sj_scripts.proofs.Changes.{inserted, removed, pushed, popped, within, write_done}
@@ -151,8 +151,8 @@ module _ (text_visible : OneLine) where
       let new = fine d.0 d.2 d.3 (valid_part t path d.0 h d.1) in
       both _ w d.4 (new.0, valid_put t path d.2.1 h new.1)
 
-  written_fine : (job : Job) (s : State) (path : List Part) (change : Rewrite) → StaysValid change → IsValidTree s.tree → Fine (written job s path change)
-  written_fine job s path change fine h = settled_fine (base s.tree job.keeping) s.bases path change _ refl fine (base_valid s.tree job.keeping h)
+  rewritten_fine : (job : Job) (s : State) (path : List Part) (change : Rewrite) → StaysValid change → IsValidTree s.tree → Fine (rewritten job s path change)
+  rewritten_fine job s path change fine h = settled_fine (base s.tree job.keeping) s.bases path change _ refl fine (base_valid s.tree job.keeping h)
 
   step_fine : (job : Job) (s : State) (c : Step) → Sound c → IsValidTree s.tree → Fine (step job s c)
   step_fine job s (get path) sound h = (found_shown (at s.tree path) (λ t e. valid_part s.tree path t h e), h)
@@ -162,11 +162,11 @@ module _ (text_visible : OneLine) where
   step_fine job s (keys path) sound h = (bound_shown (part_at s.tree path) _ (λ part. key_list_shown (members_in part)), h)
   step_fine job s reload sound h = (boolean_shown (nat_le (length (text s.tree)) longest), h)
   step_fine job s reload_pp sound h = (boolean_shown (nat_le (length (pretty s.tree)) longest), h)
-  step_fine job s (insert path k v) sound h = written_fine job s path _ (insertion_valid (fits_below path v job.limit) path k v sound) h
-  step_fine job s (remove path k) sound h = written_fine job s path _ (removal_valid k) h
-  step_fine job s (push path v) sound h = written_fine job s path _ (pushing_valid (fits_below path v job.limit) v sound.1) h
-  step_fine job s (pop path) sound h = written_fine job s path _ popping_valid h
-  step_fine job s (set_at path v) sound h = written_fine job s path _ (setting_valid (fits path v job.limit) v sound.1) h
+  step_fine job s (insert path k v) sound h = rewritten_fine job s path _ (insertion_valid (fits_below path v job.limit) path k v sound) h
+  step_fine job s (remove path k) sound h = rewritten_fine job s path _ (removal_valid k) h
+  step_fine job s (push path v) sound h = rewritten_fine job s path _ (pushing_valid (fits_below path v job.limit) v sound.1) h
+  step_fine job s (pop path) sound h = rewritten_fine job s path _ popping_valid h
+  step_fine job s (set_at path v) sound h = rewritten_fine job s path _ (setting_valid (fits path v job.limit) v sound.1) h
 
   replies_shown : (job : Job) (s : State) (cs : List Step) → AllByRecursion Sound cs → IsValidTree s.tree → AllShown (replies job s cs)
   replies_shown job s [] sound h = tt

@@ -1,5 +1,5 @@
 -- The lines of a stream: the parts between line feeds.
-use Rattle.std.specs.Prelude.{ℕ, cond, ◌==◌, List, [], ◌∷◌, ◌++◌}
+use Rattle.std.specs.Prelude.{ℕ, ◌==◌, if◌then◌else◌, List, [], ◌∷◌, ◌++◌}
 
 -- the first line with one more byte in front, where there is a line
 abbrev pub onto_first : ℕ → List (List ℕ) → List (List ℕ)
@@ -14,12 +14,12 @@ onto_last b (line ∷ lines) rest = rest
 -- the lines that a line feed ends, without it
 abbrev pub ended : List ℕ → List (List ℕ)
 ended [] = []
-ended (b ∷ bs) = cond (b == 0x0a) ([] ∷ ended bs) (onto_first b (ended bs))
+ended (b ∷ bs) = if b == 0x0a then [] ∷ ended bs else onto_first b (ended bs)
 
 -- the bytes behind the last line feed
 abbrev pub unended : List ℕ → List ℕ
 unended [] = []
-unended (b ∷ bs) = cond (b == 0x0a) (unended bs) (onto_last b (ended bs) (unended bs))
+unended (b ∷ bs) = if b == 0x0a then unended bs else onto_last b (ended bs) (unended bs)
 
 -- the bytes behind the last line feed, which are a line exactly if there are any
 abbrev pub if_any : List ℕ → List (List ℕ)

@@ -7,11 +7,12 @@ use Rattle.sj_scripts.specs.declared.script.CommandFault.{CommandFault}
 use Rattle.sj_scripts.specs.declared.script.CommandFault.TheVariants.{WrongCount}
 use Rattle.sj_scripts.specs.declared.read_error.ReadError.{ReadError}
 use Rattle.sj_scripts.specs.declared.read_error.ReadError.TheVariants as errors
-use Rattle.sj_scripts.specs.Command.{Step, Refusal, ◌>>=◌, part_of, parts_of, path_of, key_of, path_alone, path_and_key, path_and_value, path_key_value, nullary, command_of, commands_from}
+use Rattle.sj_scripts.specs.Command.{Step, Refusal, ◌>>=◌, as_part, as_parts, as_path, as_key, path_alone, path_and_key, path_and_value, path_key_value, nullary, command_of, commands_from}
 use Rattle.sj_scripts.specs.inside.ReadErrors.{IsFaultOf}
 use Rattle.sj_scripts.specs.declared.script.Command.{Command}
 use Rattle.sj_scripts.specs.Script.{command_view, commands_view}
-use Rattle.sj_scripts.specs.Values.{Document, document_tree, items_view}
+use Rattle.sj_scripts.specs.Values.{OwnedValue, owned_tree}
+use Rattle.sj_scripts.specs.inside.Views.{items_view}
 
 -- what is read behind a front
 abbrev pub read_after : {A F : Type 0} → List A → Result (List A) F → Result (List A) F
@@ -32,32 +33,32 @@ abbrev with_both : Result (List Part) CommandFault → Result (List ℕ) Command
 with_both path k v = path >>= λ p. k >>= λ s. Ok (p, s, v)
 
 -- the items from that place on, where one is left
-items_left : (ds : List Document) (i : ℕ) (d : Document) → i < length ds → d ≡ get_or ds i d → items_view (drop i ds) ≡ item (document_tree d) (items_view (drop (i + 1) ds))
-items_left ds i d lt is = ap items_view (drop_more ds i d lt) ∙ ap (λ e. item (document_tree e) (items_view (drop (i + 1) ds))) (sym is)
+items_left : (ds : List OwnedValue) (i : ℕ) (d : OwnedValue) → i < length ds → d ≡ get_or ds i d → items_view (drop i ds) ≡ item (owned_tree d) (items_view (drop (i + 1) ds))
+items_left ds i d lt is = ap items_view (drop_more ds i d lt) ∙ ap (λ e. item (owned_tree e) (items_view (drop (i + 1) ds))) (sym is)
 
 -- ---- the parts of a path
 
-pub parts-more : (ds : List Document) (i : ℕ) (d : Document) (front : List Part) (part : Part) (total : Result (List Part) CommandFault) → i < length ds → d ≡ get_or ds i d → part_of (document_tree d) ≡ Ok part
-    → read_after front (parts_of (items_view (drop i ds))) ≡ total → read_after (front ++ part ∷ []) (parts_of (items_view (drop (i + 1) ds))) ≡ total
+pub parts-more : (ds : List OwnedValue) (i : ℕ) (d : OwnedValue) (front : List Part) (part : Part) (total : Result (List Part) CommandFault) → i < length ds → d ≡ get_or ds i d → as_part (owned_tree d) ≡ Ok part
+    → read_after front (as_parts (items_view (drop i ds))) ≡ total → read_after (front ++ part ∷ []) (as_parts (items_view (drop (i + 1) ds))) ≡ total
 parts-more ds i d front part total lt is found so_far =
-    let one : read_after front (parts_of (items_view (drop i ds))) ≡ read_after (front ++ part ∷ []) (parts_of (items_view (drop (i + 1) ds))) = rw (items_left ds i d lt is, found) (regroup front part (parts_of (items_view (drop (i + 1) ds)))) in
+    let one : read_after front (as_parts (items_view (drop i ds))) ≡ read_after (front ++ part ∷ []) (as_parts (items_view (drop (i + 1) ds))) = rw (items_left ds i d lt is, found) (regroup front part (as_parts (items_view (drop (i + 1) ds)))) in
     sym one ∙ so_far
 
-pub parts-fault : (e : ReadError CommandFault) (ds : List Document) (i : ℕ) (d : Document) (front : List Part) (total : Result (List Part) CommandFault) → i < length ds → d ≡ get_or ds i d → IsFaultOf e (part_of (document_tree d))
-    → read_after front (parts_of (items_view (drop i ds))) ≡ total → IsFaultOf e total
+pub parts-fault : (e : ReadError CommandFault) (ds : List OwnedValue) (i : ℕ) (d : OwnedValue) (front : List Part) (total : Result (List Part) CommandFault) → i < length ds → d ≡ get_or ds i d → IsFaultOf e (as_part (owned_tree d))
+    → read_after front (as_parts (items_view (drop i ds))) ≡ total → IsFaultOf e total
 parts-fault errors.Memory ds i d front total lt is fault so_far = tt
 parts-fault (errors.Refused f) ds i d front total lt is fault so_far =
-    let one : read_after front (parts_of (items_view (drop i ds))) ≡ Err f = rw (items_left ds i d lt is, fault) refl in
+    let one : read_after front (as_parts (items_view (drop i ds))) ≡ Err f = rw (items_left ds i d lt is, fault) refl in
     sym so_far ∙ one
 
-pub parts-done : (ds : List Document) (i : ℕ) (front : List Part) (total : Result (List Part) CommandFault) → length ds ≡ i → read_after front (parts_of (items_view (drop i ds))) ≡ total → total ≡ Ok front
+pub parts-done : (ds : List OwnedValue) (i : ℕ) (front : List Part) (total : Result (List Part) CommandFault) → length ds ≡ i → read_after front (as_parts (items_view (drop i ds))) ≡ total → total ≡ Ok front
 parts-done ds i front total end so_far =
     let none : items_view (drop i ds) ≡ no_items = ap items_view (drop_all i ds (omega arith)) in
-    sym so_far ∙ ap (λ ts. read_after front (parts_of ts)) none ∙ ap (λ xs. Ok xs) (append-nil front)
+    sym so_far ∙ ap (λ ts. read_after front (as_parts ts)) none ∙ ap (λ xs. Ok xs) (append-nil front)
 
 -- ---- the commands of a script
 
-pub commands-more : (n m : ℕ) (d : Document) (all left : List Document) (front : List Step) (step : Step) (total : Result (List Step) Refusal) → all ≡ d ∷ left → m ≡ suc n → command_of (document_tree d) ≡ Ok step
+pub commands-more : (n m : ℕ) (d : OwnedValue) (all left : List OwnedValue) (front : List Step) (step : Step) (total : Result (List Step) Refusal) → all ≡ d ∷ left → m ≡ suc n → command_of (owned_tree d) ≡ Ok step
     → read_after front (commands_from n (items_view all)) ≡ total → read_after (front ++ step ∷ []) (commands_from m (items_view left)) ≡ total
 commands-more n m d all left front step total is next found so_far =
     let one : read_after front (commands_from n (items_view all)) ≡ read_after (front ++ step ∷ []) (commands_from (suc n) (items_view left)) = rw (is, found) (regroup front step (commands_from (suc n) (items_view left))) in
@@ -65,18 +66,18 @@ commands-more n m d all left front step total is next found so_far =
 
 -- ---- another number of arguments
 
-pub nullary-other : (c : Step) (vs : List Document) → (vs ≡ [] → ⊥) → nullary c (items_view vs) ≡ Err WrongCount
+pub nullary-other : (c : Step) (vs : List OwnedValue) → (vs ≡ [] → ⊥) → nullary c (items_view vs) ≡ Err WrongCount
 nullary-other c [] h = absurd (h refl)
 nullary-other c (v ∷ vs) h = refl
 
-pub alone-other : (ds : List Document) → (length ds ≡ 1 → ⊥) → path_alone (items_view ds) ≡ Err WrongCount
+pub alone-other : (ds : List OwnedValue) → (length ds ≡ 1 → ⊥) → path_alone (items_view ds) ≡ Err WrongCount
 alone-other [] other = refl
 alone-other (a ∷ []) other = absurd (other refl)
 alone-other (a ∷ b ∷ ds) other = refl
 
 -- ---- a key behind other arguments
 
-pub key_behind : (ds : List Document) (d : Document) → path_and_key (items_view (ds ++ d ∷ [])) ≡ with_key (path_alone (items_view ds)) (key_of (document_tree d))
+pub key_behind : (ds : List OwnedValue) (d : OwnedValue) → path_and_key (items_view (ds ++ d ∷ [])) ≡ with_key (path_alone (items_view ds)) (as_key (owned_tree d))
 key_behind [] d = refl
 key_behind (a ∷ []) d = refl
 key_behind (a ∷ b ∷ []) d = refl
@@ -84,7 +85,7 @@ key_behind (a ∷ b ∷ e ∷ ds) d = refl
 
 -- ---- a value behind other arguments
 
-pub value_behind : (ds : List Document) (d : Document) → path_and_value (items_view (ds ++ d ∷ [])) ≡ (path_alone (items_view ds) >>= λ path. Ok (path, document_tree d))
+pub value_behind : (ds : List OwnedValue) (d : OwnedValue) → path_and_value (items_view (ds ++ d ∷ [])) ≡ (path_alone (items_view ds) >>= λ path. Ok (path, owned_tree d))
 value_behind [] d = refl
 value_behind (a ∷ []) d = refl
 value_behind (a ∷ b ∷ []) d = refl
@@ -95,38 +96,38 @@ regroup_key (Err f) k v = refl
 regroup_key (Ok p) (Err f) v = refl
 regroup_key (Ok p) (Ok s) v = refl
 
-pub value_behind_key : (ds : List Document) (d : Document) → path_key_value (items_view (ds ++ d ∷ [])) ≡ with_value (path_and_key (items_view ds)) (document_tree d)
+pub value_behind_key : (ds : List OwnedValue) (d : OwnedValue) → path_key_value (items_view (ds ++ d ∷ [])) ≡ with_value (path_and_key (items_view ds)) (owned_tree d)
 value_behind_key [] d = refl
 value_behind_key (a ∷ []) d = refl
-value_behind_key (a ∷ b ∷ []) d = regroup_key (path_of (document_tree a)) (key_of (document_tree b)) (document_tree d)
+value_behind_key (a ∷ b ∷ []) d = regroup_key (as_path (owned_tree a)) (as_key (owned_tree b)) (owned_tree d)
 value_behind_key (a ∷ b ∷ e ∷ []) d = refl
 value_behind_key (a ∷ b ∷ e ∷ f ∷ ds) d = refl
 
-module _ (whole ds : List Document) (d : Document) (is : whole ≡ ds ++ d ∷ []) where
+module _ (whole ds : List OwnedValue) (d : OwnedValue) (is : whole ≡ ds ++ d ∷ []) where
   pub value_fault : (e : ReadError CommandFault) → IsFaultOf e (path_alone (items_view ds)) → IsFaultOf e (path_and_value (items_view whole))
   value_fault errors.Memory fault = tt
   value_fault (errors.Refused f) fault = rw (is, value_behind ds d, fault) refl
 
-  pub value_read : (path : List Part) (v : Document) → path_alone (items_view ds) ≡ Ok path → v ≡ d → path_and_value (items_view whole) ≡ Ok (path, document_tree v)
+  pub value_read : (path : List Part) (v : OwnedValue) → path_alone (items_view ds) ≡ Ok path → v ≡ d → path_and_value (items_view whole) ≡ Ok (path, owned_tree v)
   value_read path v found same = rw (is, value_behind ds d, found, same) refl
 
   pub key_value_fault : (e : ReadError CommandFault) → IsFaultOf e (path_and_key (items_view ds)) → IsFaultOf e (path_key_value (items_view whole))
   key_value_fault errors.Memory fault = tt
   key_value_fault (errors.Refused f) fault = rw (is, value_behind_key ds d, fault) refl
 
-  pub key_value_read : (path : List Part) (k : List ℕ) (v : Document) → path_and_key (items_view ds) ≡ Ok (path, k) → v ≡ d → path_key_value (items_view whole) ≡ Ok (path, k, document_tree v)
+  pub key_value_read : (path : List Part) (k : List ℕ) (v : OwnedValue) → path_and_key (items_view ds) ≡ Ok (path, k) → v ≡ d → path_key_value (items_view whole) ≡ Ok (path, k, owned_tree v)
   key_value_read path k v found same = rw (is, value_behind_key ds d, found, same) refl
 
-module _ (whole ds : List Document) (d : Document) (is : whole ≡ ds ++ d ∷ []) where
+module _ (whole ds : List OwnedValue) (d : OwnedValue) (is : whole ≡ ds ++ d ∷ []) where
   pub key_path_fault : (e : ReadError CommandFault) → IsFaultOf e (path_alone (items_view ds)) → IsFaultOf e (path_and_key (items_view whole))
   key_path_fault errors.Memory fault = tt
   key_path_fault (errors.Refused f) fault = rw (is, key_behind ds d, fault) refl
 
-  pub key_fault : (e : ReadError CommandFault) (path : List Part) → path_alone (items_view ds) ≡ Ok path → IsFaultOf e (key_of (document_tree d)) → IsFaultOf e (path_and_key (items_view whole))
+  pub key_fault : (e : ReadError CommandFault) (path : List Part) → path_alone (items_view ds) ≡ Ok path → IsFaultOf e (as_key (owned_tree d)) → IsFaultOf e (path_and_key (items_view whole))
   key_fault errors.Memory path found fault = tt
   key_fault (errors.Refused f) path found fault = rw (is, key_behind ds d, found, fault) refl
 
-  pub key_read : (path : List Part) (k : List ℕ) → path_alone (items_view ds) ≡ Ok path → key_of (document_tree d) ≡ Ok k → path_and_key (items_view whole) ≡ Ok (path, k)
+  pub key_read : (path : List Part) (k : List ℕ) → path_alone (items_view ds) ≡ Ok path → as_key (owned_tree d) ≡ Ok k → path_and_key (items_view whole) ≡ Ok (path, k)
   key_read path k found known = rw (is, key_behind ds d, found, known) refl
 
 -- ---- one more command

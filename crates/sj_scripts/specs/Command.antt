@@ -1,5 +1,5 @@
 -- Scripts: the commands of a script's document, or its first fault.
-use Rattle.std.specs.Prelude.{ℕ, pos, negsuc, suc, cond, List, [], ◌∷◌, Result, Ok, Err, codes, bytes_eq}
+use Rattle.std.specs.Prelude.{ℕ, pos, negsuc, suc, if◌then◌else◌, List, [], ◌∷◌, Result, Ok, Err, codes, bytes_eq}
 use Rattle.sj_base.specs.Tree.{Tree, null, boolean, integer, decimal, string, list, object, Items, no_items, item}
 use Rattle.sj_base.specs.Keep.{keep}
 use Rattle.sj_base.specs.Path.{Part, key, place}
@@ -35,60 +35,60 @@ abbrev pub ◌>>=◌ : {F A B : Type 0} → Result A F → (A → Result B F) �
 (Err e) >>= f = Err e
 
 -- a string or an integer not below 0
-abbrev pub part_of : Tree → Result Part CommandFault
-part_of (string s) = Ok (key s)
-part_of (integer (pos n)) = Ok (place n)
-part_of (integer (negsuc n)) = Err BadPath
-part_of null = Err BadPath
-part_of (boolean b) = Err BadPath
-part_of (decimal literal) = Err BadPath
-part_of (list ts) = Err BadPath
-part_of (object ms) = Err BadPath
+abbrev pub as_part : Tree → Result Part CommandFault
+as_part (string s) = Ok (key s)
+as_part (integer (pos n)) = Ok (place n)
+as_part (integer (negsuc n)) = Err BadPath
+as_part null = Err BadPath
+as_part (boolean b) = Err BadPath
+as_part (decimal literal) = Err BadPath
+as_part (list ts) = Err BadPath
+as_part (object ms) = Err BadPath
 
-abbrev pub parts_of : Items → Result (List Part) CommandFault
-parts_of no_items = Ok []
-parts_of (item t ts) = part_of t >>= λ part. parts_of ts >>= λ path. Ok (part ∷ path)
+abbrev pub as_parts : Items → Result (List Part) CommandFault
+as_parts no_items = Ok []
+as_parts (item t ts) = as_part t >>= λ part. as_parts ts >>= λ path. Ok (part ∷ path)
 
 -- an array of these
-abbrev pub path_of : Tree → Result (List Part) CommandFault
-path_of (list ts) = parts_of ts
-path_of null = Err BadPath
-path_of (boolean b) = Err BadPath
-path_of (integer n) = Err BadPath
-path_of (decimal literal) = Err BadPath
-path_of (string s) = Err BadPath
-path_of (object ms) = Err BadPath
+abbrev pub as_path : Tree → Result (List Part) CommandFault
+as_path (list ts) = as_parts ts
+as_path null = Err BadPath
+as_path (boolean b) = Err BadPath
+as_path (integer n) = Err BadPath
+as_path (decimal literal) = Err BadPath
+as_path (string s) = Err BadPath
+as_path (object ms) = Err BadPath
 
 -- a string
-abbrev pub key_of : Tree → Result (List ℕ) CommandFault
-key_of (string s) = Ok s
-key_of null = Err BadKey
-key_of (boolean b) = Err BadKey
-key_of (integer n) = Err BadKey
-key_of (decimal literal) = Err BadKey
-key_of (list ts) = Err BadKey
-key_of (object ms) = Err BadKey
+abbrev pub as_key : Tree → Result (List ℕ) CommandFault
+as_key (string s) = Ok s
+as_key null = Err BadKey
+as_key (boolean b) = Err BadKey
+as_key (integer n) = Err BadKey
+as_key (decimal literal) = Err BadKey
+as_key (list ts) = Err BadKey
+as_key (object ms) = Err BadKey
 
 -- What the arguments of a command are, by what it takes. Their number is looked at first, then the path, then the key.
 abbrev pub path_alone : Items → Result (List Part) CommandFault
-path_alone (item t no_items) = path_of t
+path_alone (item t no_items) = as_path t
 path_alone no_items = Err WrongCount
 path_alone (item t (item u ts)) = Err WrongCount
 
 abbrev pub path_and_key : Items → Result (List Part × List ℕ) CommandFault
-path_and_key (item t (item u no_items)) = path_of t >>= λ path. key_of u >>= λ k. Ok (path, k)
+path_and_key (item t (item u no_items)) = as_path t >>= λ path. as_key u >>= λ k. Ok (path, k)
 path_and_key no_items = Err WrongCount
 path_and_key (item t no_items) = Err WrongCount
 path_and_key (item t (item u (item v ts))) = Err WrongCount
 
 abbrev pub path_and_value : Items → Result (List Part × Tree) CommandFault
-path_and_value (item t (item u no_items)) = path_of t >>= λ path. Ok (path, u)
+path_and_value (item t (item u no_items)) = as_path t >>= λ path. Ok (path, u)
 path_and_value no_items = Err WrongCount
 path_and_value (item t no_items) = Err WrongCount
 path_and_value (item t (item u (item v ts))) = Err WrongCount
 
 abbrev pub path_key_value : Items → Result (List Part × List ℕ × Tree) CommandFault
-path_key_value (item t (item u (item v no_items))) = path_of t >>= λ path. key_of u >>= λ k. Ok (path, k, v)
+path_key_value (item t (item u (item v no_items))) = as_path t >>= λ path. as_key u >>= λ k. Ok (path, k, v)
 path_key_value no_items = Err WrongCount
 path_key_value (item t no_items) = Err WrongCount
 path_key_value (item t (item u no_items)) = Err WrongCount
@@ -102,19 +102,19 @@ nullary c (item t ts) = Err WrongCount
 -- the command of a name, with these arguments
 abbrev pub named : List ℕ → Items → Result Step CommandFault
 named name arguments =
-    cond (bytes_eq name (codes "get")) (path_alone arguments >>= λ path. Ok (get path)) (
-    cond (bytes_eq name (codes "contains")) (path_and_key arguments >>= λ a. Ok (contains a.0 a.1)) (
-    cond (bytes_eq name (codes "type")) (path_alone arguments >>= λ path. Ok (type_of path)) (
-    cond (bytes_eq name (codes "len")) (path_alone arguments >>= λ path. Ok (len path)) (
-    cond (bytes_eq name (codes "keys")) (path_alone arguments >>= λ path. Ok (keys path)) (
-    cond (bytes_eq name (codes "insert")) (path_key_value arguments >>= λ a. Ok (insert a.0 a.1 a.2)) (
-    cond (bytes_eq name (codes "remove")) (path_and_key arguments >>= λ a. Ok (remove a.0 a.1)) (
-    cond (bytes_eq name (codes "push")) (path_and_value arguments >>= λ a. Ok (push a.0 a.1)) (
-    cond (bytes_eq name (codes "pop")) (path_alone arguments >>= λ path. Ok (pop path)) (
-    cond (bytes_eq name (codes "set")) (path_and_value arguments >>= λ a. Ok (set_at a.0 a.1)) (
-    cond (bytes_eq name (codes "reload")) (nullary reload arguments) (
-    cond (bytes_eq name (codes "reload_pp")) (nullary reload_pp arguments) (
-    Err UnknownName))))))))))))
+    if bytes_eq name (codes "get") then (path_alone arguments >>= λ path. Ok (get path)) else
+    if bytes_eq name (codes "contains") then (path_and_key arguments >>= λ a. Ok (contains a.0 a.1)) else
+    if bytes_eq name (codes "type") then (path_alone arguments >>= λ path. Ok (type_of path)) else
+    if bytes_eq name (codes "len") then (path_alone arguments >>= λ path. Ok (len path)) else
+    if bytes_eq name (codes "keys") then (path_alone arguments >>= λ path. Ok (keys path)) else
+    if bytes_eq name (codes "insert") then (path_key_value arguments >>= λ a. Ok (insert a.0 a.1 a.2)) else
+    if bytes_eq name (codes "remove") then (path_and_key arguments >>= λ a. Ok (remove a.0 a.1)) else
+    if bytes_eq name (codes "push") then (path_and_value arguments >>= λ a. Ok (push a.0 a.1)) else
+    if bytes_eq name (codes "pop") then (path_alone arguments >>= λ path. Ok (pop path)) else
+    if bytes_eq name (codes "set") then (path_and_value arguments >>= λ a. Ok (set_at a.0 a.1)) else
+    if bytes_eq name (codes "reload") then nullary reload arguments else
+    if bytes_eq name (codes "reload_pp") then nullary reload_pp arguments else
+    Err UnknownName
 
 abbrev pub command_of : Tree → Result Step CommandFault
 command_of (list (item (string name) arguments)) = named name arguments
@@ -133,14 +133,14 @@ command_of (string s) = Err NotAnArray
 command_of (object ms) = Err NotAnArray
 
 -- a command's fault, with the command's index
-abbrev pub placed : {A : Type 0} → ℕ → Result A CommandFault → Result A Refusal
-placed n (Ok x) = Ok x
-placed n (Err fault) = Err (command n fault)
+abbrev pub with_index : {A : Type 0} → ℕ → Result A CommandFault → Result A Refusal
+with_index n (Ok x) = Ok x
+with_index n (Err fault) = Err (command n fault)
 
 -- commands of which the first has this index
 abbrev pub commands_from : ℕ → Items → Result (List Step) Refusal
 commands_from n no_items = Ok []
-commands_from n (item t ts) = placed n (command_of t) >>= λ step. commands_from (suc n) ts >>= λ steps. Ok (step ∷ steps)
+commands_from n (item t ts) = with_index n (command_of t) >>= λ step. commands_from (suc n) ts >>= λ steps. Ok (step ∷ steps)
 
 -- the commands in an array of them
 abbrev pub commands_in : Tree → Result (List Step) Refusal

@@ -25,10 +25,10 @@ abbrev pub place_in : Tree → List ℕ → ℕ
 place_in part k = unwrap_or (option_map (λ ms. place_of ms k) (members_in part)) 0
 
 -- the members with another one at place i, and those from there on behind it
-abbrev pub put_at : Members → ℕ → List ℕ → Tree → Members
-put_at ms zero k t = member k t ms
-put_at no_members (suc i) k t = member k t no_members
-put_at (member name u ms) (suc i) k t = member name u (put_at ms i k t)
+abbrev pub put_member_at : Members → ℕ → List ℕ → Tree → Members
+put_member_at ms zero k t = member k t ms
+put_member_at no_members (suc i) k t = member k t no_members
+put_member_at (member name u ms) (suc i) k t = member name u (put_member_at ms i k t)
 
 -- The part after the change, and none where it can't be made: the part is of another kind, the key isn't there or is there already,
 -- the place is past the end, or there is no item.
@@ -37,7 +37,7 @@ changed nothing part = Some part
 changed (drop_member k) part = option_and_then (λ ms. if is_some (member_at ms k) then Some (object (edits.drop_member ms k)) else None) (members_in part)
 changed (set_member k t) part = option_and_then (λ ms. if is_some (member_at ms k) then Some (object (edits.put_member ms k t)) else None) (members_in part)
 changed (put_member i k t) part =
-    option_and_then (λ ms. if not (is_some (member_at ms k)) && nat_le i (members_len ms) then Some (object (put_at ms i k t)) else None) (members_in part)
+    option_and_then (λ ms. if not (is_some (member_at ms k)) && nat_le i (members_len ms) then Some (object (put_member_at ms i k t)) else None) (members_in part)
 changed drop_item part = option_and_then (λ ts. if is_some (edits.last_item ts) then Some (list (edits.pop_item ts)) else None) (items_in part)
 changed (add_item t) part = option_map (λ ts. list (edits.push_item ts t)) (items_in part)
 changed (set_part t) part = Some t

@@ -13,7 +13,7 @@ use Rattle.sj_scripts.specs.declared.script.CommandFault.{CommandFault}
 use Rattle.sj_scripts.specs.declared.script.CommandFault.TheVariants as faults
 use Rattle.sj_scripts.specs.declared.script.ScriptFault.{ScriptFault}
 use Rattle.sj_scripts.specs.declared.script.ScriptFault.TheVariants.{Json, NotAnArray, Command as CommandAt, Memory}
-use Rattle.sj_scripts.specs.Values.{document_tree}
+use Rattle.sj_scripts.specs.Values.{owned_tree}
 use Rattle.sj_scripts.specs.Command.{Step, get, contains, type_of, len, keys, insert, remove, push, pop, set_at, reload, reload_pp, Refusal, json, not_an_array, command, commands_of}
 use Rattle.sj_scripts.specs.Step.{Keeping, base, Rewrite, settled, write_at}
 use Rattle.sj_scripts.specs.Reading.{ComesOf}
@@ -31,11 +31,11 @@ command_view (Contains path k) = contains (path_view path.items) (string_bytes k
 command_view (TypeOf path) = type_of (path_view path.items)
 command_view (Len path) = len (path_view path.items)
 command_view (Keys path) = keys (path_view path.items)
-command_view (Insert path k v) = insert (path_view path.items) (string_bytes k) (document_tree v.value)
+command_view (Insert path k v) = insert (path_view path.items) (string_bytes k) (owned_tree v.value)
 command_view (Remove path k) = remove (path_view path.items) (string_bytes k)
-command_view (Push path v) = push (path_view path.items) (document_tree v.value)
+command_view (Push path v) = push (path_view path.items) (owned_tree v.value)
 command_view (Pop path) = pop (path_view path.items)
-command_view (SetAt path v) = set_at (path_view path.items) (document_tree v.value)
+command_view (SetAt path v) = set_at (path_view path.items) (owned_tree v.value)
 command_view Reload = reload
 command_view ReloadPp = reload_pp
 

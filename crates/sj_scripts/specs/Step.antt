@@ -1,5 +1,5 @@
 -- What a command does: its reply, the tree, and the new state.
-use Rattle.std.specs.Prelude.{ℕ, pos, ◌+◌, nat_le, Bool, cond, List, [], ◌∷◌, length, Option, Some, None, is_some, ok_or, Result, Ok, Err, codes}
+use Rattle.std.specs.Prelude.{ℕ, pos, ◌+◌, nat_le, Bool, if◌then◌else◌, List, [], ◌∷◌, length, Option, Some, None, is_some, ok_or, Result, Ok, Err, codes}
 use Rattle.sj_base.specs.Tree.{Tree, null, boolean, integer, decimal, string, list, object, Items, no_items, item, Members, no_members, member, depth}
 use Rattle.sj_base.specs.Keep.{keep}
 use Rattle.sj_base.specs.Path.{Part, key, member_at, child, at, put}
@@ -113,7 +113,7 @@ Rewrite = Tree → Result (Tree × Tree) Word
 
 -- nothing where the value fits, and otherwise the word that it doesn't
 abbrev pub if_fits : {A : Type 0} → Bool → A → Result A Word
-if_fits test x = cond test (Ok x) (Err (codes "TooDeep"))
+if_fits test x = if test then Ok x else Err (codes "TooDeep")
 
 abbrev pub insertion : Bool → List ℕ → Tree → Rewrite
 insertion test k v part = ok_or (members_in part) (codes "NotAnObject") >>= λ ms. if_fits test (reply_of (member_at ms k), object (put_member ms k v))
@@ -139,8 +139,8 @@ abbrev pub settled : Tree → List Tree → Result (Tree × Tree) Word → Tree 
 settled t bases (Ok w) = (w.0, record { tree = w.1; bases = t ∷ bases })
 settled t bases (Err word) = (string word, record { tree = t; bases = bases })
 
-abbrev pub written : Job → State → List Part → Rewrite → Tree × State
-written job s path change = let t = base s.tree job.keeping in settled t s.bases (write_at t path change)
+abbrev pub rewritten : Job → State → List Part → Rewrite → Tree × State
+rewritten job s path change = let t = base s.tree job.keeping in settled t s.bases (write_at t path change)
 
 -- ---- reloads: whether the text of the document isn't too long to be read again
 
@@ -154,11 +154,11 @@ step job s (contains path k) = (contains_reply s.tree path k, s)
 step job s (type_of path) = (type_reply s.tree path, s)
 step job s (len path) = (len_reply s.tree path, s)
 step job s (keys path) = (keys_reply s.tree path, s)
-step job s (insert path k v) = written job s path (insertion (fits_below path v job.limit) k v)
-step job s (remove path k) = written job s path (removal k)
-step job s (push path v) = written job s path (pushing (fits_below path v job.limit) v)
-step job s (pop path) = written job s path popping
-step job s (set_at path v) = written job s path (setting (fits path v job.limit) v)
+step job s (insert path k v) = rewritten job s path (insertion (fits_below path v job.limit) k v)
+step job s (remove path k) = rewritten job s path (removal k)
+step job s (push path v) = rewritten job s path (pushing (fits_below path v job.limit) v)
+step job s (pop path) = rewritten job s path popping
+step job s (set_at path v) = rewritten job s path (setting (fits path v job.limit) v)
 step job s reload = (reload_reply (text s.tree), s)
 step job s reload_pp = (reload_reply (pretty s.tree), s)
 

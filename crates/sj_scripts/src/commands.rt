@@ -1,9 +1,10 @@
 //! Reading the commands of a script from its document.
-ghost use Rattle.sj_scripts.specs.Command.{part_of, parts_of, path_of, key_of, path_alone, path_and_key, path_and_value, path_key_value, nullary, command_of, commands_from, commands_in, named};
+ghost use Rattle.sj_scripts.specs.Command.{as_part, as_parts, as_path, as_key, path_alone, path_and_key, path_and_value, path_key_value, nullary, command_of, commands_from, commands_in, named};
 ghost use Rattle.std.specs.String.{string_bytes};
 ghost use Rattle.sj_base.specs.Tree.{list};
 ghost use Rattle.sj_base.specs.Scalar.{static_tree};
-ghost use Rattle.sj_scripts.specs.Values.{document_tree, items_view};
+ghost use Rattle.sj_scripts.specs.Values.{owned_tree};
+ghost use Rattle.sj_scripts.specs.inside.Views.{items_view};
 ghost use Rattle.sj_scripts.specs.Script.{part_view, path_view, command_view, commands_view};
 ghost use Rattle.sj_scripts.specs.inside.ReadErrors.{GivesCommand, GivesSteps};
 
@@ -16,7 +17,7 @@ use sj_owned::OwnedValue;
 use std::alloc::Global;
 
 fn read_part(document: &OwnedValue) -> Result<PathPart, ReadError<CommandFault>>
-    ensures { GivesCommand part_view result (part_of (document_tree document.now)) }
+    ensures { GivesCommand part_view result (as_part (owned_tree document.now)) }
 {
     match document {
         OwnedValue::String(key) => Ok(PathPart::Key(key.clone()?)),
@@ -26,7 +27,7 @@ fn read_part(document: &OwnedValue) -> Result<PathPart, ReadError<CommandFault>>
 }
 
 fn read_index(scalar: StaticNode) -> Result<PathPart, ReadError<CommandFault>>
-    ensures { GivesCommand part_view result (part_of (static_tree scalar)) }
+    ensures { GivesCommand part_view result (as_part (static_tree scalar)) }
 {
     match scalar {
         StaticNode::U64(place) => Ok(PathPart::Item(place)),
@@ -36,7 +37,7 @@ fn read_index(scalar: StaticNode) -> Result<PathPart, ReadError<CommandFault>>
 }
 
 fn read_path(alloc: Global, document: &OwnedValue) -> Result<Vec<PathPart>, ReadError<CommandFault>>
-    ensures { GivesCommand (λ path. path_view path.items) result (path_of (document_tree document.now)) }
+    ensures { GivesCommand (λ path. path_view path.items) result (as_path (owned_tree document.now)) }
 {
     match document {
         OwnedValue::Array(items) => read_path_parts(alloc, items),
@@ -48,7 +49,7 @@ fn read_path_parts(
     alloc: Global,
     items: &[OwnedValue],
 ) -> Result<Vec<PathPart>, ReadError<CommandFault>>
-    ensures { GivesCommand (λ path. path_view path.items) result (parts_of (items_view items.now)) }
+    ensures { GivesCommand (λ path. path_view path.items) result (as_parts (items_view items.now)) }
 {
     let mut path = Vec::new(alloc);
     for item in items {
@@ -58,7 +59,7 @@ fn read_path_parts(
 }
 
 fn read_key(document: &OwnedValue) -> Result<String, ReadError<CommandFault>>
-    ensures { GivesCommand string_bytes result (key_of (document_tree document.now)) }
+    ensures { GivesCommand string_bytes result (as_key (owned_tree document.now)) }
 {
     match document {
         OwnedValue::String(key) => Ok(key.clone()?),
@@ -98,7 +99,7 @@ fn read_path_and_value(
     alloc: Global,
     mut arguments: Vec<OwnedValue>,
 ) -> Result<(Vec<PathPart>, ScriptValue), ReadError<CommandFault>>
-    ensures { GivesCommand (λ a. (path_view a.0.items, document_tree a.1.value)) result (path_and_value (items_view arguments.items)) }
+    ensures { GivesCommand (λ a. (path_view a.0.items, owned_tree a.1.value)) result (path_and_value (items_view arguments.items)) }
 {
     let Some(value) = arguments.pop() else {
         return Err(ReadError::Refused(CommandFault::WrongCount));
@@ -112,7 +113,7 @@ fn read_path_key_value(
     alloc: Global,
     mut arguments: Vec<OwnedValue>,
 ) -> Result<(Vec<PathPart>, String, ScriptValue), ReadError<CommandFault>>
-    ensures { GivesCommand (λ a. (path_view a.0.items, string_bytes a.1, document_tree a.2.value)) result
+    ensures { GivesCommand (λ a. (path_view a.0.items, string_bytes a.1, owned_tree a.2.value)) result
         (path_key_value (items_view arguments.items)) }
 {
     let Some(value) = arguments.pop() else {
@@ -136,7 +137,7 @@ fn read_nullary(
 }
 
 fn read_command(alloc: Global, document: OwnedValue) -> Result<Command, ReadError<CommandFault>>
-    ensures { GivesCommand command_view result (command_of (document_tree document)) }
+    ensures { GivesCommand command_view result (command_of (owned_tree document)) }
 {
     match document {
         OwnedValue::Array(items) => read_command_items(alloc, items),
@@ -205,7 +206,7 @@ pub(crate) fn read_commands(
     document: OwnedValue,
 ) -> Result<Vec<Command>, ScriptFault>
     ensures { GivesSteps (λ commands. commands_view commands.items) result
-        (commands_in (document_tree document)) }
+        (commands_in (owned_tree document)) }
 {
     match document {
         OwnedValue::Array(items) => read_command_list(alloc, items),

@@ -6,7 +6,7 @@ ghost use Rattle.sj_base.specs.Text.{text, pretty};
 ghost use Rattle.sj_owned.specs.Views.{value_tree, members_view};
 ghost use Rattle.sj_scripts.specs.Step.{Keeping, from_start, reply_of, part_at, type_name, keys_at, key_items, contains_reply, type_reply, len_reply, keys_reply};
 ghost use Rattle.sj_scripts.specs.Step.{fits, fits_below, insertion, removal, pushing, popping, setting};
-ghost use Rattle.sj_scripts.specs.Values.{document_tree};
+ghost use Rattle.sj_scripts.specs.Values.{owned_tree};
 ghost use Rattle.sj_scripts.specs.inside.Documents.{GivesReply, reply_view, ShowsEdit, AppendsOrGrows};
 ghost use Rattle.sj_scripts.specs.Script.{part_view, path_view, Settles};
 ghost use Rattle.sj_base.specs.Output.{AppendsOrLeaves};
@@ -95,7 +95,7 @@ pub trait Document {
         out: &mut Vec<u8>,
     ) -> Result<(), AllocError>
         ensures { Settles result out.old.items out.new.items keeping (tree self.old) (tree self.new) (path_view path.now)
-            (insertion (fits_below (path_view path.now) (document_tree value.now.value) depth) key.now (document_tree value.now.value)) };
+            (insertion (fits_below (path_view path.now) (owned_tree value.now.value) depth) key.now (owned_tree value.now.value)) };
 
     /// Takes the member of a key out of the object that the path selects. Appends the reply to the command `remove`.
     ///
@@ -120,7 +120,7 @@ pub trait Document {
         out: &mut Vec<u8>,
     ) -> Result<(), AllocError>
         ensures { Settles result out.old.items out.new.items keeping (tree self.old) (tree self.new) (path_view path.now)
-            (pushing (fits_below (path_view path.now) (document_tree value.now.value) depth) (document_tree value.now.value)) };
+            (pushing (fits_below (path_view path.now) (owned_tree value.now.value) depth) (owned_tree value.now.value)) };
 
     /// Takes the last item out of the array that the path selects. Appends the reply to the command `pop`.
     ///
@@ -144,7 +144,7 @@ pub trait Document {
         out: &mut Vec<u8>,
     ) -> Result<(), AllocError>
         ensures { Settles result out.old.items out.new.items keeping (tree self.old) (tree self.new) (path_view path.now)
-            (setting (fits (path_view path.now) (document_tree value.now.value) depth) (document_tree value.now.value)) };
+            (setting (fits (path_view path.now) (owned_tree value.now.value) depth) (owned_tree value.now.value)) };
 
     /// Appends the compact text.
     ///

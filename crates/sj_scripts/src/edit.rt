@@ -3,7 +3,7 @@ ghost use Rattle.std.specs.Prelude.{◌≡◌, ◌+◌, nat_le, length, IfOk};
 ghost use Rattle.sj_owned.specs.Views.{value_tree};
 ghost use Rattle.sj_scripts.specs.Script.{path_view};
 ghost use Rattle.sj_scripts.specs.Step.{write_at, insertion, pushing};
-ghost use Rattle.sj_scripts.specs.Values.{document_tree};
+ghost use Rattle.sj_scripts.specs.Values.{owned_tree};
 ghost use Rattle.sj_scripts.specs.inside.Documents.{change_of, IsEdited};
 
 use crate::path::PathPart;
@@ -32,7 +32,7 @@ pub trait ScriptText<D: Literal>: ObjectKey + Sized {
     ///
     /// `AllocError` if there is no memory for the copy.
     fn copy_value(alloc: Global, value: &OwnedValue) -> Result<Value<Self, D>, AllocError>
-        ensures { IfOk result (λ v. value_tree Self.text D.literal v ≡ document_tree value.now) };
+        ensures { IfOk result (λ v. value_tree Self.text D.literal v ≡ owned_tree value.now) };
 }
 
 impl ScriptText<DecimalBuf> for String {
@@ -171,7 +171,7 @@ fn insert_member<K: ScriptText<D> + Drop, D: Literal + Drop>(
     fits: bool,
 ) -> Result<Option<Value<K, D>>, ReadError<Refusal>>
     ensures { IsEdited (value_tree K.text D.literal) result (value_tree K.text D.literal part.old) (value_tree K.text D.literal part.new)
-        (insertion fits key.now (document_tree value.now) (value_tree K.text D.literal part.old)) }
+        (insertion fits key.now (owned_tree value.now) (value_tree K.text D.literal part.old)) }
 {
     if !part.is_object() {
         return Err(ReadError::Refused(Refusal::NotAnObject));
@@ -194,7 +194,7 @@ fn push_last<K: ScriptText<D> + Drop, D: Literal + Drop>(
     fits: bool,
 ) -> Result<Option<Value<K, D>>, ReadError<Refusal>>
     ensures { IsEdited (value_tree K.text D.literal) result (value_tree K.text D.literal part.old) (value_tree K.text D.literal part.new)
-        (pushing fits (document_tree value.now) (value_tree K.text D.literal part.old)) }
+        (pushing fits (owned_tree value.now) (value_tree K.text D.literal part.old)) }
 {
     if !part.is_array() {
         return Err(ReadError::Refused(Refusal::NotAnArray));

@@ -2,7 +2,8 @@
 ghost use Rattle.std.specs.Prelude.{◌≡◌, ◌+◌, true, IfOk, OnOk};
 ghost use Rattle.sj_base.specs.Keep.{IsKept};
 ghost use Rattle.sj_base.specs.Tree.{depth, items_depth, members_depth};
-ghost use Rattle.sj_scripts.specs.Values.{document_tree, items_view, members_view};
+ghost use Rattle.sj_scripts.specs.Values.{owned_tree};
+ghost use Rattle.sj_scripts.specs.inside.Views.{items_view, members_view};
 ghost use Rattle.sj_scripts.specs.inside.KeptValues.{is_kept, KeepItems, KeepMembers};
 
 use sj_object::Object;
@@ -14,8 +15,8 @@ use std::alloc::AllocError;
 pub struct ScriptValue {
     value: OwnedValue,
     levels: usize,
-    ghost counts_levels: { levels ≡ depth (document_tree value) },
-    ghost repeats_no_key: { is_kept (document_tree value) ≡ true },
+    ghost counts_levels: { levels ≡ depth (owned_tree value) },
+    ghost repeats_no_key: { is_kept (owned_tree value) ≡ true },
 }
 
 impl ScriptValue {
@@ -40,7 +41,7 @@ impl ScriptValue {
 
     /// Returns the number of levels that it nests.
     pub fn depth(&self) -> usize
-        ensures { result ≡ depth (document_tree self.now.value) }
+        ensures { result ≡ depth (owned_tree self.now.value) }
     {
         self.levels
     }
@@ -55,8 +56,8 @@ fn one_more(levels: usize) -> Result<usize, AllocError>
 
 #[cycle(count_levels)]
 fn count_levels(value: &OwnedValue) -> Result<usize, AllocError>
-    ensures levels { IfOk result (λ n. n ≡ depth (document_tree value.now)) }
-    ensures kept { OnOk result (IsKept (document_tree value.now)) }
+    ensures levels { IfOk result (λ n. n ≡ depth (owned_tree value.now)) }
+    ensures kept { OnOk result (IsKept (owned_tree value.now)) }
 {
     match value {
         OwnedValue::Array(items) => one_more(count_item_levels(items)?),

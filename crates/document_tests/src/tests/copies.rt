@@ -1,7 +1,7 @@
 //! Of `sj_owned`: copies and conversions, with ample memory.
+use super::expect_text;
 use sj_base::{Decimal, DecimalCow, StaticNode, TryCopy};
-use sj_object::ObjectKey;
-use sj_owned::{Literal, Value, from_borrowed};
+use sj_owned::{Value, from_borrowed};
 use std::alloc::{AllocError, Global};
 use std::borrow::CowStr;
 use std::test::Fail;
@@ -22,15 +22,6 @@ fn borrowed(alloc: Global) -> Result<Borrowed<'static>, Fail> {
     Ok(value)
 }
 
-fn encoded<K: ObjectKey, D: Literal>(
-    alloc: Global,
-    value: &Value<K, D>,
-) -> Result<Vec<u8>, AllocError> {
-    let mut out = Vec::new(alloc);
-    value.encode(&mut out)?;
-    Ok(out)
-}
-
 fn copy_of<T: TryCopy>(value: &T) -> Result<T, AllocError> {
     value.try_clone()
 }
@@ -40,12 +31,12 @@ fn copies(rt: HostRuntime) -> Result<(), Fail> {
     let alloc = rt.alloc();
     let value = borrowed(alloc)?;
     let mut copy = copy_of(&value)?;
-    assert_eq!(rt; encoded(alloc, &copy)?.as_slice(), TEXT.as_bytes());
+    expect_text(&rt, alloc, &copy, TEXT)?;
     let Some(Value::String(CowStr::Borrowed("x"))) = copy.get("s") else {
         return Err(Fail::new("not borrowed"));
     };
     copy.remove("s")?;
-    assert_eq!(rt; encoded(alloc, &value)?.as_slice(), TEXT.as_bytes());
+    expect_text(&rt, alloc, &value, TEXT)?;
     Ok(())
 }
 
@@ -53,17 +44,16 @@ fn copies(rt: HostRuntime) -> Result<(), Fail> {
 fn conversions(rt: HostRuntime) -> Result<(), Fail> {
     let alloc = rt.alloc();
     let value = borrowed(alloc)?;
-    let text = TEXT.as_bytes();
     let copy = value.clone_static(alloc)?;
-    assert_eq!(rt; encoded(alloc, &copy)?.as_slice(), text);
+    expect_text(&rt, alloc, &copy, TEXT)?;
     let Some(Value::String(CowStr::Owned(_))) = copy.get("s") else {
         return Err(Fail::new("not owned"));
     };
     let owned = from_borrowed(alloc, value)?;
-    assert_eq!(rt; encoded(alloc, &owned)?.as_slice(), text);
+    expect_text(&rt, alloc, &owned, TEXT)?;
     let back = Value::from_owned(alloc, owned)?;
-    assert_eq!(rt; encoded(alloc, &back)?.as_slice(), text);
+    expect_text(&rt, alloc, &back, TEXT)?;
     let fixed = back.into_static(alloc)?;
-    assert_eq!(rt; encoded(alloc, &fixed)?.as_slice(), text);
+    expect_text(&rt, alloc, &fixed, TEXT)?;
     Ok(())
 }

@@ -4,6 +4,7 @@ ghost use Rattle.sj_base.specs.Path.{key, put};
 ghost use Rattle.sj_owned.specs.Parts.{member_of};
 ghost use Rattle.sj_owned.specs.Views.{value_tree};
 
+use super::{expect_eq, expect_text};
 use sj_base::{AccessError, Decimal, DecimalBuf, DecimalCow, StaticNode};
 use sj_object::ObjectKey;
 use sj_owned::{Literal, OwnedValue as Value, SameAs, Value as Document, to_owned_value};
@@ -19,12 +20,6 @@ fn text(alloc: Global, text: &str) -> Result<Value, AllocError> {
 
 fn number(n: u64) -> Value {
     Value::Static(StaticNode::U64(n))
-}
-
-fn encoded(alloc: Global, value: &Value) -> Result<Vec<u8>, AllocError> {
-    let mut out = Vec::new(alloc);
-    value.encode(&mut out)?;
-    Ok(out)
 }
 
 // {"n":1,"s":"x","a":[1],"o":{}}
@@ -65,12 +60,8 @@ fn read_and_edit(rt: HostRuntime) -> Result<(), Fail> {
     tags.push(Value::from_text(alloc, "admin")?)?;
     package.insert(String::from_str(alloc, "essential")?, Value::from(true))?;
     package.remove("size")?;
-    let mut out = Vec::new(alloc);
-    package.encode(&mut out)?;
-    assert_eq!(rt;
-        out.as_slice(),
-        br#"{"name":"passwd","tags":["base","admin"],"essential":true}"#.as_slice()
-    );
+    let text = r#"{"name":"passwd","tags":["base","admin"],"essential":true}"#;
+    expect_text(&rt, alloc, &package, text)?;
     Ok(())
 }
 
@@ -83,16 +74,10 @@ fn owned_edit_by_index(rt: HostRuntime) -> Result<(), Fail> {
     o["key"].push(Value::object(alloc))?;
     o.get("key").ok_or("no key")?.get_idx(0).ok_or("no item")?;
     o["key"][0].insert(String::from_str(alloc, "other")?, text(alloc, "value")?)?;
-    assert_eq!(rt;
-        encoded(alloc, &o)?.as_slice(),
-        br#"{"key":[{"other":"value"}]}"#.as_slice()
-    );
+    expect_text(&rt, alloc, &o, r#"{"key":[{"other":"value"}]}"#)?;
     let items = o.get_mut("key").ok_or("no key")?;
     *items.get_idx_mut(0).ok_or("no item")? = number(1);
-    assert_eq!(rt;
-        encoded(alloc, &o)?.as_slice(),
-        br#"{"key":[1]}"#.as_slice()
-    );
+    expect_text(&rt, alloc, &o, r#"{"key":[1]}"#)?;
     Ok(())
 }
 
@@ -105,15 +90,19 @@ fn owned_insert_remove(rt: HostRuntime) -> Result<(), Fail> {
             .is_none()
     );
     let old = v.insert(String::from_str(alloc, "key")?, number(2))?;
-    assert_eq!(rt; old.ok_or("no key")?.as_u64(), Some(1));
+    expect_eq(&rt, old.ok_or("no key")?.as_u64(), Some(1));
     v.get("key").ok_or("no key")?;
     v["key"] = number(3);
-    assert_eq!(rt; v.remove("key")?.ok_or("no key")?.as_u64(), Some(3));
+    expect_eq(&rt, v.remove("key")?.ok_or("no key")?.as_u64(), Some(3));
     assert!(rt; v.remove("key")?.is_none());
     let mut null = Value::null();
     let refused = null.insert(String::from_str(alloc, "key")?, number(1));
-    assert_eq!(rt; refused.err(), Some(AccessError::NotAnObject));
-    assert_eq!(rt; null.push(number(1)).err(), Some(AccessError::NotAnArray));
+    expect_eq(&rt, refused.err(), Some(AccessError::NotAnObject));
+    expect_eq(
+        &rt,
+        null.push(number(1)).err(),
+        Some(AccessError::NotAnArray),
+    );
     Ok(())
 }
 
@@ -123,7 +112,7 @@ fn written_member(rt: HostRuntime) -> Result<(), Fail> {
     let mut v = sample(alloc)?;
     v.get("n").ok_or("no member")?;
     write_member(&mut v, "n", number(4));
-    assert_eq!(rt; v.get_u64("n"), Some(4));
+    expect_eq(&rt, v.get_u64("n"), Some(4));
     Ok(())
 }
 
@@ -136,7 +125,11 @@ fn room_and_lines(rt: HostRuntime) -> Result<(), Fail> {
     v.insert(String::from_str(alloc, "a")?, items)?;
     let mut out = b"> ".to_vec(alloc)?;
     v.encode_pp(&mut out)?;
-    assert_eq!(rt; out.as_slice(), "> {\n  \"a\": [\n    1\n  ]\n}".as_bytes());
+    expect_eq(
+        &rt,
+        out.as_slice(),
+        b"> {\n  \"a\": [\n    1\n  ]\n}".as_slice(),
+    );
     Ok(())
 }
 
@@ -146,9 +139,9 @@ fn owned_push_pop(rt: HostRuntime) -> Result<(), Fail> {
     let mut v = Value::array(alloc);
     v.push(text(alloc, "zero")?)?;
     v.push(number(1))?;
-    assert_eq!(rt; v.get_idx(1).ok_or("no item")?.as_u64(), Some(1));
-    assert_eq!(rt; v.pop()?.ok_or("no item")?.as_u64(), Some(1));
-    assert_eq!(rt; v.pop()?.ok_or("no item")?.as_str(), Some("zero"));
+    expect_eq(&rt, v.get_idx(1).ok_or("no item")?.as_u64(), Some(1));
+    expect_eq(&rt, v.pop()?.ok_or("no item")?.as_u64(), Some(1));
+    expect_eq(&rt, v.pop()?.ok_or("no item")?.as_str(), Some("zero"));
     assert!(rt; v.pop()?.is_none());
     Ok(())
 }
@@ -172,7 +165,8 @@ fn equal_documents(rt: HostRuntime) -> Result<(), Fail> {
     let there = two_members(alloc, "a", "b")?;
     let back = two_members(alloc, "b", "a")?;
     assert!(rt; there == back);
-    assert!(rt; encoded(alloc, &there)?.as_slice() != encoded(alloc, &back)?.as_slice());
+    expect_text(&rt, alloc, &there, r#"{"a":true,"b":false}"#)?;
+    expect_text(&rt, alloc, &back, r#"{"b":false,"a":true}"#)?;
     let mut long = Value::array(alloc);
     long.push(decimal(alloc, "1.50")?)?;
     let mut short = Value::array(alloc);
@@ -196,21 +190,20 @@ fn made_of_values(rt: HostRuntime) -> Result<(), Fail> {
         ],
     )?;
     let object = Value::from_pairs(alloc, pairs)?;
-    assert_eq!(rt;
-        encoded(alloc, &object)?.as_slice(),
-        r#"{"a":3,"b":2}"#.as_bytes()
-    );
+    expect_text(&rt, alloc, &object, r#"{"a":3,"b":2}"#)?;
     let mut map = HashMap::new(alloc);
     map.insert(String::from_str(alloc, "b")?, Value::from(2i8))?;
     map.insert(String::from_str(alloc, "a")?, Value::from(3usize))?;
     assert!(rt; object.same_as(&map));
-    assert_eq!(rt;
-        encoded(alloc, &Value::from_map(alloc, map)?)?.as_slice(),
-        r#"{"a":3,"b":2}"#.as_bytes()
-    );
+    expect_text(
+        &rt,
+        alloc,
+        &Value::from_map(alloc, map)?,
+        r#"{"a":3,"b":2}"#,
+    )?;
     let list = Value::from_list(alloc, Vec::from_array(alloc, [Some(1u8), None])?)?;
     let values = Value::from_values(alloc, Vec::from_array(alloc, [1i64])?)?;
-    assert_eq!(rt; encoded(alloc, &list)?.as_slice(), "[1,null]".as_bytes());
+    expect_text(&rt, alloc, &list, "[1,null]")?;
     assert!(rt; values.same_as(&Vec::from_array(alloc, [1u64])?));
     assert!(rt; Value::from_text(alloc, "x")?.same_as(&"x"));
     Ok(())
@@ -220,10 +213,9 @@ fn made_of_values(rt: HostRuntime) -> Result<(), Fail> {
 fn shown_documents(rt: HostRuntime) -> Result<(), Fail> {
     let alloc = rt.alloc();
     let v = sample(alloc)?;
-    assert_eq!(rt;
-        v.to_string(alloc)?.as_str(),
-        r#"{"n":1,"s":"x","a":[1],"o":{}}"#
-    );
-    assert_eq!(rt; text(alloc, "x\n")?.to_string(alloc)?.as_str(), "x\n");
+    let shown = v.to_string(alloc)?;
+    expect_eq(&rt, shown.as_str(), r#"{"n":1,"s":"x","a":[1],"o":{}}"#);
+    let shown = text(alloc, "x\n")?.to_string(alloc)?;
+    expect_eq(&rt, shown.as_str(), "x\n");
     Ok(())
 }

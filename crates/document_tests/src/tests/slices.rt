@@ -1,4 +1,5 @@
 //! Of `sj_values`: borrowed documents that are built of the nodes of a view.
+use super::{expect_eq, expect_text};
 use sj_parse::to_tape;
 use sj_reads::ValueAsScalar;
 use sj_tape::{Node, Value};
@@ -18,14 +19,11 @@ fn values_of_a_view(rt: HostRuntime) -> Result<(), Fail> {
         return Err(Fail::new("no array"));
     };
     assert!(rt; !values.is_at_end());
-    assert_eq!(rt; values.parse(alloc)?.as_u64(), Some(1));
+    expect_eq(&rt, values.parse(alloc)?.as_u64(), Some(1));
     assert!(rt; !values.is_at_end());
-    let object = values.parse(alloc)?;
-    let mut out = Vec::new(alloc);
-    object.encode(&mut out)?;
-    assert_eq!(rt; out.as_slice(), br#"{"k":2}"#.as_slice());
+    expect_text(&rt, alloc, &values.parse(alloc)?, r#"{"k":2}"#)?;
     assert!(rt; !values.is_at_end());
-    assert_eq!(rt; values.parse(alloc)?.as_str(), Some("s"));
+    expect_eq(&rt, values.parse(alloc)?.as_str(), Some("s"));
     assert!(rt; values.is_at_end());
     assert!(rt; BorrowSliceDeserializer::from_tape(Value::null()).is_at_end());
     Ok(())

@@ -1,41 +1,26 @@
 //! Of `sj_owned` and `sj_values`: documents that are read from bytes, with ample memory.
+use super::{expect_eq, expect_text};
 use sj_base::{DecimalCow, ErrorType, ValueType};
-use sj_object::ObjectKey;
 use sj_owned::{
-    Literal, OwnedDeserializer, OwnedValue, Value, deserialize, deserialize_with_buffers,
-    to_owned_value, to_owned_value_with_buffers,
+    OwnedDeserializer, OwnedValue, Value, deserialize, deserialize_with_buffers, to_owned_value,
+    to_owned_value_with_buffers,
 };
 use sj_parse::{Buffers, Deserializer};
 use sj_values::{BorrowDeserializer, to_borrowed_value, to_borrowed_value_with_buffers};
-use std::alloc::{AllocError, Global};
 use std::borrow::CowStr;
-use std::process::Abort;
 use std::test::Fail;
-
-// Compares the compact text of a document.
-fn check_text<K: ObjectKey, D: Literal>(
-    rt: &impl Abort,
-    alloc: Global,
-    value: &Value<K, D>,
-    text: &str,
-) -> Result<(), AllocError> {
-    let mut out = Vec::new(alloc);
-    value.encode(&mut out)?;
-    assert_eq!(rt; out.as_slice(), text.as_bytes());
-    Ok(())
-}
 
 #[test]
 fn read_by_their_own_buffers(rt: HostRuntime) -> Result<(), Fail> {
     let alloc = rt.alloc();
     let mut text = br#"{"a":1,"a":2}"#.to_vec(alloc)?;
-    check_text(&rt, alloc, &to_owned_value(alloc, &mut text)?, r#"{"a":1}"#)?;
+    expect_text(&rt, alloc, &to_owned_value(alloc, &mut text)?, r#"{"a":1}"#)?;
     let mut text = br#"{"some": ["key", "value", 2]}"#.to_vec(alloc)?;
     let value = to_borrowed_value(alloc, &mut text)?;
-    check_text(&rt, alloc, &value, r#"{"some":["key","value",2]}"#)?;
+    expect_text(&rt, alloc, &value, r#"{"some":["key","value",2]}"#)?;
     let mut text = b"[1.50]".to_vec(alloc)?;
     let value = deserialize::<OwnedValue, String>(alloc, &mut text)?;
-    check_text(&rt, alloc, &value, "[1.50]")?;
+    expect_text(&rt, alloc, &value, "[1.50]")?;
     Ok(())
 }
 
@@ -45,16 +30,16 @@ fn read_by_buffers(rt: HostRuntime) -> Result<(), Fail> {
     let mut buffers = Buffers::with_max_depth(alloc, 0, 1)?;
     let mut text = br#"["a"]"#.to_vec(alloc)?;
     let value = to_owned_value_with_buffers(alloc, &mut text, &mut buffers)?;
-    check_text(&rt, alloc, &value, r#"["a"]"#)?;
+    expect_text(&rt, alloc, &value, r#"["a"]"#)?;
     let mut text = br#"["\u0061"]"#.to_vec(alloc)?;
     let value = to_borrowed_value_with_buffers(alloc, &mut text, &mut buffers)?;
-    check_text(&rt, alloc, &value, r#"["a"]"#)?;
+    expect_text(&rt, alloc, &value, r#"["a"]"#)?;
     let mut text = b"7".to_vec(alloc)?;
     let value = deserialize_with_buffers::<OwnedValue, String>(alloc, &mut text, &mut buffers)?;
-    check_text(&rt, alloc, &value, "7")?;
+    expect_text(&rt, alloc, &value, "7")?;
     let mut text = b"[[]]".to_vec(alloc)?;
     let error = to_owned_value_with_buffers(alloc, &mut text, &mut buffers).err();
-    assert_eq!(rt; error.ok_or("no error")?.error(), ErrorType::Syntax);
+    expect_eq(&rt, error.ok_or("no error")?.error(), ErrorType::Syntax);
     Ok(())
 }
 
@@ -70,14 +55,14 @@ fn taken_from_a_tape(rt: HostRuntime) -> Result<(), Fail> {
     let mut values = OwnedDeserializer::from_deserializer(nodes);
     for part in ["[1,{}]", r#""b""#, "2"] {
         assert!(rt; !values.is_at_end());
-        check_text(&rt, alloc, &values.parse(alloc)?, part)?;
+        expect_text(&rt, alloc, &values.parse(alloc)?, part)?;
     }
     assert!(rt; values.is_at_end());
     let mut text = br#"{"a":1,"a":2}"#.to_vec(alloc)?;
     let nodes = Deserializer::from_slice(alloc, &mut text)?;
     let mut values = BorrowDeserializer::from_deserializer(nodes);
     assert!(rt; !values.is_at_end());
-    check_text(&rt, alloc, &values.parse(alloc)?, r#"{"a":1}"#)?;
+    expect_text(&rt, alloc, &values.parse(alloc)?, r#"{"a":1}"#)?;
     assert!(rt; values.is_at_end());
     Ok(())
 }
@@ -89,7 +74,11 @@ fn read_as_they_stand(rt: HostRuntime) -> Result<(), Fail> {
     let mut text = br#"[5,-5,"a","\u0061",1.5]"#.to_vec(alloc)?;
     let value = to_borrowed_value(alloc, &mut text)?;
     for (place, kind) in [(0, ValueType::U64), (1, ValueType::I64)] {
-        assert_eq!(rt; value.get_idx(place).ok_or("no item")?.value_type(), kind);
+        expect_eq(
+            &rt,
+            value.get_idx(place).ok_or("no item")?.value_type(),
+            kind,
+        );
     }
     for place in [2, 3] {
         let Some(Value::String(CowStr::Borrowed("a"))) = value.get_idx(place) else {

@@ -13,7 +13,7 @@ use Rattle.sj_scripts.specs.declared.read_error.ReadError.{ReadError}
 use Rattle.sj_scripts.specs.declared.read_error.ReadError.TheVariants.{Memory, Refused}
 use Rattle.std.specs.declared.alloc.AllocError.{AllocError}
 use Rattle.sj_base.specs.Text.{text, items_text, more_items_text}
-use Rattle.sj_scripts.specs.Values.{document_tree}
+use Rattle.sj_scripts.specs.Values.{owned_tree}
 use Rattle.sj_base.specs.Output.{AppendsOrLeaves}
 use Rattle.sj_scripts.specs.Step.{Word, Rewrite, reply_of, insertion, removal, pushing, popping, setting, key_items}
 
@@ -52,11 +52,11 @@ reply_view (Err why) = string (refusal_name why)
 
 -- the change that an edit makes of a part
 abbrev pub change_of : Edit → Rewrite
-change_of (Insert k v fits) = insertion fits k.now (document_tree v.now)
+change_of (Insert k v fits) = insertion fits k.now (owned_tree v.now)
 change_of (Remove k) = removal k.now
-change_of (Push v fits) = pushing fits (document_tree v.now)
+change_of (Push v fits) = pushing fits (owned_tree v.now)
 change_of Pop = popping
-change_of (Set v fits) = setting fits (document_tree v.now)
+change_of (Set v fits) = setting fits (owned_tree v.now)
 
 -- What an edit of the tree t leaves: what it replaced or took out and the new tree, or a refusal and the old tree. Want of
 -- memory leaves the old tree.

@@ -6,7 +6,8 @@ use Rattle.sj_base.specs.Keep.{keep_items, keep_members}
 use Rattle.sj_base.specs.Path.{member_at}
 use Rattle.sj_base.specs.Tree.{Tree, null, boolean, integer, decimal, string, list, object, Items, no_items, item, Members, no_members, member}
 use Rattle.sj_object.specs.declared.entry.Entry.{Entry}
-use Rattle.sj_scripts.specs.Values.{Document, items_view, members_view}
+use Rattle.sj_scripts.specs.Values.{OwnedValue}
+use Rattle.sj_scripts.specs.inside.Views.{items_view, members_view}
 
 abbrev mutual
   pub is_kept : Tree → Bool
@@ -27,8 +28,8 @@ abbrev mutual
   are_kept_members (member k t ms) = is_kept t && (not (is_some (member_at ms k)) && are_kept_members ms)
 
 -- The items and the members of values are kept.
-abbrev pub KeepItems : List Document → Type 0
+abbrev pub KeepItems : List OwnedValue → Type 0
 KeepItems vs = keep_items (items_view vs) ≡ items_view vs
 
-abbrev pub KeepMembers : List (Entry (String Global) Document) → Type 0
+abbrev pub KeepMembers : List (Entry (String Global) OwnedValue) → Type 0
 KeepMembers es = keep_members (members_view es) ≡ members_view es

@@ -3,6 +3,7 @@
 ghost use Rattle.std.specs.Prelude.{◌≡◌, ◌≢◌, [], IfOk};
 ghost use Rattle.sj_tape.specs.Views.{tape_nodes};
 
+use super::expect_eq;
 use sj_base::{Counted, StaticNode, WriteFault};
 use sj_reads::ValueAsScalar;
 use sj_tape::{Node, Tape, Value};
@@ -99,7 +100,7 @@ fn nodes_keep_their_vector(rt: HostRuntime) -> Result<(), Fail> {
     nodes.push(Node::Static(StaticNode::Null))?;
     let tape = Tape::new(nodes).ok_or("no tape")?;
     let nodes = tape.into_nodes();
-    assert_eq!(rt; nodes.len(), 1);
+    expect_eq(&rt, nodes.len(), 1);
     assert!(rt; nodes.capacity() >= 100);
     Ok(())
 }

@@ -1,4 +1,5 @@
 //! Of `sj_object`: worked rows, and calls with ample memory.
+use super::expect_eq;
 use sj_base::{StaticNode, TryCopy};
 use sj_object::{
     CopyKey, MakeKey, NotSoRandomState, Object, ObjectHasher, ObjectKey, Refused, hash_key,
@@ -30,20 +31,27 @@ fn replaced_in_place(rt: HostRuntime) -> Result<(), Fail> {
     let mut object: Object<String, u64> = Object::with_capacity(rt.alloc(), 2)?;
     assert!(rt; object.is_empty());
     for (text, value, old) in [("a", 1, None), ("b", 2, None), ("a", 3, Some(1))] {
-        assert_eq!(rt;
+        expect_eq(
+            &rt,
             object.insert(String::from_str(rt.alloc(), text)?, value)?,
-            old
+            old,
         );
     }
-    assert_eq!(rt;
+    expect_eq(
+        &rt,
         (object.len(), object.get("a"), object.get("b")),
-        (2, Some(&3), Some(&2))
+        (2, Some(&3), Some(&2)),
     );
     assert!(rt; object.contains_key("a") && !object.contains_key(""));
-    assert_eq!(rt; (object.remove("a"), object.remove("a")), (Some(3), None));
-    assert_eq!(rt;
+    expect_eq(
+        &rt,
+        (object.remove("a"), object.remove("a")),
+        (Some(3), None),
+    );
+    expect_eq(
+        &rt,
         (object.len(), object.get("a"), object.get("b")),
-        (1, None, Some(&2))
+        (1, None, Some(&2)),
     );
     Ok(())
 }
@@ -54,7 +62,7 @@ fn pairs_in_order(rt: HostRuntime) -> Result<(), Fail> {
     if let Some(value) = object.get_mut("a") {
         *value = 5;
     }
-    assert_eq!(rt; object.get_mut("d"), None);
+    expect_eq(&rt, object.get_mut("d"), None);
     let mut shown = String::new(rt.alloc());
     for (key, value) in object.iter() {
         write!(shown, "{key}{value} ")?;
@@ -71,7 +79,7 @@ fn pairs_in_order(rt: HostRuntime) -> Result<(), Fail> {
     for (key, value) in object {
         write!(shown, "{key}{value} ")?;
     }
-    assert_eq!(rt; shown.as_str(), "b2 a5 b2 a5 b a 2 5 b2 a5 ");
+    expect_eq(&rt, shown.as_str(), "b2 a5 b2 a5 b a 2 5 b2 a5 ");
     Ok(())
 }
 
@@ -83,31 +91,40 @@ fn places(rt: HostRuntime) -> Result<(), Fail> {
     for i in 0..33u64 {
         object.insert(format!(in alloc; "k{i}")?, i)?;
     }
-    assert_eq!(rt; object.remove("k0"), Some(0));
-    assert_eq!(rt; (object.get("k32"), object.len()), (Some(&32), 32));
-    assert_eq!(rt; object.insert(String::from_str(alloc, "k0")?, 7)?, None);
-    assert_eq!(rt;
+    expect_eq(&rt, object.remove("k0"), Some(0));
+    expect_eq(&rt, (object.get("k32"), object.len()), (Some(&32), 32));
+    expect_eq(&rt, object.insert(String::from_str(alloc, "k0")?, 7)?, None);
+    expect_eq(
+        &rt,
         (object.place("k1"), object.place("k0")),
-        (Some(0), Some(32))
+        (Some(0), Some(32)),
     );
-    assert_eq!(rt; (object.remove("k1"), object.place("k1")), (Some(1), None));
+    expect_eq(
+        &rt,
+        (object.remove("k1"), object.place("k1")),
+        (Some(1), None),
+    );
     let key = String::from_str(alloc, "k1")?;
     if object.contains_key(&key) {
         return Err(Fail::new("k1 was removed"));
     }
     object.insert_at(0, key, 9)?;
-    assert_eq!(rt; (object.get("k0"), object.place("k1")), (Some(&7), Some(0)));
+    expect_eq(
+        &rt,
+        (object.get("k0"), object.place("k1")),
+        (Some(&7), Some(0)),
+    );
     for (key, value) in [("k1", 9), ("k2", 2), ("k3", 3), ("k4", 4)] {
-        assert_eq!(rt; object.remove(key), Some(value));
+        expect_eq(&rt, object.remove(key), Some(value));
     }
-    assert_eq!(rt; object.get("k0"), Some(&7));
+    expect_eq(&rt, object.get("k0"), Some(&7));
     Ok(())
 }
 
 #[test]
 fn refused(rt: HostRuntime) -> Result<(), Fail> {
     let pair = Refused { key: "a", value: 1 };
-    assert_eq!(rt; pair.to_string(rt.alloc())?.as_str(), "Refused");
+    expect_eq(&rt, pair.to_string(rt.alloc())?.as_str(), "Refused");
     Ok(())
 }
 
@@ -115,12 +132,12 @@ fn refused(rt: HostRuntime) -> Result<(), Fail> {
 fn ended_iterators(rt: HostRuntime) -> Result<(), Fail> {
     let object: Object<String, u64> = object_of(rt.alloc(), &[("a", 1)])?;
     let mut pairs = object.iter();
-    assert_eq!(rt; (pairs.len(), pairs.size_hint()), (1, (1, Some(1))));
+    expect_eq(&rt, (pairs.len(), pairs.size_hint()), (1, (1, Some(1))));
     assert!(rt; pairs.next().is_some());
     assert!(rt; pairs.next().is_none() && pairs.next().is_none());
-    assert_eq!(rt; (object.keys().len(), object.values().len()), (1, 1));
+    expect_eq(&rt, (object.keys().len(), object.values().len()), (1, 1));
     let mut pairs = object.into_iter();
-    assert_eq!(rt; (pairs.len(), pairs.size_hint()), (1, (1, Some(1))));
+    expect_eq(&rt, (pairs.len(), pairs.size_hint()), (1, (1, Some(1))));
     assert!(rt; pairs.next().is_some());
     assert!(rt; pairs.next().is_none() && pairs.next().is_none());
     Ok(())
@@ -153,8 +170,8 @@ fn copies(rt: HostRuntime) -> Result<(), Fail> {
     let Some((CowStr::Borrowed("b"), StaticNode::Null)) = copy.iter().next() else {
         return Err(Fail::new("another first pair"));
     };
-    assert_eq!(rt; copy.remove("a"), Some(StaticNode::I64(-1)));
-    assert_eq!(rt; (copy.len(), object.len()), (1, 2));
+    expect_eq(&rt, copy.remove("a"), Some(StaticNode::I64(-1)));
+    expect_eq(&rt, (copy.len(), object.len()), (1, 2));
     Ok(())
 }
 
@@ -166,7 +183,7 @@ fn hashes(rt: HostRuntime) {
         assert_eq!(rt; hasher.hash_text(text), hash, "at {text}");
     }
     let text = "a longer key, so that the hash wraps";
-    assert_eq!(rt; hash_key(text), 16192448537463894838);
+    expect_eq(&rt, hash_key(text), 16192448537463894838);
 }
 
 // Six blocks, one for each binary digit of `number`, highest first.
@@ -185,21 +202,21 @@ fn forty_equal_hashes(rt: HostRuntime) -> Result<(), Fail> {
     let hash = hash_key("AaAaAaAaAaAa");
     for number in 0..40 {
         let key = colliding_key(rt.alloc(), number)?;
-        assert_eq!(rt; hash_key(key.as_str()), hash);
+        expect_eq(&rt, hash_key(key.as_str()), hash);
         let hash = hash_key(key.as_str());
-        assert_eq!(rt; object.insert_hashed(hash, key, number)?, None);
+        expect_eq(&rt, object.insert_hashed(hash, key, number)?, None);
     }
     let key = "BBAaAaBBBBBB";
-    assert_eq!(rt; object.get_hashed(hash_key(key), key), Some(&39));
-    assert_eq!(rt; object.remove("AaAaAaAaAaAa"), Some(0));
-    assert_eq!(rt; object.len(), 39);
+    expect_eq(&rt, object.get_hashed(hash_key(key), key), Some(&39));
+    expect_eq(&rt, object.remove("AaAaAaAaAaAa"), Some(0));
+    expect_eq(&rt, object.len(), 39);
     for (number, value) in (1..40).zip(object.values()) {
-        assert_eq!(rt; number, *value);
+        expect_eq(&rt, number, *value);
     }
     if let Some(value) = object.get_hashed_mut(hash_key(key), key) {
         *value = 0;
     }
-    assert_eq!(rt; object.get(key), Some(&0));
+    expect_eq(&rt, object.get(key), Some(&0));
     Ok(())
 }
 
@@ -216,8 +233,8 @@ fn made_once(rt: HostRuntime) -> Result<(), Fail> {
         let Ok(found) = object.get_or_insert_hashed(hash, CowStr::Borrowed(text), with) else {
             return Err(Fail::new("refused"));
         };
-        assert_eq!(rt; *found, value);
+        expect_eq(&rt, *found, value);
     }
-    assert_eq!(rt; (calls, object.len()), (2, 2));
+    expect_eq(&rt, (calls, object.len()), (2, 2));
     Ok(())
 }

@@ -1,4 +1,5 @@
 //! Of `sj_scan`: worked positions, the two scans beside each other, and the display texts of faults.
+use super::expect_eq;
 use sj_scan::{BlockScan, PlainScan, ScanFault, Stage1};
 use std::alloc::Global;
 use std::process::Abort;
@@ -25,8 +26,8 @@ fn scanned(
     let plain = scanned_by(alloc, PlainScan, bytes)?;
     let block = scanned_by(alloc, BlockScan, bytes)?;
     match (&plain, &block) {
-        (Ok(plain), Ok(block)) => assert_eq!(rt; plain.as_slice(), block.as_slice()),
-        (plain, block) => assert_eq!(rt; plain.as_ref().err(), block.as_ref().err()),
+        (Ok(plain), Ok(block)) => expect_eq(rt, plain.as_slice(), block.as_slice()),
+        (plain, block) => expect_eq(rt, plain.as_ref().err(), block.as_ref().err()),
     }
     Ok(block)
 }
@@ -127,7 +128,7 @@ fn displayed_faults(rt: HostRuntime) -> Result<(), Fail> {
         (ScanFault::NoToken, "NoToken"),
         (ScanFault::Memory, "Memory"),
     ] {
-        assert_eq!(rt; fault.to_string(rt.alloc())?.as_str(), text);
+        expect_eq(&rt, fault.to_string(rt.alloc())?.as_str(), text);
     }
     Ok(())
 }

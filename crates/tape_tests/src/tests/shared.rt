@@ -1,5 +1,6 @@
 //! Of `sj_base` and `sj_reads`: printed texts, the display texts of errors, worked rows, and that there is memory for what
 //! is asked.
+use super::expect_eq;
 use sj_base::{
     AccessError, Counted, Decimal, DecimalBuf, DecimalCow, Error, ErrorType, Layout, Scalar,
     StaticNode, TextBuffer, TryCopy, TryTypeError, ValueType, WriteFault, print_text, put_break,
@@ -21,7 +22,7 @@ fn strings(rt: HostRuntime) -> Result<(), Fail> {
     ] {
         let mut out = Vec::new(rt.alloc());
         put_string(&mut out, string)?;
-        assert_eq!(rt; out.as_slice(), text.as_bytes());
+        expect_eq(&rt, out.as_slice(), text.as_bytes());
     }
     Ok(())
 }
@@ -38,10 +39,10 @@ fn scalars(rt: HostRuntime) -> Result<(), Fail> {
     ] {
         let mut out = Vec::new(rt.alloc());
         put_text(&mut out, &scalar)?;
-        assert_eq!(rt; out.as_slice(), text.as_bytes());
+        expect_eq(&rt, out.as_slice(), text.as_bytes());
         let mut buffer = TextBuffer::new(Vec::new(rt.alloc()));
         print_text(&mut buffer, &scalar)?;
-        assert_eq!(rt; buffer.into_vec().as_slice(), text.as_bytes());
+        expect_eq(&rt, buffer.into_vec().as_slice(), text.as_bytes());
     }
     Ok(())
 }
@@ -50,7 +51,7 @@ fn scalars(rt: HostRuntime) -> Result<(), Fail> {
 fn integers(rt: HostRuntime) -> Result<(), Fail> {
     let mut out = Vec::new(rt.alloc());
     put_int(&mut out, i64::MIN)?;
-    assert_eq!(rt; out.as_slice(), b"-9223372036854775808".as_slice());
+    expect_eq(&rt, out.as_slice(), b"-9223372036854775808".as_slice());
     Ok(())
 }
 
@@ -58,7 +59,7 @@ fn integers(rt: HostRuntime) -> Result<(), Fail> {
 fn line_breaks(rt: HostRuntime) -> Result<(), Fail> {
     let mut out = Vec::new(rt.alloc());
     put_break(&mut out, 2)?;
-    assert_eq!(rt; out.as_slice(), b"\n    ".as_slice());
+    expect_eq(&rt, out.as_slice(), b"\n    ".as_slice());
     Ok(())
 }
 
@@ -72,7 +73,7 @@ fn layouts(rt: HostRuntime) -> Result<(), Fail> {
     let mut list = Layout::Compact.open_list(&mut out)?;
     list.next(&mut out)?;
     list.close(&mut out)?;
-    assert_eq!(rt; out.as_slice(), b"{\n  \"a\": \n}[]".as_slice());
+    expect_eq(&rt, out.as_slice(), b"{\n  \"a\": \n}[]".as_slice());
     Ok(())
 }
 
@@ -80,20 +81,24 @@ fn layouts(rt: HostRuntime) -> Result<(), Fail> {
 fn error_texts(rt: HostRuntime) -> Result<(), Fail> {
     let error = Error::at(ErrorType::ExpectedTrue, 5, b't');
     let text = error.to_string(rt.alloc())?;
-    assert_eq!(rt; text.as_str(), "ExpectedTrue at character 5 ('t')");
+    expect_eq(&rt, text.as_str(), "ExpectedTrue at character 5 ('t')");
     let met = TryTypeError {
         expected: ValueType::I64,
         got: ValueType::Bool,
     };
-    assert_eq!(rt; met.to_string(rt.alloc())?.as_str(), "TryTypeError");
+    expect_eq(&rt, met.to_string(rt.alloc())?.as_str(), "TryTypeError");
     for (fault, text) in [
         (AccessError::NotAnObject, "NotAnObject"),
         (AccessError::NotAnArray, "NotAnArray"),
         (AccessError::Memory, "Memory"),
     ] {
-        assert_eq!(rt; fault.to_string(rt.alloc())?.as_str(), text);
+        expect_eq(&rt, fault.to_string(rt.alloc())?.as_str(), text);
     }
-    assert_eq!(rt; WriteFault.to_string(rt.alloc())?.as_str(), "WriteFault");
+    expect_eq(
+        &rt,
+        WriteFault.to_string(rt.alloc())?.as_str(),
+        "WriteFault",
+    );
     Ok(())
 }
 
@@ -104,17 +109,21 @@ fn copy_of<T: TryCopy>(value: &T) -> Result<T, AllocError> {
 #[test]
 fn integers_and_types(rt: HostRuntime) -> Result<(), Fail> {
     assert!(rt; StaticNode::I64(5) == StaticNode::U64(5));
-    assert_eq!(rt; copy_of(&StaticNode::I64(5))?.value_type(), ValueType::I64);
+    expect_eq(
+        &rt,
+        copy_of(&StaticNode::I64(5))?.value_type(),
+        ValueType::I64,
+    );
     let too_large = TryTypeError {
         expected: ValueType::U64,
         got: ValueType::U64,
     };
-    assert_eq!(rt; StaticNode::U64(300).try_as_u8(), Err(too_large));
+    expect_eq(&rt, StaticNode::U64(300).try_as_u8(), Err(too_large));
     let no_integer = TryTypeError {
         expected: ValueType::I64,
         got: ValueType::Bool,
     };
-    assert_eq!(rt; StaticNode::Bool(true).try_as_i32(), Err(no_integer));
+    expect_eq(&rt, StaticNode::Bool(true).try_as_i32(), Err(no_integer));
     Ok(())
 }
 
@@ -123,9 +132,9 @@ fn decimals(rt: HostRuntime) -> Result<(), Fail> {
     for text in ["1.50", "-0e0", "1E+5"] {
         let literal = Decimal::new(text).ok_or("refused")?;
         let owned = DecimalBuf::new(rt.alloc(), literal)?;
-        assert_eq!(rt; copy_of(&owned)?.as_decimal().as_str(), text);
+        expect_eq(&rt, copy_of(&owned)?.as_decimal().as_str(), text);
         let cow = DecimalCow::Owned(owned);
-        assert_eq!(rt; copy_of(&cow)?.as_decimal().as_str(), text);
+        expect_eq(&rt, copy_of(&cow)?.as_decimal().as_str(), text);
     }
     for text in ["1", "01.5", "1.", ".5", "1e", "+1.5", ""] {
         assert!(rt; Decimal::new(text).is_none(), "at {text}");
@@ -136,8 +145,8 @@ fn decimals(rt: HostRuntime) -> Result<(), Fail> {
 #[test]
 fn copies_of_texts(rt: HostRuntime) -> Result<(), Fail> {
     let text = String::from_str(rt.alloc(), "text")?;
-    assert_eq!(rt; copy_of(&text)?.as_str(), "text");
-    assert_eq!(rt; copy_of(&CowStr::Owned(text))?.as_str(), "text");
+    expect_eq(&rt, copy_of(&text)?.as_str(), "text");
+    expect_eq(&rt, copy_of(&CowStr::Owned(text))?.as_str(), "text");
     let CowStr::Borrowed("text") = copy_of(&CowStr::Borrowed("text"))? else {
         return Err(Fail::new("another copy"));
     };

@@ -1,4 +1,5 @@
 //! Of `sj_parse`: worked reads of tapes, that a tape's room is used again, and that there is memory for what is asked.
+use super::expect_eq;
 use sj_base::{Error, ErrorType, TryTypeError, ValueType};
 use sj_parse::{
     Buffers, Deserializer, codepoint_to_utf8, fill_tape, fill_tape_padded, to_tape,
@@ -66,7 +67,7 @@ fn by_key(rt: HostRuntime) -> Result<(), Fail> {
         expected: ValueType::Array,
         got: ValueType::Object,
     };
-    assert_eq!(rt; value.try_get_idx(0).err(), Some(no_array));
+    expect_eq(&rt, value.try_get_idx(0).err(), Some(no_array));
     Ok(())
 }
 
@@ -133,7 +134,7 @@ fn room_of_a_tape_is_used_again(rt: HostRuntime) -> Result<(), Fail> {
     assert!(rt; fill_tape(&mut second, &mut buffers, &mut tape).is_err());
     assert!(rt; fill_tape(&mut third, &mut buffers, &mut tape).is_err());
     assert!(rt; fill_tape_padded(&mut fourth, 7, &mut buffers, &mut tape).is_err());
-    assert_eq!(rt; tape.into_nodes().capacity(), 100);
+    expect_eq(&rt, tape.into_nodes().capacity(), 100);
     Ok(())
 }
 
@@ -173,7 +174,7 @@ fn codepoints(rt: HostRuntime) {
         (0x110000, 0, [0; 4]),
     ] {
         let mut out = [0; 4];
-        assert_eq!(rt; codepoint_to_utf8(cp, &mut out), len);
-        assert_eq!(rt; out, bytes);
+        expect_eq(&rt, codepoint_to_utf8(cp, &mut out), len);
+        expect_eq(&rt, out, bytes);
     }
 }

@@ -12,8 +12,9 @@ use Rattle.records_program.specs.declared.fault.Fault.{Fault}
 use Rattle.records_program.specs.declared.fault.Fault.TheVariants.{Memory, Read, Write, Arguments, Unreadable, Script}
 use Rattle.records_program.specs.declared.arguments.Arguments.TheVariants.{Run, Help}
 use Rattle.records_program.specs.declared.arguments.RunArguments.{RunArguments}
-use Rattle.records_program.specs.Arguments.{AreParsedAs, AskForHelp, AskForRun}
-use Rattle.records_program.specs.Program.{Loads, HasCommands, ProgramLeaves, RefusesBytes, RunEnds, run_job}
+use Rattle.records_program.specs.Arguments.{AskForHelp, AskForRun}
+use Rattle.records_program.specs.Program.{Loads, HasCommands, ProgramLeaves, RunEnds, run_job}
+use Rattle.records_program.specs.inside.Parts.{AreParsedAs, RefusesBytes}
 use Rattle.records_program.proofs.program.try_program.Goals as goal
 
 -- a script that is refused

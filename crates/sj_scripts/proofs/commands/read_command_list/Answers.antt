@@ -1,7 +1,7 @@
 use Rattle.std.proofs.Common.{◌≡◌, suc, List, [], ◌∷◌, ◌++◌, ap, ◌∙◌, rules}
 use Rattle.std.specs.Vec.Iter.{into_iter_items}
 use Rattle.sj_scripts.specs.Command.{Step, commands_from}
-use Rattle.sj_scripts.specs.Values.{items_view}
+use Rattle.sj_scripts.specs.inside.Views.{items_view}
 use Rattle.sj_scripts.specs.Script.{command_view, commands_view}
 use Rattle.sj_scripts.proofs.ScriptSteps.{read_after, commands-more, view-more}
 use Rattle.sj_scripts.proofs.commands.read_command_list.Goals as goal

@@ -1,7 +1,7 @@
 use Rattle.std.proofs.Common.{◌≡◌}
 use Rattle.std.specs.Vec.Iter.{into_iter_items}
 use Rattle.sj_scripts.specs.Command.{commands_from}
-use Rattle.sj_scripts.specs.Values.{items_view}
+use Rattle.sj_scripts.specs.inside.Views.{items_view}
 use Rattle.sj_scripts.specs.Script.{commands_view}
 use Rattle.sj_scripts.proofs.ScriptSteps.{read_after}
 use Rattle.sj_scripts.proofs.commands.read_command_list.Given as goal

@@ -6,7 +6,7 @@ use Rattle.sj_scripts.specs.declared.script.ScriptFault.TheVariants.{Json, NotAn
 use Rattle.sj_scripts.specs.Command.{Step, Refusal, commands_in}
 use Rattle.sj_scripts.specs.Script.{IsReadAs, IsRefusedAs, script_limit}
 use Rattle.sj_scripts.specs.inside.ReadErrors.{IsRefusalOf, IsReadTree}
-use Rattle.sj_scripts.specs.Values.{document_tree}
+use Rattle.sj_scripts.specs.Values.{owned_tree}
 use Rattle.sj_scripts.proofs.script.Script.read.Goals as goal
 
 -- what is read of a kept tree is read of the tree
@@ -22,12 +22,12 @@ refused_as Memory bytes u kept read = tt
 pub returns-in_err-commands-clause-refused : goal.returns-in_err-commands-clause-refused
 returns-in_err-commands-clause-refused c =
     let p = err_from_is_err_and c.from_residual-in_err-commands.result c.from_residual-in_err-commands.ensures.1 in
-    rw (p.1, p.2) (refused_as c.in_err-commands.field-0.0 c.args.bytes.now (document_tree c.in_ok-document.document) c.in_ok-document.ensures.answers c.in_err-commands.ensures)
+    rw (p.1, p.2) (refused_as c.in_err-commands.field-0.0 c.args.bytes.now (owned_tree c.in_ok-document.document) c.in_ok-document.ensures.answers c.in_err-commands.ensures)
 
 pub returns-clause-ok : goal.returns-clause-ok
 returns-clause-ok c =
-    read_as c.args.bytes.now (document_tree c.in_ok-document.document) _ c.in_ok-document.ensures.answers c.in_ok-commands.ensures
+    read_as c.args.bytes.now (owned_tree c.in_ok-document.document) _ c.in_ok-document.ensures.answers c.in_ok-commands.ensures
 
 pub invariant_of-result : goal.invariant_of-result
 invariant_of-result c =
-    record { is_accepted = ∣ (c.args.bytes.now, read_as c.args.bytes.now (document_tree c.in_ok-document.document) _ c.in_ok-document.ensures.answers c.in_ok-commands.ensures) ∣₁ }
+    record { is_accepted = ∣ (c.args.bytes.now, read_as c.args.bytes.now (owned_tree c.in_ok-document.document) _ c.in_ok-document.ensures.answers c.in_ok-commands.ensures) ∣₁ }

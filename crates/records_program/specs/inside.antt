@@ -1,0 +1,2 @@
+-- What only clauses of private functions cite.
+pub mod Parts
