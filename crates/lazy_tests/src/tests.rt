@@ -72,6 +72,12 @@ fn typed_reads(rt: HostRuntime) -> Result<(), Fail> {
     };
     expect_eq(&rt, value.try_get_str("snot"), Err(number_met));
     expect_eq(&rt, value.try_get_bool("x"), Ok(None));
+    Ok(())
+}
+
+#[test]
+fn typed_read_of_no_object(rt: HostRuntime) -> Result<(), Fail> {
+    let alloc = rt.alloc();
     let mut text = bytes(alloc, "[]")?;
     let tape = to_tape(alloc, &mut text)?;
     let array_met = TryTypeError {
@@ -95,6 +101,13 @@ fn refused_writes(rt: HostRuntime) -> Result<(), Fail> {
     let refused = value.remove(alloc, "a").err();
     expect_eq(&rt, refused, Some(AccessError::NotAnObject));
     expect_eq(&rt, value.pop(alloc).err(), Some(AccessError::NotAnArray));
+    Ok(())
+}
+
+// A write that is refused drops repeated members too.
+#[test]
+fn refused_push(rt: HostRuntime) -> Result<(), Fail> {
+    let alloc = rt.alloc();
     let mut text = bytes(alloc, r#"{"a":1,"a":2}"#)?;
     let tape = to_tape(alloc, &mut text)?;
     let mut value = lazy(&tape)?;
@@ -206,6 +219,12 @@ fn made_of_others(rt: HostRuntime) -> Result<(), Fail> {
     expect_text(&rt, alloc, &Value::from("x"), r#""x""#)?;
     expect_text(&rt, alloc, &Value::from(Some(true)), "true")?;
     expect_text(&rt, alloc, &Value::from_text(alloc, "y")?, r#""y""#)?;
+    Ok(())
+}
+
+#[test]
+fn made_of_containers(rt: HostRuntime) -> Result<(), Fail> {
+    let alloc = rt.alloc();
     let list = Vec::from_slice(alloc, &[1u8, 2])?;
     expect_text(&rt, alloc, &Value::from_list(alloc, list)?, "[1,2]")?;
     expect_text(&rt, alloc, &Value::from_values(alloc, 0u8..2)?, "[0,1]")?;
@@ -292,6 +311,12 @@ fn shown_values(rt: HostRuntime) -> Result<(), Fail> {
         value.value_mut(alloc)?;
         expect_eq(&rt, value.to_string(alloc)?.as_str(), shown);
     }
+    Ok(())
+}
+
+#[test]
+fn shown_repeats(rt: HostRuntime) -> Result<(), Fail> {
+    let alloc = rt.alloc();
     let mut text = bytes(alloc, r#"{"a": 1, "a": 2}"#)?;
     let tape = to_tape(alloc, &mut text)?;
     let mut value = lazy(&tape)?;

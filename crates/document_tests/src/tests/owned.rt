@@ -75,9 +75,16 @@ fn owned_edit_by_index(rt: HostRuntime) -> Result<(), Fail> {
     o.get("key").ok_or("no key")?.get_idx(0).ok_or("no item")?;
     o["key"][0].insert(String::from_str(alloc, "other")?, text(alloc, "value")?)?;
     expect_text(&rt, alloc, &o, r#"{"key":[{"other":"value"}]}"#)?;
-    let items = o.get_mut("key").ok_or("no key")?;
+    Ok(())
+}
+
+#[test]
+fn replaced_item(rt: HostRuntime) -> Result<(), Fail> {
+    let alloc = rt.alloc();
+    let mut items = Value::array(alloc);
+    items.push(Value::null())?;
     *items.get_idx_mut(0).ok_or("no item")? = number(1);
-    expect_text(&rt, alloc, &o, r#"{"key":[1]}"#)?;
+    expect_text(&rt, alloc, &items, "[1]")?;
     Ok(())
 }
 
@@ -95,6 +102,12 @@ fn owned_insert_remove(rt: HostRuntime) -> Result<(), Fail> {
     v["key"] = number(3);
     expect_eq(&rt, v.remove("key")?.ok_or("no key")?.as_u64(), Some(3));
     assert!(rt; v.remove("key")?.is_none());
+    Ok(())
+}
+
+#[test]
+fn refused_writes(rt: HostRuntime) -> Result<(), Fail> {
+    let alloc = rt.alloc();
     let mut null = Value::null();
     let refused = null.insert(String::from_str(alloc, "key")?, number(1));
     expect_eq(&rt, refused.err(), Some(AccessError::NotAnObject));
@@ -179,7 +192,7 @@ fn equal_documents(rt: HostRuntime) -> Result<(), Fail> {
 }
 
 #[test]
-fn made_of_values(rt: HostRuntime) -> Result<(), Fail> {
+fn made_of_pairs(rt: HostRuntime) -> Result<(), Fail> {
     let alloc = rt.alloc();
     let pairs = Vec::from_array(
         alloc,
@@ -201,6 +214,12 @@ fn made_of_values(rt: HostRuntime) -> Result<(), Fail> {
         &Value::from_map(alloc, map)?,
         r#"{"a":3,"b":2}"#,
     )?;
+    Ok(())
+}
+
+#[test]
+fn made_of_lists(rt: HostRuntime) -> Result<(), Fail> {
+    let alloc = rt.alloc();
     let list = Value::from_list(alloc, Vec::from_array(alloc, [Some(1u8), None])?)?;
     let values = Value::from_values(alloc, Vec::from_array(alloc, [1i64])?)?;
     expect_text(&rt, alloc, &list, "[1,null]")?;
