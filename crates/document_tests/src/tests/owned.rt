@@ -60,8 +60,12 @@ fn read_and_edit(rt: HostRuntime) -> Result<(), Fail> {
     tags.push(Value::from_text(alloc, "admin")?)?;
     package.insert(String::from_str(alloc, "essential")?, Value::from(true))?;
     package.remove("size")?;
-    let text = r#"{"name":"passwd","tags":["base","admin"],"essential":true}"#;
-    expect_text(&rt, alloc, &package, text)?;
+    let mut out = Vec::new(alloc);
+    package.encode(&mut out)?;
+    assert_eq!(rt;
+        out.as_slice(),
+        br#"{"name":"passwd","tags":["base","admin"],"essential":true}"#.as_slice()
+    );
     Ok(())
 }
 
