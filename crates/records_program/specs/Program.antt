@@ -33,9 +33,7 @@ WrittenBy (Ok done) job input output = IsOutput job input output
 WrittenBy (Err Memory) job input output = RecordsOfSome job input output
 WrittenBy (Err Read) job input output = RecordsOfEnded job input output
 WrittenBy (Err Write) job input output = RecordsPrefix job input output
-WrittenBy (Err (Arguments text)) job input output = ⊥
-WrittenBy (Err Unreadable) job input output = ⊥
-WrittenBy (Err (Script line)) job input output = ⊥
+WrittenBy (Err _) job input output = ⊥
 
 abbrev pub RunEnds : Option (List ℕ) → Option (List ℕ) → Option (List ℕ) → Job → Result Unit Fault → Type 0
 RunEnds unread held_old held_new job ended = ReadsAndWrites unread held_old held_new ended (WrittenBy ended job)

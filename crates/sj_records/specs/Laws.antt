@@ -8,7 +8,7 @@ use Rattle.sj_base.specs.Spelling.{longest, Document}
 use Rattle.sj_base.specs.Text.{text}
 use Rattle.sj_base.specs.declared.error.Error.{Error}
 use Rattle.sj_parse.specs.Fault.{fault}
-use Rattle.sj_scripts.specs.Command.{Step, get, contains, type_of, len, keys, insert, remove, push, pop, set_at, reload, reload_pp}
+use Rattle.sj_scripts.specs.Command.{Step, insert, remove, push, pop, set_at, reload}
 use Rattle.sj_scripts.specs.Step.{Job, Keeping, from_start, from_write, State, begun, reload_reply, replies, after, Rewrite, reply_of, insertion, removal, pushing, popping, setting, write_at}
 use Rattle.sj_scripts.specs.Inverse.{Change, drop_item, place_in, back, insertion_back, removal_back, popping_back, setting_back}
 use Rattle.sj_base.specs.Path.{Part, at}
@@ -45,13 +45,7 @@ is_write (remove path k) = true
 is_write (push path v) = true
 is_write (pop path) = true
 is_write (set_at path v) = true
-is_write (get path) = false
-is_write (contains path k) = false
-is_write (type_of path) = false
-is_write (len path) = false
-is_write (keys path) = false
-is_write reload = false
-is_write reload_pp = false
+is_write _ = false
 
 -- whether repeated keys have been dropped: from the start, or once there was a write command
 abbrev pub has_dropped : Keeping → List Step → Bool

@@ -1,6 +1,6 @@
 -- Scripts: the commands of a script's document, or its first fault.
-use Rattle.std.specs.Prelude.{ℕ, pos, negsuc, suc, if◌then◌else◌, List, [], ◌∷◌, Result, Ok, Err, codes, bytes_eq}
-use Rattle.sj_base.specs.Tree.{Tree, null, boolean, integer, decimal, string, list, object, Items, no_items, item}
+use Rattle.std.specs.Prelude.{ℕ, pos, suc, if◌then◌else◌, List, [], ◌∷◌, Result, Ok, Err, codes, bytes_eq}
+use Rattle.sj_base.specs.Tree.{Tree, integer, string, list, Items, no_items, item}
 use Rattle.sj_base.specs.Keep.{keep}
 use Rattle.sj_base.specs.Path.{Part, key, place}
 use Rattle.sj_base.specs.declared.error.Error.{Error}
@@ -38,12 +38,7 @@ abbrev pub ◌>>=◌ : {F A B : Type 0} → Result A F → (A → Result B F) �
 abbrev pub as_part : Tree → Result Part CommandFault
 as_part (string s) = Ok (key s)
 as_part (integer (pos n)) = Ok (place n)
-as_part (integer (negsuc n)) = Err BadPath
-as_part null = Err BadPath
-as_part (boolean b) = Err BadPath
-as_part (decimal literal) = Err BadPath
-as_part (list ts) = Err BadPath
-as_part (object ms) = Err BadPath
+as_part _ = Err BadPath
 
 abbrev pub as_parts : Items → Result (List Part) CommandFault
 as_parts no_items = Ok []
@@ -52,47 +47,29 @@ as_parts (item t ts) = as_part t >>= λ part. as_parts ts >>= λ path. Ok (part 
 -- an array of these
 abbrev pub as_path : Tree → Result (List Part) CommandFault
 as_path (list ts) = as_parts ts
-as_path null = Err BadPath
-as_path (boolean b) = Err BadPath
-as_path (integer n) = Err BadPath
-as_path (decimal literal) = Err BadPath
-as_path (string s) = Err BadPath
-as_path (object ms) = Err BadPath
+as_path _ = Err BadPath
 
 -- a string
 abbrev pub as_key : Tree → Result (List ℕ) CommandFault
 as_key (string s) = Ok s
-as_key null = Err BadKey
-as_key (boolean b) = Err BadKey
-as_key (integer n) = Err BadKey
-as_key (decimal literal) = Err BadKey
-as_key (list ts) = Err BadKey
-as_key (object ms) = Err BadKey
+as_key _ = Err BadKey
 
 -- What the arguments of a command are, by what it takes. Their number is looked at first, then the path, then the key.
 abbrev pub path_alone : Items → Result (List Part) CommandFault
 path_alone (item t no_items) = as_path t
-path_alone no_items = Err WrongCount
-path_alone (item t (item u ts)) = Err WrongCount
+path_alone _ = Err WrongCount
 
 abbrev pub path_and_key : Items → Result (List Part × List ℕ) CommandFault
 path_and_key (item t (item u no_items)) = as_path t >>= λ path. as_key u >>= λ k. Ok (path, k)
-path_and_key no_items = Err WrongCount
-path_and_key (item t no_items) = Err WrongCount
-path_and_key (item t (item u (item v ts))) = Err WrongCount
+path_and_key _ = Err WrongCount
 
 abbrev pub path_and_value : Items → Result (List Part × Tree) CommandFault
 path_and_value (item t (item u no_items)) = as_path t >>= λ path. Ok (path, u)
-path_and_value no_items = Err WrongCount
-path_and_value (item t no_items) = Err WrongCount
-path_and_value (item t (item u (item v ts))) = Err WrongCount
+path_and_value _ = Err WrongCount
 
 abbrev pub path_key_value : Items → Result (List Part × List ℕ × Tree) CommandFault
 path_key_value (item t (item u (item v no_items))) = as_path t >>= λ path. as_key u >>= λ k. Ok (path, k, v)
-path_key_value no_items = Err WrongCount
-path_key_value (item t no_items) = Err WrongCount
-path_key_value (item t (item u no_items)) = Err WrongCount
-path_key_value (item t (item u (item v (item w ts)))) = Err WrongCount
+path_key_value _ = Err WrongCount
 
 -- a command without arguments
 abbrev pub nullary : Step → Items → Result Step CommandFault
@@ -118,19 +95,8 @@ named name arguments =
 
 abbrev pub command_of : Tree → Result Step CommandFault
 command_of (list (item (string name) arguments)) = named name arguments
-command_of (list no_items) = Err NoName
-command_of (list (item null arguments)) = Err NoName
-command_of (list (item (boolean b) arguments)) = Err NoName
-command_of (list (item (integer n) arguments)) = Err NoName
-command_of (list (item (decimal literal) arguments)) = Err NoName
-command_of (list (item (list ts) arguments)) = Err NoName
-command_of (list (item (object ms) arguments)) = Err NoName
-command_of null = Err NotAnArray
-command_of (boolean b) = Err NotAnArray
-command_of (integer n) = Err NotAnArray
-command_of (decimal literal) = Err NotAnArray
-command_of (string s) = Err NotAnArray
-command_of (object ms) = Err NotAnArray
+command_of (list _) = Err NoName
+command_of _ = Err NotAnArray
 
 -- a command's fault, with the command's index
 abbrev pub with_index : {A : Type 0} → ℕ → Result A CommandFault → Result A Refusal
@@ -145,12 +111,7 @@ commands_from n (item t ts) = with_index n (command_of t) >>= λ step. commands_
 -- the commands in an array of them
 abbrev pub commands_in : Tree → Result (List Step) Refusal
 commands_in (list ts) = commands_from 0 ts
-commands_in null = Err not_an_array
-commands_in (boolean b) = Err not_an_array
-commands_in (integer n) = Err not_an_array
-commands_in (decimal literal) = Err not_an_array
-commands_in (string s) = Err not_an_array
-commands_in (object ms) = Err not_an_array
+commands_in _ = Err not_an_array
 
 -- The commands of a script's document. Of members with equal keys in it only the first is kept.
 abbrev pub commands_of : Tree → Result (List Step) Refusal

@@ -80,11 +80,7 @@ type_name (object ms) = codes "object"
 abbrev pub count : Tree → Result Tree Word
 count (list ts) = Ok (integer (pos (items_len ts)))
 count (object ms) = Ok (integer (pos (members_len ms)))
-count null = Err (codes "NotAContainer")
-count (boolean b) = Err (codes "NotAContainer")
-count (integer n) = Err (codes "NotAContainer")
-count (decimal literal) = Err (codes "NotAContainer")
-count (string s) = Err (codes "NotAContainer")
+count _ = Err (codes "NotAContainer")
 
 -- the keys in order, repeats included
 abbrev pub key_items : Members → Items

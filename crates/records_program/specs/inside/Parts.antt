@@ -8,7 +8,7 @@ use Rattle.records_program.specs.Program.{ReadsAndWrites, IsRefusedWith}
 use Rattle.records_program.specs.declared.arguments.Arguments as arguments
 use Rattle.records_program.specs.declared.arguments.Arguments.TheVariants.{Run, Help}
 use Rattle.records_program.specs.declared.fault.Fault.{Fault}
-use Rattle.records_program.specs.declared.fault.Fault.TheVariants.{Memory, Read, Write, Arguments, Unreadable, Script}
+use Rattle.records_program.specs.declared.fault.Fault.TheVariants.{Memory, Arguments, Script}
 
 -- What the words are parsed as. Any allocation may fail.
 abbrev pub AreParsedAs : List (List ℕ) → Result arguments.Arguments Fault → Type 0
@@ -16,19 +16,13 @@ AreParsedAs words (Ok (Run run)) = AskForRun words run
 AreParsedAs words (Ok (Help text)) = AskForHelp words
 AreParsedAs words (Err (Arguments text)) = AreRefused words
 AreParsedAs words (Err Memory) = ⊤
-AreParsedAs words (Err Read) = ⊥
-AreParsedAs words (Err Write) = ⊥
-AreParsedAs words (Err Unreadable) = ⊥
-AreParsedAs words (Err (Script line)) = ⊥
+AreParsedAs words (Err _) = ⊥
 
 -- The fault of such bytes, where memory suffices.
 abbrev pub RefusesBytes : List ℕ → Fault → Type 0
 RefusesBytes bytes (Script line) = IsRefusedWith line.items bytes
 RefusesBytes bytes Memory = ⊤
-RefusesBytes bytes Read = ⊥
-RefusesBytes bytes Write = ⊥
-RefusesBytes bytes (Arguments text) = ⊥
-RefusesBytes bytes Unreadable = ⊥
+RefusesBytes bytes _ = ⊥
 
 -- What a run leaves.
 abbrev pub RunLeaves : Option (List ℕ) → Option (List ℕ) → Option (List ℕ) → Job → Result Unit RunError → Type 0

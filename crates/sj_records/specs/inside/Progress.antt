@@ -5,7 +5,7 @@ use Rattle.std.specs.Io.KnownBytes.{Appends}
 use Rattle.sj_base.specs.Output.{AppendsPrefix}
 use Rattle.sj_base.specs.Tree.{Tree}
 use Rattle.sj_records.specs.declared.run_error.RunError.{RunError}
-use Rattle.sj_records.specs.declared.run_error.RunError.TheVariants.{Memory, Write, Read, TooManyReads}
+use Rattle.sj_records.specs.declared.run_error.RunError.TheVariants.{Memory, Write}
 use Rattle.sj_records.specs.declared.task.Task.{Task}
 use Rattle.sj_scripts.specs.Step.{Job, Keeping, State, step}
 use Rattle.sj_scripts.specs.Command.{Step}
@@ -36,16 +36,13 @@ abbrev pub LeavesLines : Result Unit RunError → Job → Option (List ℕ) → 
 LeavesLines (Ok done) job old new ended lines = Wrote job old new lines
 LeavesLines (Err Memory) job old new ended lines = WroteSome job old new ended
 LeavesLines (Err Write) job old new ended lines = WrotePrefix job old new lines
-LeavesLines (Err Read) job old new ended lines = ⊥
-LeavesLines (Err TooManyReads) job old new ended lines = ⊥
+LeavesLines (Err _) job old new ended lines = ⊥
 
 -- the bytes, or a prefix of them after `Write`
 abbrev pub LeavesBytes : Result Unit RunError → Option (List ℕ) → Option (List ℕ) → List ℕ → Type 0
 LeavesBytes (Ok done) old new bytes = Appends old new bytes
 LeavesBytes (Err Write) old new bytes = AppendsPrefix old new bytes
-LeavesBytes (Err Memory) old new bytes = ⊥
-LeavesBytes (Err Read) old new bytes = ⊥
-LeavesBytes (Err TooManyReads) old new bytes = ⊥
+LeavesBytes (Err _) old new bytes = ⊥
 
 -- a state in which no write can be taken back
 abbrev pub without_bases : Tree → State

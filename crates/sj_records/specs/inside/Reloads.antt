@@ -4,7 +4,7 @@ use Rattle.sj_base.specs.Spelling.{longest}
 use Rattle.sj_base.specs.Text.{text, pretty}
 use Rattle.sj_base.specs.Tree.{Tree, IsValidTree, depth}
 use Rattle.sj_scripts.specs.declared.script.Command.{Command}
-use Rattle.sj_scripts.specs.Command.{Step, get, contains, type_of, len, keys, insert, remove, push, pop, set_at, reload, reload_pp}
+use Rattle.sj_scripts.specs.Command.{Step, reload, reload_pp}
 use Rattle.sj_scripts.specs.Step.{Job, State, replies, after}
 use Rattle.sj_scripts.specs.Script.{commands_view}
 use Rattle.sj_scripts.specs.inside.Documents.{items_left}
@@ -39,13 +39,4 @@ Runs job s cs is_first (Some left) printed old new = Reloads job s cs (commands_
 abbrev pub is_reload : Step → Bool
 is_reload reload = true
 is_reload reload_pp = true
-is_reload (get path) = false
-is_reload (contains path k) = false
-is_reload (type_of path) = false
-is_reload (len path) = false
-is_reload (keys path) = false
-is_reload (insert path k v) = false
-is_reload (remove path k) = false
-is_reload (push path v) = false
-is_reload (pop path) = false
-is_reload (set_at path v) = false
+is_reload _ = false
