@@ -6,6 +6,7 @@ mod faults;
 mod kept_buffers;
 mod reloads;
 mod rows;
+mod undo;
 mod writes;
 
 use sj_base::{Counted, Error, ErrorType};
@@ -421,7 +422,7 @@ fn refused_scripts(rt: HostRuntime) -> Result<(), Fail> {
             "command 1: UnknownName",
         ),
         (
-            r#"[["undo"]]"#,
+            r#"[["redo"]]"#,
             command_fault(CommandFault::UnknownName),
             "command 0: UnknownName",
         ),

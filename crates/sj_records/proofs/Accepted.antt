@@ -11,7 +11,7 @@ use Rattle.sj_base.proofs.Kept.{list_parts, item_parts}
 use Rattle.sj_base.proofs.Trees.{only_trees}
 use Rattle.sj_base.proofs.Valid.{valid_when_kept}
 use Rattle.sj_scripts.specs.declared.script.CommandFault.{CommandFault}
-use Rattle.sj_scripts.specs.Command.{Step, get, contains, type_of, len, keys, insert, remove, push, pop, set_at, reload, reload_pp, ◌>>=◌, as_path, as_key, path_alone, path_and_key, path_and_value, path_key_value, nullary, named, command_of, with_index, commands_from, commands_in}
+use Rattle.sj_scripts.specs.Command.{Step, get, contains, type_of, len, keys, insert, remove, push, pop, set_at, undo, reload, reload_pp, ◌>>=◌, as_path, as_key, path_alone, path_and_key, path_and_value, path_key_value, nullary, named, command_of, with_index, commands_from, commands_in}
 use Rattle.sj_scripts.specs.Script.{IsAccepted}
 use Rattle.sj_scripts.proofs.Changes.{bind_ok, same_ok}
 
@@ -31,6 +31,7 @@ Sound (len path) = ⊤
 Sound (keys path) = ⊤
 Sound (remove path k) = ⊤
 Sound (pop path) = ⊤
+Sound undo = ⊤
 Sound reload = ⊤
 Sound reload_pp = ⊤
 
@@ -94,8 +95,9 @@ named_sound name ts h =
     cond_both (bytes_eq name (codes "push")) _ _ P (λ _. bind_sound (path_and_value ts) (λ a. push a.0 a.1) (λ a e. good_value ts a e h)) (λ _.
     cond_both (bytes_eq name (codes "pop")) _ _ P (λ _. bind_sound (path_alone ts) (λ path. pop path) (λ a e. tt)) (λ _.
     cond_both (bytes_eq name (codes "set")) _ _ P (λ _. bind_sound (path_and_value ts) (λ a. set_at a.0 a.1) (λ a e. good_value ts a e h)) (λ _.
+    cond_both (bytes_eq name (codes "undo")) _ _ P (λ _. nullary_sound undo ts tt) (λ _.
     cond_both (bytes_eq name (codes "reload")) _ _ P (λ _. nullary_sound reload ts tt) (λ _.
-    cond_both (bytes_eq name (codes "reload_pp")) _ _ P (λ _. nullary_sound reload_pp ts tt) (λ _. tt))))))))))))
+    cond_both (bytes_eq name (codes "reload_pp")) _ _ P (λ _. nullary_sound reload_pp ts tt) (λ _. tt)))))))))))))
 
 command_sound : (t : Tree) → Good t → OkSound (command_of t)
 command_sound (list (item (string name) ts)) h = named_sound name ts (good_item (string name) ts h).1

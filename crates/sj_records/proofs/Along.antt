@@ -5,8 +5,8 @@ use Rattle.std.proofs.lemmas.Bool.{leb-true}
 use Rattle.sj_base.specs.Tree.{Tree, depth}
 use Rattle.sj_base.specs.Path.{Part}
 use Rattle.sj_base.proofs.Depths.{depth_when_kept, depth_of_part, depth_when_put, depth_with_member, depth_when_dropped, depth_when_pushed, depth_when_popped}
-use Rattle.sj_scripts.specs.Command.{Step, get, contains, type_of, len, keys, insert, remove, push, pop, set_at, reload, reload_pp}
-use Rattle.sj_scripts.specs.Step.{Job, Keeping, from_start, from_write, State, Word, Rewrite, start, begun, base, fits, fits_below, insertion, removal, pushing, popping, setting, write_at, settled, rewritten, step, after}
+use Rattle.sj_scripts.specs.Command.{Step, get, contains, type_of, len, keys, insert, remove, push, pop, set_at, undo, reload, reload_pp}
+use Rattle.sj_scripts.specs.Step.{Job, Keeping, from_start, from_write, State, Word, Rewrite, start, begun, base, fits, fits_below, insertion, removal, pushing, popping, setting, write_at, settled, undone, rewritten, step, after}
 use Rattle.sj_scripts.proofs.Changes.{inserted, removed, pushed, popped, within, write_done}
 use Rattle.sj_records.specs.Laws.{HoldsInState, DepthStays}
 
@@ -81,12 +81,17 @@ rewritten_within : (job : Job) (s : State) (path : List Part) (change : Rewrite)
 rewritten_within job s path change fine h =
     settled_within job.limit (base s.tree job.keeping) s.bases path change (write_at (base s.tree job.keeping) path change) refl fine (base_within job.limit s.tree job.keeping h.0) h.1
 
+undone_within : (limit : ℕ) (t : Tree) (bases : List Tree) → depth t ≤ limit → AllByRecursion (λ u. depth u ≤ limit) bases → Within limit (undone t bases).1
+undone_within limit t [] h hs = (h, tt)
+undone_within limit t (b ∷ bs) h hs = hs
+
 step_within : (job : Job) (s : State) (c : Step) → Within job.limit s → Within job.limit (step job s c).1
 step_within job s (get path) h = h
 step_within job s (contains path k) h = h
 step_within job s (type_of path) h = h
 step_within job s (len path) h = h
 step_within job s (keys path) h = h
+step_within job s undo h = undone_within job.limit s.tree s.bases h.0 h.1
 step_within job s reload h = h
 step_within job s reload_pp h = h
 step_within job s (insert path k v) h = rewritten_within job s path _ (insertion_within job.limit path k v) h

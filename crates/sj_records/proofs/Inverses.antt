@@ -13,6 +13,7 @@ use Rattle.sj_base.proofs.Kept.{kept_member, kept_part, object_parts}
 use Rattle.sj_scripts.specs.Step.{Rewrite, reply_of, insertion, removal, pushing, popping, setting}
 use Rattle.sj_scripts.specs.Inverse.{Change, drop_item, place_of, place_in, put_member_at, changed, back, insertion_back, removal_back, popping_back}
 use Rattle.sj_records.specs.Laws.{Undoes, InsertUndone, RemoveUndone, PushUndone, PopUndone, SetUndone}
+use Rattle.sj_scripts.proofs.MadeChanges.{none_dropped, none_popped}
 use Rattle.sj_scripts.proofs.Changes.{inserted, removed, pushed, popped, within, write_done}
 
 -- ---- a child that is changed, and changed back
@@ -127,15 +128,6 @@ old_replaced : (ms : Members) (k : List ℕ) (v old : Tree) → member_at ms k �
 old_replaced no_members k v old e = absurd (none-some old e)
 old_replaced (member name t ms) k v old e = replace_first name t ms k v old (bytes_eq name k) refl e (old_replaced ms k v old)
 
-stay_first : (name : List ℕ) (t : Tree) (ms : Members) (k : List ℕ) (b : Bool) → cond b (Some t) (member_at ms k) ≡ None → (member_at ms k ≡ None → edits.drop_member ms k ≡ ms)
-    → cond b ms (member name t (edits.drop_member ms k)) ≡ member name t ms
-stay_first name t ms k true e rest = absurd (none-some t (sym e))
-stay_first name t ms k false e rest = ap (member name t) (rest e)
-
-none_dropped : (ms : Members) (k : List ℕ) → member_at ms k ≡ None → edits.drop_member ms k ≡ ms
-none_dropped no_members k e = refl
-none_dropped (member name t ms) k e = stay_first name t ms k (bytes_eq name k) e (none_dropped ms k)
-
 -- a removed member, put at its place again
 again_first : (name : List ℕ) (t : Tree) (ms : Members) (k : List ℕ) (old : Tree) (b : Bool) → bytes_eq name k ≡ b → cond b (Some t) (member_at ms k) ≡ Some old
     → (member_at ms k ≡ Some old → put_member_at (edits.drop_member ms k) (place_of ms k) k old ≡ ms)
@@ -186,11 +178,6 @@ popped_pushed : (ts : Items) (v : Tree) → edits.last_item ts ≡ Some v → ed
 popped_pushed no_items v e = absurd (none-some v e)
 popped_pushed (item t no_items) v e = ap (λ u. item u no_items) (sym (same_Some t v e))
 popped_pushed (item t (item u us)) v e = ap (item t) (popped_pushed (item u us) v e)
-
-none_popped : (ts : Items) → edits.last_item ts ≡ None → edits.pop_item ts ≡ ts
-none_popped no_items e = refl
-none_popped (item t no_items) e = absurd (none-some t (sym e))
-none_popped (item t (item u us)) e = ap (item t) (none_popped (item u us) e)
 
 -- ---- the part of a write, taken back
 

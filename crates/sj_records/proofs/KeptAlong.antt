@@ -6,8 +6,8 @@ use Rattle.sj_base.specs.Tree.{Tree, item}
 use Rattle.sj_base.specs.Keep.{IsKept}
 use Rattle.sj_base.specs.Text.{text}
 use Rattle.sj_base.proofs.Keeping.{keeps_once}
-use Rattle.sj_scripts.specs.Command.{Step, get, contains, type_of, len, keys, insert, remove, push, pop, set_at, reload, reload_pp}
-use Rattle.sj_scripts.specs.Step.{Job, Keeping, from_start, from_write, State, start, begun, base, fits, fits_below, insertion, removal, pushing, popping, setting, write_at, settled, step, replies, after}
+use Rattle.sj_scripts.specs.Command.{Step, get, contains, type_of, len, keys, insert, remove, push, pop, set_at, undo, reload, reload_pp}
+use Rattle.sj_scripts.specs.Step.{Job, Keeping, from_start, from_write, State, start, begun, base, fits, fits_below, insertion, removal, pushing, popping, setting, write_at, settled, undone, step, replies, after}
 use Rattle.sj_records.specs.Record.{record_of, outcome}
 use Rattle.sj_records.specs.Laws.{is_write, has_dropped, BasesAreKept, TreesAreKept, FormsAgree}
 use Rattle.sj_scripts.proofs.KeptChanges.{BothKept, settled_kept, insertion_kept, removal_kept, pushing_kept, popping_kept, setting_kept}
@@ -25,6 +25,7 @@ write_of limit t bases (contains path k) s = s
 write_of limit t bases (type_of path) s = s
 write_of limit t bases (len path) s = s
 write_of limit t bases (keys path) s = s
+write_of limit t bases undo s = s
 write_of limit t bases reload s = s
 write_of limit t bases reload_pp s = s
 
@@ -39,6 +40,7 @@ step-write job s (contains path k) = refl
 step-write job s (type_of path) = refl
 step-write job s (len path) = refl
 step-write job s (keys path) = refl
+step-write job s undo = refl
 step-write job s reload = refl
 step-write job s reload_pp = refl
 
@@ -53,23 +55,48 @@ write_kept limit t bases (contains path k) s sound h hs read = read refl
 write_kept limit t bases (type_of path) s sound h hs read = read refl
 write_kept limit t bases (len path) s sound h hs read = read refl
 write_kept limit t bases (keys path) s sound h hs read = read refl
+write_kept limit t bases undo s sound h hs read = read refl
 write_kept limit t bases reload s sound h hs read = read refl
 write_kept limit t bases reload_pp s sound h hs read = read refl
 
--- a read or a reload leaves the state
-read_leaves : (job : Job) (s : State) (c : Step) → is_write c ≡ false → (step job s c).1 ≡ s
-read_leaves job s (get path) e = refl
-read_leaves job s (contains path k) e = refl
-read_leaves job s (type_of path) e = refl
-read_leaves job s (len path) e = refl
-read_leaves job s (keys path) e = refl
-read_leaves job s reload e = refl
-read_leaves job s reload_pp e = refl
-read_leaves job s (insert path k v) e = absurd cc
-read_leaves job s (remove path k) e = absurd cc
-read_leaves job s (push path v) e = absurd cc
-read_leaves job s (pop path) e = absurd cc
-read_leaves job s (set_at path v) e = absurd cc
+undone_kept : (t : Tree) (bases : List Tree) → IsKept t → AllByRecursion IsKept bases → BothKept (undone t bases).1
+undone_kept t [] h hs = (h, tt)
+undone_kept t (b ∷ bs) h hs = hs
+
+undone_bases : (t : Tree) (bases : List Tree) → AllByRecursion IsKept bases → AllByRecursion IsKept (undone t bases).1.bases
+undone_bases t [] hs = tt
+undone_bases t (b ∷ bs) hs = hs.1
+
+-- what any other command leaves
+other_kept : (job : Job) (s : State) (c : Step) → is_write c ≡ false → BothKept s → BothKept (step job s c).1
+other_kept job s (get path) e h = h
+other_kept job s (contains path k) e h = h
+other_kept job s (type_of path) e h = h
+other_kept job s (len path) e h = h
+other_kept job s (keys path) e h = h
+other_kept job s undo e h = undone_kept s.tree s.bases h.0 h.1
+other_kept job s reload e h = h
+other_kept job s reload_pp e h = h
+other_kept job s (insert path k v) e h = absurd cc
+other_kept job s (remove path k) e h = absurd cc
+other_kept job s (push path v) e h = absurd cc
+other_kept job s (pop path) e h = absurd cc
+other_kept job s (set_at path v) e h = absurd cc
+
+other_bases : (job : Job) (s : State) (c : Step) → is_write c ≡ false → AllByRecursion IsKept s.bases → AllByRecursion IsKept (step job s c).1.bases
+other_bases job s (get path) e h = h
+other_bases job s (contains path k) e h = h
+other_bases job s (type_of path) e h = h
+other_bases job s (len path) e h = h
+other_bases job s (keys path) e h = h
+other_bases job s undo e h = undone_bases s.tree s.bases h
+other_bases job s reload e h = h
+other_bases job s reload_pp e h = h
+other_bases job s (insert path k v) e h = absurd cc
+other_bases job s (remove path k) e h = absurd cc
+other_bases job s (push path v) e h = absurd cc
+other_bases job s (pop path) e h = absurd cc
+other_bases job s (set_at path v) e h = absurd cc
 
 base_kept : (t : Tree) (keeping : Keeping) → IsKept t → IsKept (base t keeping)
 base_kept t from_start h = h
@@ -79,7 +106,7 @@ base_kept t from_write h = keeps_once t
 step_kept : (job : Job) (s : State) (c : Step) → Sound c → BothKept s → BothKept (step job s c).1
 step_kept job s c sound h =
     subst (λ (p : Tree × State). BothKept p.1) (sym (step-write job s c))
-    (write_kept job.limit (base s.tree job.keeping) s.bases c (step job s c) sound (base_kept s.tree job.keeping h.0) h.1 (λ e. subst BothKept (sym (read_leaves job s c e)) h))
+    (write_kept job.limit (base s.tree job.keeping) s.bases c (step job s c) sound (base_kept s.tree job.keeping h.0) h.1 (λ e. other_kept job s c e h))
 
 pub after_kept : (job : Job) (s : State) (cs : List Step) → AllByRecursion Sound cs → BothKept s → BothKept (after job s cs)
 after_kept job s [] sound h = h
@@ -109,6 +136,7 @@ module _ (script : List Step) (limit : ℕ) (a b : Keeping) where
   same_step s (type_of path) h = refl
   same_step s (len path) h = refl
   same_step s (keys path) h = refl
+  same_step s undo h = refl
   same_step s reload h = refl
   same_step s reload_pp h = refl
   same_step s (insert path k v) h = ap (λ t. settled t s.bases (write_at t path (insertion (fits_below path v limit) k v))) (same_base s.tree a b h)
@@ -162,18 +190,18 @@ write_keeps job s c sound writes h hs =
     subst (λ (p : Tree × State). BothKept p.1) (sym (step-write job s c)) (write_kept job.limit (base s.tree job.keeping) s.bases c (step job s c) sound h hs (λ e. let f = sym writes ∙ e in absurd cc))
 
 once_step : (job : Job) (s : State) (c : Step) (cs : List Step) (b : Bool) → is_write c ≡ b → Sound c → AllByRecursion Sound cs → IsKept (base s.tree job.keeping) → AllByRecursion IsKept s.bases
-    → ((u : State) → u ≡ s → KeptOnce (has_dropped from_write cs) (after job u cs)) → KeptOnce (b || has_dropped from_write cs) (after job (step job s c).1 cs)
+    → ((u : State) → AllByRecursion IsKept u.bases → KeptOnce (has_dropped from_write cs) (after job u cs)) → KeptOnce (b || has_dropped from_write cs) (after job (step job s c).1 cs)
 once_step job s c cs true writes sound sounds h hs rest =
     let kept = after_kept job (step job s c).1 cs sounds (write_keeps job s c sound writes h hs) in
     (λ e. kept.0, kept.1)
-once_step job s c cs false reads sound sounds h hs rest = rest (step job s c).1 (read_leaves job s c reads)
+once_step job s c cs false other sound sounds h hs rest = rest (step job s c).1 (other_bases job s c other hs)
 
 once : (limit : ℕ) (script : List Step) (s : State) (cs : List Step) → AllByRecursion Sound cs → AllByRecursion IsKept s.bases
     → KeptOnce (has_dropped from_write cs) (after (job_with script limit from_write) s cs)
 once limit script s [] sound hs = (λ e. absurd cc, hs)
 once limit script s (c ∷ cs) sound hs =
     once_step (job_with script limit from_write) s c cs (is_write c) refl sound.0 sound.1 (keeps_once s.tree) hs
-    (λ u same. once limit script u cs sound.1 (subst (λ (v : State). AllByRecursion IsKept v.bases) (sym same) hs))
+    (λ u kept. once limit script u cs sound.1 kept)
 
 along : (script : List Step) (limit : ℕ) (keeping : Keeping) (t : Tree) (n : ℕ) → AllByRecursion Sound script
     → KeptOnce (has_dropped keeping (take n script)) (after (job_with script limit keeping) (begun (job_with script limit keeping) t) (take n script))

@@ -13,3 +13,4 @@ pub mod Reloaded
 pub mod Readable
 pub mod Continued
 pub mod Inverses
+pub mod Histories

@@ -22,10 +22,11 @@ use Rattle.sj_tape.specs.Views.{nodes_tree}
 use Rattle.sj_tape.specs.declared.node.Node.{Node}
 use Rattle.sj_tape.proofs.Listings.{tree_from}
 use Rattle.sj_tape.proofs.ValidTrees.{tree_found}
-use Rattle.sj_scripts.specs.Command.{Step, get, contains, type_of, len, keys, insert, remove, push, pop, set_at, reload, reload_pp}
+use Rattle.sj_scripts.specs.Command.{Step, get, contains, type_of, len, keys, insert, remove, push, pop, set_at, undo, reload, reload_pp}
 use Rattle.sj_scripts.specs.Step.{Job, Keeping, from_start, from_write, start, begun, after}
 use Rattle.sj_scripts.specs.Script.{IsAccepted}
 use Rattle.sj_scripts.specs.inside.KeptValues.{is_kept}
+use Rattle.sj_scripts.specs.declared.inverse.Inverse.{Inverse}
 use Rattle.sj_records.specs.inside.Reloads.{IsReadable, IsPrinted, Reloads}
 use Rattle.sj_records.proofs.Accepted.{Good, Sound, accepted_sound}
 use Rattle.sj_records.proofs.Along.{after_within, start_within}
@@ -52,6 +53,7 @@ step_found (len path) h = tt
 step_found (keys path) h = tt
 step_found (remove path k) h = tt
 step_found (pop path) h = tt
+step_found undo h = tt
 step_found reload h = tt
 step_found reload_pp h = tt
 
@@ -71,7 +73,7 @@ front_sound script (c ∷ cs) ds is h = let sound = subst (λ (ls : List Step). 
 module _ (job : Job) (t : Tree) (ran : List Step) (sound : AllByRecursion Sound ran) where
   pub readable_after : IsReadable job.limit t → IsReadable job.limit (after job (begun job t) ran).tree
   readable_after h = (
-    after_valid text_visible job (begun job t) ran sound (start_valid text_visible t job.keeping h.0),
+    (after_valid text_visible job (begun job t) ran sound (start_valid text_visible t job.keeping h.0, tt)).0,
     (after_within job (begun job t) ran (start_within job.limit t job.keeping h.1, tt)).0,
   )
 
@@ -85,9 +87,9 @@ module _ (job : Job) (t : Tree) (ran : List Step) (sound : AllByRecursion Sound 
       kept_again job.keeping (after job (begun job t) ran).tree (λ e. (after_kept job (begun job t) ran sound (subst (λ (k : Keeping). IsKept (start t k)) (sym e) (keeps_once t), tt)).0)
 
 -- what stands before the next command of an accepted script, behind a reload
-pub reached_again : (job : Job) (t : Tree) (left : List Step) (printed old new : List ℕ) (r : Reloads job (begun job t) job.script left true printed old new) → ∥ IsAccepted job.script ∥₁ → IsReadable job.limit t
+pub reached_again : (job : Job) (t : Tree) (left : List Step) (history : List Inverse) (printed old new : List ℕ) (r : Reloads job (begun job t) job.script left true history printed old new) → ∥ IsAccepted job.script ∥₁ → IsReadable job.limit t
     → IsReadable job.limit (after job (begun job t) r.ran).tree × (start (after job (begun job t) r.ran).tree job.keeping ≡ (after job (begun job t) r.ran).tree)
-reached_again job t left printed old new r accepted readable =
+reached_again job t left history printed old new r accepted readable =
     let sound = front_sound job.script r.ran left r.parts (script_found job.script accepted) in
     (readable_after job t r.ran sound readable, started_again job t r.ran sound)
 

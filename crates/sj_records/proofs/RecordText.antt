@@ -1,15 +1,17 @@
 -- The text of a record, piece by piece.
-use Rattle.std.proofs.Common.{◌≡◌, ℕ, suc, ◌<◌, ◌≤◌, Bool, true, false, List, [], ◌∷◌, ◌++◌, length, Option, Some, None, Result, Ok, Err, codes, append_assoc, refl, sym, ap, ap₂, subst, ◌∙◌, arith}
+use Rattle.std.proofs.Common.{◌≡◌, ℕ, suc, ◌<◌, ◌≤◌, Bool, true, false, List, [], ◌∷◌, ◌++◌, length, Option, Some, None, codes, append_assoc, refl, sym, ap, ap₂, subst, ◌∙◌, arith}
 use Rattle.std.proofs.lemmas.List.{append-nil}
 use Rattle.sj_base.specs.Tree.{Tree, Items, no_items, item}
 use Rattle.sj_base.specs.Text.{text, more_items_text}
 use Rattle.sj_scripts.specs.declared.script.Command.{Command}
-use Rattle.sj_scripts.specs.Command.{Step, get, contains, type_of, len, keys, insert, remove, push, pop, set_at, reload, reload_pp}
-use Rattle.sj_scripts.specs.Step.{Job, Keeping, State, Word, base, fits, fits_below, insertion, removal, pushing, popping, setting, write_at, settled, step, replies, after}
+use Rattle.sj_scripts.specs.Command.{Step, get, contains, type_of, len, keys, insert, remove, push, pop, set_at, undo, reload, reload_pp}
+use Rattle.sj_scripts.specs.Step.{Job, Keeping, State, step, replies, after}
+use Rattle.sj_scripts.specs.declared.inverse.Inverse.{Inverse}
+use Rattle.sj_records.specs.History.{StandFor, bare, Applied}
+use Rattle.sj_records.specs.Laws.{with_script}
 use Rattle.sj_records.specs.Record.{record_of}
 use Rattle.sj_scripts.specs.Script.{commands_view}
 use Rattle.sj_scripts.specs.inside.Documents.{separator, items_left}
-use Rattle.sj_records.specs.inside.Progress.{without_bases, IsStep}
 use Rattle.sj_records.specs.inside.Reloads.{record_from, IsPrinted, Reloads, Runs}
 
 -- the text of a record whose first commands are still to be run
@@ -17,55 +19,38 @@ pub record_begun : (job : Job) (s : State) (cs : List Step) (out : List ℕ)
     → (out ++ codes "{\"replies\":[") ++ record_from job s cs true ≡ out ++ text (record_of (replies job s cs) (after job s cs).tree)
 record_begun job s cs out = simp (append_assoc, append-nil)
 
--- what a write settles does not hang on the bases before it
-settled-reply : (t : Tree) (bases : List Tree) (w : Result (Tree × Tree) Word) → (settled t bases w).0 ≡ (settled t [] w).0
-settled-reply t bases (Ok w) = refl
-settled-reply t bases (Err word) = refl
+-- what a command does hangs on no script
+pub same_step : (job : Job) (script : List Step) (s : State) (c : Step) → step (with_script job script) s c ≡ step job s c
+same_step job script s (get path) = refl
+same_step job script s (contains path k) = refl
+same_step job script s (type_of path) = refl
+same_step job script s (len path) = refl
+same_step job script s (keys path) = refl
+same_step job script s (insert path k v) = refl
+same_step job script s (remove path k) = refl
+same_step job script s (push path v) = refl
+same_step job script s (pop path) = refl
+same_step job script s (set_at path v) = refl
+same_step job script s undo = refl
+same_step job script s reload = refl
+same_step job script s reload_pp = refl
 
-settled-tree : (t : Tree) (bases : List Tree) (w : Result (Tree × Tree) Word) → (settled t bases w).1.tree ≡ (settled t [] w).1.tree
-settled-tree t bases (Ok w) = refl
-settled-tree t bases (Err word) = refl
+-- a command on a document that stands for the state
+pub step-on : (job : Job) (s : State) (keeping : Keeping) (u : Tree) (history : List Inverse) (old new : List ℕ) (c : Step) → keeping ≡ job.keeping → Applied keeping job.limit s c old new u history
+    → (new ≡ old ++ text (step job s c).0) × StandFor keeping u history (step job s c).1
+step-on job s keeping u history old new c same done =
+    let is : step (bare keeping job.limit) s c ≡ step job s c = ap (λ k. step (bare k job.limit) s c) same ∙ same_step job [] s c in
+    subst (λ (n : Tree × State). (new ≡ old ++ text n.0) × StandFor keeping u history n.1) is done
 
--- a job with no script
-abbrev pub bare : Keeping → ℕ → Job
-bare keeping limit = record { script = []; limit = limit; keeping = keeping }
+-- the tree of the state, in the place of the document's
+pub stands_again : (keeping other : Keeping) (t : Tree) (history : List Inverse) (s : State) → keeping ≡ other → StandFor keeping t history s → StandFor other s.tree history s
+stands_again keeping other t history s same stand =
+    subst (λ (k : Keeping). StandFor k s.tree history s) same (subst (λ (u : Tree). StandFor keeping u history s) (sym stand.0) stand)
 
--- a step is made by the tree, the limit and how the document is kept
-pub step-reply : (job : Job) (s : State) (c : Step) → (step job s c).0 ≡ (step (bare job.keeping job.limit) (without_bases s.tree) c).0
-step-reply job s (get path) = refl
-step-reply job s (contains path k) = refl
-step-reply job s (type_of path) = refl
-step-reply job s (len path) = refl
-step-reply job s (keys path) = refl
-step-reply job s reload = refl
-step-reply job s reload_pp = refl
-step-reply job s (insert path k v) = settled-reply _ s.bases (write_at (base s.tree job.keeping) path (insertion (fits_below path v job.limit) k v))
-step-reply job s (remove path k) = settled-reply _ s.bases (write_at (base s.tree job.keeping) path (removal k))
-step-reply job s (push path v) = settled-reply _ s.bases (write_at (base s.tree job.keeping) path (pushing (fits_below path v job.limit) v))
-step-reply job s (pop path) = settled-reply _ s.bases (write_at (base s.tree job.keeping) path popping)
-step-reply job s (set_at path v) = settled-reply _ s.bases (write_at (base s.tree job.keeping) path (setting (fits path v job.limit) v))
-
-pub step-tree : (job : Job) (s : State) (c : Step) → (step job s c).1.tree ≡ (step (bare job.keeping job.limit) (without_bases s.tree) c).1.tree
-step-tree job s (get path) = refl
-step-tree job s (contains path k) = refl
-step-tree job s (type_of path) = refl
-step-tree job s (len path) = refl
-step-tree job s (keys path) = refl
-step-tree job s reload = refl
-step-tree job s reload_pp = refl
-step-tree job s (insert path k v) = settled-tree _ s.bases (write_at (base s.tree job.keeping) path (insertion (fits_below path v job.limit) k v))
-step-tree job s (remove path k) = settled-tree _ s.bases (write_at (base s.tree job.keeping) path (removal k))
-step-tree job s (push path v) = settled-tree _ s.bases (write_at (base s.tree job.keeping) path (pushing (fits_below path v job.limit) v))
-step-tree job s (pop path) = settled-tree _ s.bases (write_at (base s.tree job.keeping) path popping)
-step-tree job s (set_at path v) = settled-tree _ s.bases (write_at (base s.tree job.keeping) path (setting (fits path v job.limit) v))
-
--- a step on a document, against the state whose tree it is
-pub step-on : (job : Job) (s : State) (keeping : Keeping) (t u : Tree) (old new : List ℕ) (c : Step) → s.tree ≡ t → keeping ≡ job.keeping → IsStep keeping job.limit t u old new c
-    → (new ≡ old ++ text (step job s c).0) × ((step job s c).1.tree ≡ u)
-step-on job s keeping t u old new c at same done =
-    let replied : (step job s c).0 ≡ (step (bare keeping job.limit) (without_bases t) c).0 = step-reply job s c ∙ ap₂ (λ (k : Keeping) (v : Tree). (step (bare k job.limit) (without_bases v) c).0) (sym same) at in
-    let changed : (step job s c).1.tree ≡ (step (bare keeping job.limit) (without_bases t) c).1.tree = step-tree job s c ∙ ap₂ (λ (k : Keeping) (v : Tree). (step (bare k job.limit) (without_bases v) c).1.tree) (sym same) at in
-    (done.0 ∙ ap (λ r. old ++ text r) (sym replied), changed ∙ sym done.1)
+-- a document that was made for the state
+pub stands_begun : (keeping other : Keeping) (t u : Tree) (history : List Inverse) (s : State) → other ≡ keeping → u ≡ t → StandFor keeping t history s → StandFor other u history s
+stands_begun keeping other t u history s same is stand =
+    subst (λ (k : Keeping). StandFor k u history s) (sym same) (subst (λ (v : Tree). StandFor keeping v history s) (sym is) stand)
 
 -- ---- a script, one command after the other
 
@@ -96,7 +81,7 @@ module _ (job : Job) (first : State) (cs : List Step) (began : Bool) (before : L
   -- one more command
   pub Running-more : (left rest : List Step) (c : Step) (b : Bool) (out mid new : List ℕ) (r : Running job first cs left began b before out) → left ≡ c ∷ rest
       → mid ≡ out ++ separator b → new ≡ mid ++ text (step job (after job first r.ran) c).0
-      → (m : Running job first cs rest began false before new) × ((after job first m.ran).tree ≡ (step job (after job first r.ran) c).1.tree)
+      → (m : Running job first cs rest began false before new) × (after job first m.ran ≡ (step job (after job first r.ran) c).1)
   Running-more left rest c b out mid new r is between replied =
       let s = after job first r.ran in
       let u = (step job s c).1 in
@@ -116,14 +101,14 @@ module _ (job : Job) (first : State) (cs : List Step) (began : Bool) (before : L
           within = omega arith;
           written = ap (λ (v : State). new ++ record_from job v rest false) reached ∙ now ∙ r.written;
         },
-        ap (λ (v : State). v.tree) reached,
+        reached,
       )
 
   -- up to a reload
-  pub Running-stop : (left : List Step) (b : Bool) (printed out : List ℕ) (r : Running job first cs left began b before out) → b ≡ false → length left < length cs → IsPrinted (after job first r.ran).tree printed
-      → Reloads job first cs left began printed before out
-  Running-stop left b printed out r later fewer is_printed =
-      record { ran = r.ran; parts = r.parts; fewer = fewer; is_printed = is_printed; written = ap (λ (b : Bool). out ++ record_from job (after job first r.ran) left b) (sym later) ∙ r.written }
+  pub Running-stop : (left : List Step) (b : Bool) (history : List Inverse) (printed out : List ℕ) (r : Running job first cs left began b before out) → b ≡ false → length left < length cs → IsPrinted (after job first r.ran).tree printed
+      → StandFor job.keeping (after job first r.ran).tree history (after job first r.ran) → Reloads job first cs left began history printed before out
+  Running-stop left b history printed out r later fewer is_printed stands =
+      record { ran = r.ran; parts = r.parts; fewer = fewer; is_printed = is_printed; stands = stands; written = ap (λ (b : Bool). out ++ record_from job (after job first r.ran) left b) (sym later) ∙ r.written }
 
   -- up to the end
   pub Running-end : (left : List Step) (b : Bool) (t : Tree) (out named shown new : List ℕ) (r : Running job first cs left began b before out) → left ≡ [] → (after job first r.ran).tree ≡ t
@@ -136,10 +121,10 @@ module _ (job : Job) (first : State) (cs : List Step) (began : Bool) (before : L
       ends ∙ ap (λ bs. bs ++ 0x7d ∷ []) (shows ∙ ap (λ bs. bs ++ text t) names) ∙ apart ∙ sym last ∙ ap (λ ls. out ++ record_from job s ls b) (sym none) ∙ r.written
 
 -- the commands behind a reload, after those before it
-pub Runs-on : (job : Job) (s : State) (cs left : List Step) (b : Bool) (next : Option (List Command)) (printed printed2 old mid new : List ℕ) (r : Reloads job s cs left b printed old mid)
-    → Runs job (after job s r.ran) left false next printed2 mid new → Runs job s cs b next printed2 old new
-Runs-on job s cs left b None printed printed2 old mid new r done = done ∙ r.written
-Runs-on job s cs left b (Some next) printed printed2 old mid new r more =
+pub Runs-on : (job : Job) (s : State) (cs left : List Step) (b : Bool) (next : Option (List Command)) (history history2 : List Inverse) (printed printed2 old mid new : List ℕ) (r : Reloads job s cs left b history printed old mid)
+    → Runs job (after job s r.ran) left false next history2 printed2 mid new → Runs job s cs b next history2 printed2 old new
+Runs-on job s cs left b None history history2 printed printed2 old mid new r done = done ∙ r.written
+Runs-on job s cs left b (Some next) history history2 printed printed2 old mid new r more =
     let reached = after_join job s r.ran more.ran in
     let first = r.fewer in
     let then = more.fewer in
@@ -148,6 +133,7 @@ Runs-on job s cs left b (Some next) printed printed2 old mid new r more =
       parts = r.parts ∙ ap (λ ls. r.ran ++ ls) more.parts ∙ sym (append_assoc r.ran more.ran (commands_view next));
       fewer = omega arith;
       is_printed = subst (λ (u : State). IsPrinted u.tree printed2) (sym reached) more.is_printed;
+      stands = subst (λ (u : State). StandFor job.keeping u.tree history2 u) (sym reached) more.stands;
       written = ap (λ (u : State). new ++ record_from job u (commands_view next) false) reached ∙ more.written ∙ r.written;
     }
 
@@ -156,6 +142,6 @@ abbrev pub left_len : Option (List Command) → ℕ
 left_len None = 0
 left_len (Some left) = suc (length (commands_view left))
 
-pub fewer_left : (job : Job) (s : State) (cs : List Step) (b : Bool) (next : Option (List Command)) (printed old new : List ℕ) → Runs job s cs b next printed old new → left_len next ≤ length cs
-fewer_left job s cs b None printed old new done = omega arith
-fewer_left job s cs b (Some next) printed old new more = let fewer = more.fewer in omega arith
+pub fewer_left : (job : Job) (s : State) (cs : List Step) (b : Bool) (next : Option (List Command)) (history : List Inverse) (printed old new : List ℕ) → Runs job s cs b next history printed old new → left_len next ≤ length cs
+fewer_left job s cs b None history printed old new done = omega arith
+fewer_left job s cs b (Some next) history printed old new more = let fewer = more.fewer in omega arith

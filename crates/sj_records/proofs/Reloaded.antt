@@ -2,30 +2,15 @@
 use Rattle.std.proofs.Common.{◌≡◌, ℕ, List, [], ◌∷◌, ◌++◌, refl, sym, ap, ap₂, ◌∙◌, inl, inr}
 use Rattle.sj_base.specs.Tree.{Tree, Items, item}
 use Rattle.sj_base.specs.Text.{text, pretty}
-use Rattle.sj_scripts.specs.Command.{Step, get, contains, type_of, len, keys, insert, remove, push, pop, set_at, reload, reload_pp}
+use Rattle.sj_scripts.specs.Command.{Step, reload, reload_pp}
 use Rattle.sj_scripts.specs.Step.{Job, State, begun, reload_reply, step, replies, after}
 use Rattle.sj_records.specs.Record.{record_of, outcome}
 use Rattle.sj_records.specs.Laws.{with_script, items_then, ChangesNothing}
-use Rattle.sj_records.proofs.RecordText.{after_join}
+use Rattle.sj_records.proofs.RecordText.{same_step, after_join}
 
 replies_join : (job : Job) (s : State) (cs ds : List Step) → replies job s (cs ++ ds) ≡ items_then (replies job s cs) (replies job (after job s cs) ds)
 replies_join job s [] ds = refl
 replies_join job s (c ∷ cs) ds = ap (item (step job s c).0) (replies_join job (step job s c).1 cs ds)
-
--- what a command does hangs on no script
-same_step : (job : Job) (script : List Step) (s : State) (c : Step) → step (with_script job script) s c ≡ step job s c
-same_step job script s (get path) = refl
-same_step job script s (contains path k) = refl
-same_step job script s (type_of path) = refl
-same_step job script s (len path) = refl
-same_step job script s (keys path) = refl
-same_step job script s (insert path k v) = refl
-same_step job script s (remove path k) = refl
-same_step job script s (push path v) = refl
-same_step job script s (pop path) = refl
-same_step job script s (set_at path v) = refl
-same_step job script s reload = refl
-same_step job script s reload_pp = refl
 
 pub same_replies : (job : Job) (script : List Step) (s : State) (cs : List Step) → replies (with_script job script) s cs ≡ replies job s cs
 same_replies job script s [] = refl

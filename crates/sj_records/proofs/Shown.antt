@@ -1,5 +1,5 @@
 -- No byte of a record is below 0x20.
-use Rattle.std.proofs.Common.{◌≡◌, ◌≢◌, ℕ, zero, suc, ◌/◌, ◌%◌, ◌≤◌, Bool, false, List, [], ◌∷◌, ◌++◌, Option, Some, None, Result, Ok, Err, refl, sym, ap, subst, inl, inr, arith}
+use Rattle.std.proofs.Common.{◌≡◌, ◌≢◌, ℕ, zero, suc, ◌/◌, ◌%◌, ◌≤◌, Bool, true, false, List, [], ◌∷◌, ◌++◌, Option, Some, None, Result, Ok, Err, refl, sym, ap, subst, inl, inr, arith}
 use Rattle.std.specs.Prelude.{◌==◌, nat_lt, nat_le, length, codes, encode_utf8, is_some, ok_or, option_and_then, ⊤}
 use Rattle.std.specs.List.{AllByRecursion}
 use Rattle.std.specs.Fmt.{digits, digits_onto, digit_glyph, decimal}
@@ -17,10 +17,10 @@ use Rattle.sj_base.proofs.OneLine.{Visible, visible_append, quoted_visible}
 use Rattle.sj_base.specs.Laws.{OneLine}
 use Rattle.sj_base.proofs.Trees.{only_trees}
 use Rattle.sj_base.proofs.Valid.{valid_when_kept, valid_part, valid_last, valid_put, valid_with_member, valid_dropped, valid_pushed, valid_popped}
-use Rattle.sj_scripts.specs.Command.{Step, get, contains, type_of, len, keys, insert, remove, push, pop, set_at, reload, reload_pp, ◌>>=◌}
-use Rattle.sj_scripts.specs.Step.{Job, Keeping, from_start, from_write, State, Word, Rewrite, start, begun, base, answer, part_at, reply_of, type_name, count, key_items, fits, fits_below, insertion, removal, pushing, popping, setting, write_at, settled, rewritten, step, replies, after}
+use Rattle.sj_scripts.specs.Command.{Step, get, contains, type_of, len, keys, insert, remove, push, pop, set_at, undo, reload, reload_pp, ◌>>=◌}
+use Rattle.sj_scripts.specs.Step.{Job, Keeping, from_start, from_write, State, Word, Rewrite, start, begun, base, answer, part_at, reply_of, type_name, count, key_items, fits, fits_below, insertion, removal, pushing, popping, setting, write_at, settled, undone, rewritten, step, replies, after}
 use Rattle.sj_records.specs.Record.{record_of, character_of, fault_record}
-use Rattle.sj_records.specs.Laws.{NoLineFeed}
+use Rattle.sj_records.specs.Laws.{HoldsInState, NoLineFeed}
 use Rattle.sj_scripts.proofs.Changes.{inserted, removed, pushed, popped, within, write_done}
 use Rattle.sj_records.proofs.Accepted.{Sound, accepted_sound}
 
@@ -140,26 +140,35 @@ module _ (text_visible : OneLine) where
   start_valid t from_start h = valid_when_kept t h
   start_valid t from_write h = h
 
-  -- the reply is shown, and the new tree is valid
-  abbrev Fine : Tree × State → Type 0
-  Fine p = Shown p.0 × IsValidTree p.1.tree
+  -- the reply is shown, and the new tree and its bases are valid
+  abbrev pub AllValid : State → Type 0
+  AllValid s = HoldsInState IsValidTree s
 
-  settled_fine : (t : Tree) (bases : List Tree) (path : List Part) (change : Rewrite) (r : Result (Tree × Tree) Word) → write_at t path change ≡ r → StaysValid change → IsValidTree t → Fine (settled t bases r)
-  settled_fine t bases path change (Err word) e fine h = (quoted_visible word, h)
-  settled_fine t bases path change (Ok w) e fine h =
+  abbrev Fine : Tree × State → Type 0
+  Fine p = Shown p.0 × AllValid p.1
+
+  settled_fine : (t : Tree) (bases : List Tree) (path : List Part) (change : Rewrite) (r : Result (Tree × Tree) Word) → write_at t path change ≡ r → StaysValid change → IsValidTree t → AllByRecursion IsValidTree bases → Fine (settled t bases r)
+  settled_fine t bases path change (Err word) e fine h hs = (quoted_visible word, (h, hs))
+  settled_fine t bases path change (Ok w) e fine h hs =
       let d = write_done t path change w e in
       let new = fine d.0 d.2 d.3 (valid_part t path d.0 h d.1) in
-      both _ w d.4 (new.0, valid_put t path d.2.1 h new.1)
+      let done = both _ w d.4 (new.0, valid_put t path d.2.1 h new.1) in
+      (done.0, (done.1, (h, hs)))
 
-  rewritten_fine : (job : Job) (s : State) (path : List Part) (change : Rewrite) → StaysValid change → IsValidTree s.tree → Fine (rewritten job s path change)
-  rewritten_fine job s path change fine h = settled_fine (base s.tree job.keeping) s.bases path change _ refl fine (base_valid s.tree job.keeping h)
+  rewritten_fine : (job : Job) (s : State) (path : List Part) (change : Rewrite) → StaysValid change → AllValid s → Fine (rewritten job s path change)
+  rewritten_fine job s path change fine h = settled_fine (base s.tree job.keeping) s.bases path change _ refl fine (base_valid s.tree job.keeping h.0) h.1
 
-  step_fine : (job : Job) (s : State) (c : Step) → Sound c → IsValidTree s.tree → Fine (step job s c)
-  step_fine job s (get path) sound h = (found_shown (at s.tree path) (λ t e. valid_part s.tree path t h e), h)
+  undone_fine : (t : Tree) (bases : List Tree) → IsValidTree t → AllByRecursion IsValidTree bases → Fine (undone t bases)
+  undone_fine t [] h hs = (boolean_shown false, (h, tt))
+  undone_fine t (b ∷ bs) h hs = (boolean_shown true, hs)
+
+  step_fine : (job : Job) (s : State) (c : Step) → Sound c → AllValid s → Fine (step job s c)
+  step_fine job s (get path) sound h = (found_shown (at s.tree path) (λ t e. valid_part s.tree path t h.0 e), h)
   step_fine job s (contains path k) sound h = (bound_shown (part_at s.tree path) _ (λ part. boolean_shown (is_some (child part (key k)))), h)
   step_fine job s (type_of path) sound h = (bound_shown (part_at s.tree path) _ (λ part. quoted_visible (type_name part)), h)
   step_fine job s (len path) sound h = (bound_shown (part_at s.tree path) _ count_shown, h)
   step_fine job s (keys path) sound h = (bound_shown (part_at s.tree path) _ (λ part. key_list_shown (members_in part)), h)
+  step_fine job s undo sound h = undone_fine s.tree s.bases h.0 h.1
   step_fine job s reload sound h = (boolean_shown (nat_le (length (text s.tree)) longest), h)
   step_fine job s reload_pp sound h = (boolean_shown (nat_le (length (pretty s.tree)) longest), h)
   step_fine job s (insert path k v) sound h = rewritten_fine job s path _ (insertion_valid (fits_below path v job.limit) path k v sound) h
@@ -168,11 +177,11 @@ module _ (text_visible : OneLine) where
   step_fine job s (pop path) sound h = rewritten_fine job s path _ popping_valid h
   step_fine job s (set_at path v) sound h = rewritten_fine job s path _ (setting_valid (fits path v job.limit) v sound.1) h
 
-  replies_shown : (job : Job) (s : State) (cs : List Step) → AllByRecursion Sound cs → IsValidTree s.tree → AllShown (replies job s cs)
+  replies_shown : (job : Job) (s : State) (cs : List Step) → AllByRecursion Sound cs → AllValid s → AllShown (replies job s cs)
   replies_shown job s [] sound h = tt
   replies_shown job s (c ∷ cs) sound h = let fine = step_fine job s c sound.0 h in (fine.0, replies_shown job (step job s c).1 cs sound.1 fine.1)
 
-  pub after_valid : (job : Job) (s : State) (cs : List Step) → AllByRecursion Sound cs → IsValidTree s.tree → IsValidTree (after job s cs).tree
+  pub after_valid : (job : Job) (s : State) (cs : List Step) → AllByRecursion Sound cs → AllValid s → AllValid (after job s cs)
   after_valid job s [] sound h = h
   after_valid job s (c ∷ cs) sound h = after_valid job (step job s c).1 cs sound.1 (step_fine job s c sound.0 h).1
 
@@ -212,6 +221,6 @@ module _ (text_visible : OneLine) where
   no_line_feed job line bytes accepted (inl (t, document, is)) =
       let sound = accepted_sound job.script accepted in
       let s = begun job t in
-      let valid : IsValidTree s.tree = start_valid t job.keeping (only_trees line t document.spells) in
-      visible_free bytes (subst Visible (sym is) (record_shown (replies job s job.script) (after job s job.script).tree (replies_shown job s job.script sound valid) (after_valid job s job.script sound valid)))
+      let valid : AllValid s = (start_valid t job.keeping (only_trees line t document.spells), tt) in
+      visible_free bytes (subst Visible (sym is) (record_shown (replies job s job.script) (after job s job.script).tree (replies_shown job s job.script sound valid) (after_valid job s job.script sound valid).0))
   no_line_feed job line bytes accepted (inr (e, fault, is)) = visible_free bytes (subst Visible (sym is) (fault_shown e))

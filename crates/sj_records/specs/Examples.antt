@@ -1,5 +1,5 @@
 -- Worked values: lines, and records.
-use Rattle.std.specs.Prelude.{◌≡◌, refl, ℕ, List, pos, true, false, [], ◌∷◌, ◌++◌, Some, codes}
+use Rattle.std.specs.Prelude.{◌≡◌, refl, ℕ, List, pos, true, false, [], ◌∷◌, ◌++◌, Some, None, codes}
 use Rattle.std.specs.Char.{encode_utf8}
 use Rattle.std.specs.Fmt.{digits}
 use Rattle.std.specs.Str.{chars, is_utf8}
@@ -10,10 +10,12 @@ use Rattle.sj_base.specs.Number.{signed}
 use Rattle.sj_base.specs.Text.{text}
 use Rattle.sj_base.specs.declared.error.ErrorType.TheVariants.{Eof, ExpectedTrue, InputTooLarge, InternalError, Syntax}
 use Rattle.sj_records.specs.Lines.{lines}
-use Rattle.sj_scripts.specs.Command.{Step, get, contains, type_of, len, keys, insert, remove, push, pop, set_at, reload, reload_pp}
+use Rattle.sj_scripts.specs.Command.{Step, get, contains, type_of, len, keys, insert, remove, push, pop, set_at, undo, reload, reload_pp}
+use Rattle.sj_scripts.specs.Inverse.{drop_item, set_part}
 use Rattle.sj_scripts.specs.Step.{Job, Keeping, from_start, from_write, begun, after}
 use Rattle.sj_parse.specs.Descent.{value}
 use Rattle.sj_parse.specs.Fault.{generic, padded_fault}
+use Rattle.sj_records.specs.History.{bases_from}
 use Rattle.sj_records.specs.Record.{outcome, IsRecord}
 use Rattle.sj_scripts.specs.Examples.{one, two, word, number, empty_list, empty_object, repeated_key, a_is_1}
 
@@ -114,6 +116,34 @@ kept_reloaded = refl
 reloaded_twice : text (outcome (owned (reload_pp ∷ remove [] (codes "a") ∷ reload ∷ [])) a_is_1) ≡ codes "{\"replies\":[true,[1],true],\"document\":{}}"
 unfolding digits
 reloaded_twice = refl
+
+-- [["remove",[],"a"],["reload"],["insert",[],"c",3],["undo"],["undo"],["undo"]]: the removed member comes back at its place
+abbrev undone_twice : List Step
+undone_twice = remove [] (codes "a") ∷ reload ∷ insert [] (codes "c") (number 3) ∷ undo ∷ undo ∷ undo ∷ []
+
+abbrev a_and_b : Tree
+a_and_b = object (member (codes "a") (number 1) (member (codes "b") (number 2) no_members))
+
+writes_undone : text (outcome (owned undone_twice) a_and_b) ≡ codes "{\"replies\":[[1],true,[],true,true,false],\"document\":{\"a\":1,\"b\":2}}"
+unfolding digits
+writes_undone = refl
+
+-- [["undo"],["len",[]],["remove",[],"a"],["undo"]]: repeats that a write dropped stay away
+repeats_undone : text (outcome (lazy (undo ∷ len [] ∷ remove [] (codes "a") ∷ undo ∷ [])) repeated_key) ≡ codes "{\"replies\":[false,2,[1],true],\"document\":{\"a\":1}}"
+unfolding digits
+repeats_undone = refl
+
+-- a refused write isn't taken back, and one that found nothing is
+nothing_undone : text (outcome (owned (push [] (number 1) ∷ remove [] (codes "z") ∷ undo ∷ undo ∷ [])) a_is_1) ≡ codes "{\"replies\":[\"NotAnArray\",[],true,false],\"document\":{\"a\":1}}"
+unfolding digits
+nothing_undone = refl
+
+-- inverses bring back one base after the other, the newest first
+two_bases : bases_from ((place 0 ∷ [], set_part (number 7)) ∷ ([], drop_item) ∷ []) (list (two (number 8) (number 9))) ≡ Some (list (two (number 7) (number 9)) ∷ list (one (number 7)) ∷ [])
+two_bases = refl
+
+no_bases : bases_from ((place 2 ∷ [], drop_item) ∷ []) (list (two (number 8) (number 9))) ≡ None
+no_bases = refl
 
 -- depth-limits
 too_deep : text (outcome (job from_start 1 (push [] empty_list ∷ [])) empty_list) ≡ codes "{\"replies\":[\"TooDeep\"],\"document\":[]}"

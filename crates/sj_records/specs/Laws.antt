@@ -1,6 +1,7 @@
 -- Laws of the definitions: each line has one record, any bytes are read as a script in one way, the depth limit holds along a
 -- script, a second script continues the first, and a reload changes nothing.
-use Rattle.std.specs.Prelude.{◌≡◌, ◌≢◌, ℕ, ◌≤◌, Bool, true, false, ◌||◌, List, [], ◌∷◌, ◌++◌, length, take, Option, Some, Ok}
+use Rattle.std.specs.Prelude.{◌≡◌, ◌≢◌, ℕ, ◌≤◌, Bool, true, false, ◌||◌, List, [], ◌∷◌, ◌++◌, length, take, Option, Some, Ok, ⊤}
+use Rattle.std.specs.declared.alloc.AllocError.{AllocError}
 use Rattle.std.specs.List.{AllByRecursion}
 use Rattle.sj_base.specs.Tree.{Tree, Items, no_items, item, depth}
 use Rattle.sj_base.specs.Keep.{IsKept}
@@ -8,12 +9,14 @@ use Rattle.sj_base.specs.Spelling.{longest, Document}
 use Rattle.sj_base.specs.Text.{text}
 use Rattle.sj_base.specs.declared.error.Error.{Error}
 use Rattle.sj_parse.specs.Fault.{fault}
-use Rattle.sj_scripts.specs.Command.{Step, insert, remove, push, pop, set_at, reload}
+use Rattle.sj_scripts.specs.Command.{Step, insert, remove, push, pop, set_at, undo, reload, reload_pp}
 use Rattle.sj_scripts.specs.Step.{Job, Keeping, from_start, from_write, State, begun, reload_reply, replies, after, Rewrite, reply_of, insertion, removal, pushing, popping, setting, write_at}
 use Rattle.sj_scripts.specs.Inverse.{Change, drop_item, place_in, back, insertion_back, removal_back, popping_back, setting_back}
 use Rattle.sj_base.specs.Path.{Part, at}
 use Rattle.sj_records.specs.Record.{IsRecord, record_of, fault_record}
 use Rattle.sj_scripts.specs.Script.{IsReadAs, IsAccepted}
+use Rattle.sj_scripts.specs.declared.inverse.Inverse.{Inverse}
+use Rattle.sj_records.specs.History.{CommandLeaves, StandFor, Applied}
 
 -- exactly one x satisfies P
 abbrev pub ExactlyOne : {A : Type 0} → (A → Type 0) → Type 0
@@ -79,11 +82,20 @@ abbrev pub items_then : Items → Items → Items
 items_then no_items us = us
 items_then (item t ts) us = item t (items_then ts us)
 
--- A second script on the text that the first comes to, as a line, gives what it gives behind the first: the same replies and the
+abbrev pub is_reload : Step → Bool
+is_reload reload = true
+is_reload reload_pp = true
+is_reload _ = false
+
+abbrev pub is_undo : Step → Bool
+is_undo undo = true
+is_undo _ = false
+
+-- A second script without `undo` on the text that the first comes to, as a line, gives what it gives behind the first: the same replies and the
 -- same document.
 abbrev pub ScriptsContinue : Type 0
 ScriptsContinue =
-    (job : Job) (line : List ℕ) (t : Tree) (first second : List Step) → IsAccepted first → Document line job.limit t →
+    (job : Job) (line : List ℕ) (t : Tree) (first second : List Step) → IsAccepted first → AllByRecursion (λ c. is_undo c ≡ false) second → Document line job.limit t →
     let s = after job (begun job t) first in
     let rest = replies job s second in
     let last = (after job s second).tree in
@@ -126,3 +138,16 @@ PopUndone = (path : List Part) → Undoes path popping (λ part found. popping_b
 
 abbrev pub SetUndone : Type 0
 SetUndone = (path : List Part) (v : Tree) (test : Bool) → Undoes path (setting test v) (λ part found. setting_back found)
+
+-- the value that a command writes repeats no key
+abbrev pub WritesKept : Step → Type 0
+WritesKept (insert path k v) = IsKept v
+WritesKept (push path v) = IsKept v
+WritesKept (set_at path v) = IsKept v
+WritesKept _ = ⊤
+
+-- Where a document and its history stand for a state, they do so for the state after a command too, and the reply is that of `step`.
+abbrev pub HistoriesStand : Type 0
+HistoriesStand =
+    (keeping : Keeping) (limit : ℕ) (t u : Tree) (history next : List Inverse) (old new : List ℕ) (c : Step) (s : State) → WritesKept c
+    → CommandLeaves {E = AllocError} (Ok tt) keeping limit t u history next old new c → StandFor keeping t history s → Applied keeping limit s c old new u next

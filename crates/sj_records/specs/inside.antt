@@ -1,3 +1,4 @@
 -- What only clauses of private functions cite.
 pub mod Progress
 pub mod Reloads
+pub mod Adds

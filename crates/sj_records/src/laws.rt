@@ -1,6 +1,6 @@
 //! Laws of the definitions: each function does nothing but call other laws, and its contract is the law.
 ghost use Rattle.sj_records.specs.Laws.{OneRecord, OneReading, DepthStays, BasesAreKept, TreesAreKept, FormsAgree, NoLineFeed, ChangesNothing, ScriptsContinue};
-ghost use Rattle.sj_records.specs.Laws.{InsertUndone, RemoveUndone, PushUndone, PopUndone, SetUndone};
+ghost use Rattle.sj_records.specs.Laws.{InsertUndone, RemoveUndone, PushUndone, PopUndone, SetUndone, HistoriesStand};
 ghost use Rattle.sj_scripts.specs.Command.{reload, reload_pp};
 ghost use Rattle.sj_base.specs.Text.{text, pretty};
 
@@ -30,8 +30,8 @@ pub fn kept_along()
     ensures trees { TreesAreKept }
 {}
 
-/// A second script continues the first: on the text that the first comes to, it gives the replies and the document that it gives
-/// behind the first, under the same limit of levels and in the same form.
+/// A second script without `undo` continues the first: on the text that the first comes to, if it has at most 4294967295 bytes,
+/// it gives the replies and the document that it gives behind the first, under the same limit of levels and in the same form.
 pub fn scripts_continue()
     ensures { ScriptsContinue }
 {
@@ -52,6 +52,12 @@ pub fn inverse_undoes()
     ensures push { PushUndone }
     ensures pop { PopUndone }
     ensures set { SetUndone }
+{}
+
+/// A document and its history that stand for a state stand for the state after a command that [`apply`](crate::apply) runs, and
+/// the reply is that of the state.
+pub fn histories_stand()
+    ensures { HistoriesStand }
 {}
 
 /// No record holds a line feed, for any script that `Script::read` accepts.

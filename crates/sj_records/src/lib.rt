@@ -3,13 +3,16 @@
 
 mod engine;
 mod form;
+mod history;
 pub mod laws;
 mod run_error;
 mod task;
 
 pub use engine::{run, run_with};
 pub use form::Form;
+pub use history::apply;
 pub use run_error::RunError;
 pub use sj_scripts::{
-    Command, CommandFault, Document, LazyDocument, PathPart, Script, ScriptFault, ScriptValue,
+    Change, Command, CommandFault, Document, Inverse, LazyDocument, PathPart, Script, ScriptFault,
+    ScriptValue,
 };

@@ -7,23 +7,25 @@ ghost use Rattle.sj_base.specs.Keep.{keep};
 ghost use Rattle.sj_base.specs.Text.{text as text_of};
 ghost use Rattle.sj_parse.specs.Answers.{IsTapeOf, buffer_limit};
 ghost use Rattle.sj_parse.specs.Fault.{fault};
+ghost use Rattle.sj_records.specs.History.{StandFor, Applied};
 ghost use Rattle.sj_records.specs.Record.{IsRecord, outcome, fault_record, character_of};
 ghost use Rattle.sj_owned.specs.Views.{value_tree};
 ghost use Rattle.sj_scripts.specs.Script.{command_view, commands_view};
 ghost use Rattle.sj_scripts.specs.Step.{State, start, reload_reply};
 ghost use Rattle.sj_tape.specs.Views.{tape_nodes, nodes_tree};
 ghost use Rattle.sj_scripts.specs.inside.ReadErrors.{IfRefused};
-ghost use Rattle.sj_records.specs.inside.Progress.{task_job, IsStep};
-ghost use Rattle.sj_records.specs.inside.Reloads.{IsReadable, IsPrinted, Runs, is_reload};
+ghost use Rattle.sj_records.specs.inside.Progress.{task_job};
+ghost use Rattle.sj_records.specs.inside.Reloads.{IsReadable, IsPrinted, Runs};
 
 use crate::form::Form;
+use crate::history::{apply, put_bool};
 use sj_base::laws::printing_reads_back;
 use sj_base::{DecimalBuf, DecimalCow, Error, put_int, put_string};
 use sj_object::MakeKey;
 use sj_owned::{MakeLiteral, Value, build_tape, build_value};
 use sj_parse::laws::printed_texts;
 use sj_parse::{Buffers, fill_tape};
-use sj_scripts::{Command, Document, LazyDocument, ReadError, Script, put_separator};
+use sj_scripts::{Command, Document, Inverse, LazyDocument, ReadError, Script, put_separator};
 use sj_tape::Tape;
 use std::alloc::{AllocError, Global};
 use std::borrow::CowStr;
@@ -41,35 +43,39 @@ pub(crate) struct Task<'s> {
 /// Room that is kept from one line to the next.
 #[derive(Drop)]
 pub(crate) struct Scratch {
-    /// Room for the texts of a document that is read again.
-    pub(crate) texts: Texts,
+    /// What the commands of a line hand on to those behind a reload.
+    pub(crate) room: Room,
     /// The record of the last line.
     pub(crate) out: Vec<u8>,
 }
 
-/// Two texts, of which one is read while the other is printed into.
+/// What the commands behind a reload need: two texts, of which one is read while the other is printed into, and the history of
+/// the line.
 #[derive(Drop)]
-pub(crate) struct Texts {
+pub(crate) struct Room {
     /// The text that was printed last.
     pub(crate) printed: Vec<u8>,
     /// Room for the one after it.
     pub(crate) next: Vec<u8>,
+    /// What takes the writes of the line back, the newest last.
+    pub(crate) history: Vec<Inverse>,
 }
 
 impl Scratch {
     /// Creates one. No line is known yet, so no room is taken.
     pub(crate) fn new(alloc: Global) -> Scratch {
         Scratch {
-            texts: Texts {
+            room: Room {
                 printed: Vec::new(alloc),
                 next: Vec::new(alloc),
+                history: Vec::new(alloc),
             },
             out: Vec::new(alloc),
         }
     }
 }
 
-/// Makes the record of a line, and a line feed, in place of the record of the line before. The line is rewritten. The
+/// Makes the record of a line, and a line feed, in place of the record and the history of the line before. The line is rewritten. The
 /// tape is filled anew.
 pub(crate) fn make_record<'de>(
     alloc: Global,
@@ -84,9 +90,10 @@ pub(crate) fn make_record<'de>(
         × IsRecord (task_job task.entry) line.entry.now bytes) }
     ensures limit { buffer_limit buffers.new ≡ buffer_limit buffers.old }
 {
-    let Scratch { texts, out } = scratch;
+    let Scratch { room, out } = scratch;
+    room.history.clear();
     out.clear();
-    put_record(alloc, buffers, texts, tape, out, line, task)?;
+    put_record(alloc, buffers, room, tape, out, line, task)?;
     out.push(b'\n')?;
     Ok(())
 }
@@ -94,19 +101,20 @@ pub(crate) fn make_record<'de>(
 fn put_record<'de>(
     alloc: Global,
     buffers: &mut Buffers,
-    texts: &mut Texts,
+    room: &mut Room,
     tape: &mut Tape<'de>,
     out: &mut Vec<u8>,
     line: &'de mut [u8],
     task: Task<'_>,
 ) -> Result<(), AllocError>
-    requires { buffer_limit buffers.old ≡ task.depth }
+    requires limit { buffer_limit buffers.old ≡ task.depth }
+    requires new_line { room.old.history.items ≡ [] }
     ensures holds { OnOk result ((bytes : List ℕ) × (out.new.items ≡ out.old.items ++ bytes)
         × IsRecord (task_job task.entry) line.entry.now bytes) }
     ensures limit { buffer_limit buffers.new ≡ buffer_limit buffers.old }
 {
     match read_tape(alloc, buffers, tape, line) {
-        Ok(()) => put_document_record(alloc, buffers, texts, tape, task, out),
+        Ok(()) => put_document_record(alloc, buffers, room, tape, task, out),
         Err(ReadError::Refused(fault)) => put_fault_record(fault, out),
         Err(ReadError::Memory) => Err(AllocError),
     }
@@ -147,12 +155,13 @@ fn release(alloc: Global, buffers: &mut Buffers) -> Result<(), AllocError>
 fn put_document_record(
     alloc: Global,
     buffers: &mut Buffers,
-    texts: &mut Texts,
+    room: &mut Room,
     tape: &mut Tape<'_>,
     task: Task<'_>,
     out: &mut Vec<u8>,
 ) -> Result<(), AllocError>
     requires limit { buffer_limit buffers.old ≡ task.depth }
+    requires new_line { room.old.history.items ≡ [] }
     requires not_empty { tape_nodes tape.old ≢ [] }
     requires readable { IsReadable task.depth (nodes_tree (tape_nodes tape.old)) }
     ensures holds { OnOk result (out.new.items ≡ out.old.items
@@ -161,13 +170,18 @@ fn put_document_record(
 {
     out.extend_from_slice(b"{\"replies\":[")?;
     let commands = task.script.commands();
-    let mut left = run_on_tape(alloc, tape, task, commands, true, &mut texts.printed, out)?;
+    let Room {
+        printed,
+        history,
+        ..
+    } = room;
+    let mut left = run_on_tape(tape, task, commands, true, history, printed, out)?;
     if left.is_some() && tape.nodes().len() > KEPT_NODES {
         // The tape and that of the text are never both in memory as a whole.
         *tape = Tape::empty(alloc);
     }
     while let Some(commands) = left {
-        left = run_on_text(alloc, buffers, texts, task, commands, out)?;
+        left = run_on_text(alloc, buffers, room, task, commands, out)?;
     }
     Ok(())
 }
@@ -194,27 +208,32 @@ fn build<'de, K: MakeKey<'de> + Drop, D: MakeLiteral<'de> + Drop>(
 fn run_on_text<'s>(
     alloc: Global,
     buffers: &mut Buffers,
-    texts: &mut Texts,
+    room: &mut Room,
     task: Task<'_>,
     commands: &'s [Command],
     out: &mut Vec<u8>,
 ) -> Result<Option<&'s [Command]>, AllocError>
     requires limit { buffer_limit buffers.old ≡ task.depth }
-    requires readable { (t : Tree) × IsReadable task.depth t × IsPrinted t texts.old.printed.items }
-    ensures runs { IfOk result (λ left. (s : State) → IsReadable task.entry.depth s.tree → IsPrinted s.tree texts.old.printed.items → start s.tree (task_job task.entry).keeping ≡ s.tree
-        → Runs (task_job task.entry) s (commands_view commands.now) false (option_copied left) texts.new.printed.items out.old.items out.new.items) }
+    requires readable { (t : Tree) × IsReadable task.depth t × IsPrinted t room.old.printed.items }
+    ensures runs { IfOk result (λ left. (s : State) → IsReadable task.entry.depth s.tree → IsPrinted s.tree room.old.printed.items
+        → StandFor (task_job task.entry).keeping s.tree room.old.history.items s
+        → Runs (task_job task.entry) s (commands_view commands.now) false (option_copied left) room.new.history.items room.new.printed.items out.old.items out.new.items) }
     ensures limit { buffer_limit buffers.new ≡ buffer_limit buffers.old }
 {
     printing_reads_back();
     printed_texts();
-    let Texts { printed, next } = texts;
+    let Room {
+        printed,
+        next,
+        history,
+    } = room;
     let mut tape = Tape::empty(alloc);
     match read_tape(alloc, buffers, &mut tape, printed) {
         Ok(()) => {}
         Err(ReadError::Refused(_)) => unreachable!(),
         Err(ReadError::Memory) => return Err(AllocError),
     }
-    let left = run_on_tape(alloc, &mut tape, task, commands, false, next, out)?;
+    let left = run_on_tape(&mut tape, task, commands, false, history, next, out)?;
     drop(tape);
     mem::swap(printed, next);
     Ok(left)
@@ -226,30 +245,32 @@ fn run_on_text<'s>(
 /// Returns the commands behind the first reload that replied `true`, whose text is in `text` then, or `None` once all have
 /// run and the record is complete.
 fn run_on_tape<'s>(
-    alloc: Global,
     tape: &mut Tape<'_>,
     task: Task<'_>,
     commands: &'s [Command],
     is_first: bool,
+    history: &mut Vec<Inverse>,
     text: &mut Vec<u8>,
     out: &mut Vec<u8>,
 ) -> Result<Option<&'s [Command]>, AllocError>
     requires { tape_nodes tape.old ≢ [] }
-    ensures { IfOk result (λ left. (s : State) → s.tree ≡ start (nodes_tree (tape_nodes tape.old)) (task_job task.entry).keeping
-        → Runs (task_job task.entry) s (commands_view commands.now) is_first (option_copied left) text.new.items out.old.items out.new.items) }
+    ensures { IfOk result (λ left. (s : State)
+        → StandFor (task_job task.entry).keeping (start (nodes_tree (tape_nodes tape.old)) (task_job task.entry).keeping) history.old.items s
+        → Runs (task_job task.entry) s (commands_view commands.now) is_first (option_copied left) history.new.items text.new.items out.old.items out.new.items) }
 {
+    let alloc = *out.allocator();
     match task.form {
         Form::Owned => {
             let mut document = build::<String, DecimalBuf>(alloc, tape)?;
-            run_commands(&mut document, task, commands, is_first, text, out)
+            run_commands(&mut document, task, commands, is_first, history, text, out)
         }
         Form::Borrowed => {
             let mut document = build::<CowStr<'_>, DecimalCow<'_>>(alloc, tape)?;
-            run_commands(&mut document, task, commands, is_first, text, out)
+            run_commands(&mut document, task, commands, is_first, history, text, out)
         }
         Form::Lazy => {
             let mut document = LazyDocument::new(tape.as_value());
-            run_commands(&mut document, task, commands, is_first, text, out)
+            run_commands(&mut document, task, commands, is_first, history, text, out)
         }
     }
 }
@@ -260,18 +281,19 @@ fn run_commands<'s, T: Document>(
     task: Task<'_>,
     commands: &'s [Command],
     is_first: bool,
+    history: &mut Vec<Inverse>,
     text: &mut Vec<u8>,
     out: &mut Vec<u8>,
 ) -> Result<Option<&'s [Command]>, AllocError>
     requires { T.keeping ≡ (task_job task).keeping }
-    ensures { IfOk result (λ left. (s : State) → s.tree ≡ T.tree document.old
-        → Runs (task_job task.entry) s (commands_view commands.now) is_first (option_copied left) text.new.items out.old.items out.new.items) }
+    ensures { IfOk result (λ left. (s : State) → StandFor T.keeping (T.tree document.old) history.old.items s
+        → Runs (task_job task.entry) s (commands_view commands.now) is_first (option_copied left) history.new.items text.new.items out.old.items out.new.items) }
 {
     let mut left = commands;
     let mut is_next_first = is_first;
     while let Some((command, behind)) = left.split_first() {
         put_separator(is_next_first, out)?;
-        let is_read_again = run_command(document, command, task.depth, text, out)?;
+        let is_read_again = run_command(document, history, command, task.depth, text, out)?;
         left = behind;
         is_next_first = false;
         if is_read_again {
@@ -287,12 +309,14 @@ fn run_commands<'s, T: Document>(
 /// Runs one command, and appends its reply. Returns `true` for a reload whose text can be read. The text is in `text` then.
 fn run_command<T: Document>(
     document: &mut T,
+    history: &mut Vec<Inverse>,
     command: &Command,
     depth: usize,
     text: &mut Vec<u8>,
     out: &mut Vec<u8>,
 ) -> Result<bool, AllocError>
-    ensures step { OnOk result (IsStep T.keeping depth (T.tree document.old) (T.tree document.new) out.old.items out.new.items (command_view command.now)) }
+    ensures applied { OnOk result ((s : State) → StandFor T.keeping (T.tree document.old) history.old.items s
+        → Applied T.keeping depth s (command_view command.now) out.old.items out.new.items (T.tree document.new) history.new.items) }
     ensures printed { IfOk result (λ is_readable. is_readable ≡ true → IsPrinted (T.tree document.new) text.new.items) }
 {
     match command {
@@ -307,7 +331,7 @@ fn run_command<T: Document>(
             put_reload(text, out)
         }
         _ => {
-            put_reply(document, command, depth, out)?;
+            apply(document, history, command, depth, out)?;
             Ok(false)
         }
     }
@@ -319,34 +343,8 @@ fn put_reload(text: &[u8], out: &mut Vec<u8>) -> Result<bool, AllocError>
     ensures replies { OnOk result (out.new.items ≡ out.old.items ++ text_of (reload_reply text.now)) }
 {
     let is_readable = text.len() <= u32::MAX as usize;
-    let reply: &[u8] = if is_readable { b"true" } else { b"false" };
-    out.extend_from_slice(reply)?;
+    put_bool(is_readable, out)?;
     Ok(is_readable)
-}
-
-/// Runs one command that is no reload, and appends its reply.
-fn put_reply<T: Document>(
-    document: &mut T,
-    command: &Command,
-    depth: usize,
-    out: &mut Vec<u8>,
-) -> Result<(), AllocError>
-    requires { is_reload (command_view command.now) ≡ false }
-    ensures { OnOk result (IsStep T.keeping depth (T.tree document.old) (T.tree document.new) out.old.items out.new.items (command_view command.now)) }
-{
-    match command {
-        Command::Get(path) => document.get(path, out),
-        Command::Contains(path, key) => document.contains(path, key, out),
-        Command::TypeOf(path) => document.type_of(path, out),
-        Command::Len(path) => document.len(path, out),
-        Command::Keys(path) => document.keys(path, out),
-        Command::Insert(path, key, value) => document.insert(path, key, value, depth, out),
-        Command::Remove(path, key) => document.remove(path, key, out),
-        Command::Push(path, value) => document.push(path, value, depth, out),
-        Command::Pop(path) => document.pop(path, out),
-        Command::SetAt(path, value) => document.set_at(path, value, depth, out),
-        Command::Reload | Command::ReloadPp => unreachable!(),
-    }
 }
 
 fn put_fault_record(fault: Error, out: &mut Vec<u8>) -> Result<(), AllocError>

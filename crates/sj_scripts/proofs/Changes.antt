@@ -34,7 +34,7 @@ an_object (decimal literal) ms e = absurd (none-some ms e)
 an_object (string s) ms e = absurd (none-some ms e)
 an_object (list ts) ms e = absurd (none-some ms e)
 
-a_list : (t : Tree) (ts : Items) → items_in t ≡ Some ts → t ≡ list ts
+pub a_list : (t : Tree) (ts : Items) → items_in t ≡ Some ts → t ≡ list ts
 a_list (list us) ts e = ap list (same_Some us ts e)
 a_list null ts e = absurd (none-some ts e)
 a_list (boolean b) ts e = absurd (none-some ts e)

@@ -7,4 +7,8 @@ pub mod KeptValues
 pub mod KeptTrees
 pub mod Changes
 pub mod KeptChanges
+pub mod MadeChanges
+pub mod BackEdits
+pub mod Paths
+pub mod Writing
 pub mod LazyWrites

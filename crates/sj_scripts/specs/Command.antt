@@ -19,6 +19,7 @@ pub data Step : Type 0 where
   push : List Part → Tree → Step
   pop : List Part → Step
   set_at : List Part → Tree → Step
+  undo : Step
   reload : Step
   reload_pp : Step
 
@@ -89,6 +90,7 @@ named name arguments =
     if bytes_eq name (codes "push") then (path_and_value arguments >>= λ a. Ok (push a.0 a.1)) else
     if bytes_eq name (codes "pop") then (path_alone arguments >>= λ path. Ok (pop path)) else
     if bytes_eq name (codes "set") then (path_and_value arguments >>= λ a. Ok (set_at a.0 a.1)) else
+    if bytes_eq name (codes "undo") then nullary undo arguments else
     if bytes_eq name (codes "reload") then nullary reload arguments else
     if bytes_eq name (codes "reload_pp") then nullary reload_pp arguments else
     Err UnknownName

@@ -8,7 +8,7 @@ use Rattle.sj_base.specs.Path.{key, place}
 use Rattle.sj_base.specs.Number.{signed}
 use Rattle.sj_base.specs.declared.error.ErrorType.TheVariants.{Syntax}
 use Rattle.sj_scripts.specs.declared.script.CommandFault.TheVariants.{NotAnArray, NoName, UnknownName, WrongCount, BadPath, BadKey}
-use Rattle.sj_scripts.specs.Command.{get, contains, type_of, len, keys, insert, remove, push, pop, set_at, reload, reload_pp, json, command, not_an_array, commands_of}
+use Rattle.sj_scripts.specs.Command.{get, contains, type_of, len, keys, insert, remove, push, pop, set_at, undo, reload, reload_pp, json, command, not_an_array, commands_of}
 use Rattle.sj_scripts.specs.Step.{fits, fits_below}
 use Rattle.sj_parse.specs.Fault.{generic}
 use Rattle.sj_scripts.specs.Inverse.{nothing, drop_member, set_member, put_member, drop_item, add_item, set_part, place_in, back}
@@ -140,8 +140,14 @@ reload_pp_read = refl
 reload_with_argument : commands_of (script_of (codes "reload") (one empty_list)) ≡ Err (command 0 WrongCount)
 reload_with_argument = refl
 
-no_undo : commands_of (script_of (codes "undo") no_items) ≡ Err (command 0 UnknownName)
-no_undo = refl
+undo_read : commands_of (script_of (codes "undo") no_items) ≡ Ok (undo ∷ [])
+undo_read = refl
+
+undo_with_argument : commands_of (script_of (codes "undo") (one empty_list)) ≡ Err (command 0 WrongCount)
+undo_with_argument = refl
+
+no_redo : commands_of (script_of (codes "redo") no_items) ≡ Err (command 0 UnknownName)
+no_redo = refl
 
 -- a script that is no document
 

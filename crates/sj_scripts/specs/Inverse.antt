@@ -62,3 +62,17 @@ popping_back (Some found) = add_item found
 abbrev pub setting_back : Option Tree → Change
 setting_back None = nothing
 setting_back (Some found) = set_part found
+
+-- the value that the reply to the write shows
+abbrev pub found_of : Change → Option Tree
+found_of nothing = None
+found_of (drop_member k) = None
+found_of (set_member k t) = Some t
+found_of (put_member place k t) = Some t
+found_of drop_item = None
+found_of (add_item t) = Some t
+found_of (set_part t) = Some t
+
+-- the place of the key k in the part that a path selects, and 0 where it selects nothing
+abbrev pub place_at : Tree → List Part → List ℕ → ℕ
+place_at t path k = unwrap_or (option_map (λ part. place_in part k) (at t path)) 0

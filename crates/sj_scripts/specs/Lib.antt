@@ -5,5 +5,6 @@ pub mod Reading
 pub mod Script
 pub mod Steps
 pub mod Inverse
+pub mod Inverses
 pub mod Examples
 pub mod inside

@@ -1,21 +1,18 @@
 -- What the values of the program stand for: the commands of a script, and a script's fault.
-use Rattle.std.specs.Prelude.{◌≡◌, ◌⊎◌, ℕ, List, [], map, ◌++◌, codes, decimal, Result, Ok, Err, ⊤}
+use Rattle.std.specs.Prelude.{ℕ, List, map, ◌++◌, codes, decimal, Result, Ok, Err, ⊤}
 use Rattle.std.specs.String.{string_bytes}
-use Rattle.sj_base.specs.Tree.{Tree}
 use Rattle.sj_base.specs.Path.{Part, key, place}
 use Rattle.sj_base.specs.Names.{name_of}
-use Rattle.sj_base.specs.Text.{text}
 use Rattle.sj_scripts.specs.declared.path.PathPart.{PathPart}
 use Rattle.sj_scripts.specs.declared.path.PathPart.TheVariants.{Key, Item}
 use Rattle.sj_scripts.specs.declared.script.Command.{Command}
-use Rattle.sj_scripts.specs.declared.script.Command.TheVariants.{Get, Contains, TypeOf, Len, Keys, Insert, Remove, Push, Pop, SetAt, Reload, ReloadPp}
+use Rattle.sj_scripts.specs.declared.script.Command.TheVariants.{Get, Contains, TypeOf, Len, Keys, Insert, Remove, Push, Pop, SetAt, Undo, Reload, ReloadPp}
 use Rattle.sj_scripts.specs.declared.script.CommandFault.{CommandFault}
 use Rattle.sj_scripts.specs.declared.script.CommandFault.TheVariants as faults
 use Rattle.sj_scripts.specs.declared.script.ScriptFault.{ScriptFault}
 use Rattle.sj_scripts.specs.declared.script.ScriptFault.TheVariants.{Json, NotAnArray, Command as CommandAt, Memory}
 use Rattle.sj_scripts.specs.Values.{owned_tree}
-use Rattle.sj_scripts.specs.Command.{Step, get, contains, type_of, len, keys, insert, remove, push, pop, set_at, reload, reload_pp, Refusal, json, not_an_array, command, commands_of}
-use Rattle.sj_scripts.specs.Step.{Keeping, base, Rewrite, settled, write_at}
+use Rattle.sj_scripts.specs.Command.{Step, get, contains, type_of, len, keys, insert, remove, push, pop, set_at, undo, reload, reload_pp, Refusal, json, not_an_array, command, commands_of}
 use Rattle.sj_scripts.specs.Reading.{ComesOf}
 
 abbrev pub part_view : PathPart → Part
@@ -36,6 +33,7 @@ command_view (Remove path k) = remove (path_view path.items) (string_bytes k)
 command_view (Push path v) = push (path_view path.items) (owned_tree v.value)
 command_view (Pop path) = pop (path_view path.items)
 command_view (SetAt path v) = set_at (path_view path.items) (owned_tree v.value)
+command_view Undo = undo
 command_view Reload = reload
 command_view ReloadPp = reload_pp
 
@@ -60,16 +58,6 @@ IsRefusedAs (Json e) bytes = IsReadAs bytes (Err (json e))
 IsRefusedAs NotAnArray bytes = IsReadAs bytes (Err not_an_array)
 IsRefusedAs (CommandAt index fault) bytes = IsReadAs bytes (Err (command index fault))
 IsRefusedAs Memory bytes = ⊤
-
--- What a write leaves of the vector and of the tree t of the document: the reply is appended, and the tree is that after the
--- write. On an error the vector is as it was, and the tree is t, the base of the write, or that after it.
-abbrev pub Settles : {E : Type 0} → Result Unit E → List ℕ → List ℕ → Keeping → Tree → Tree → List Part → Rewrite → Type 0
-Settles (Ok done) old new keeping t u path change =
-    let w = settled (base t keeping) [] (write_at (base t keeping) path change) in
-    (new ≡ old ++ text w.0) × (u ≡ w.1.tree)
-Settles (Err e) old new keeping t u path change =
-    let w = settled (base t keeping) [] (write_at (base t keeping) path change) in
-    (new ≡ old) × ((u ≡ t) ⊎ (u ≡ base t keeping) ⊎ (u ≡ w.1.tree))
 
 -- the texts of faults
 

@@ -1,5 +1,5 @@
 -- What a command does: its reply, the tree, and the new state.
-use Rattle.std.specs.Prelude.{ℕ, pos, ◌+◌, nat_le, Bool, if◌then◌else◌, List, [], ◌∷◌, length, Option, Some, None, is_some, ok_or, Result, Ok, Err, codes}
+use Rattle.std.specs.Prelude.{ℕ, pos, ◌+◌, nat_le, Bool, true, false, if◌then◌else◌, List, [], ◌∷◌, length, Option, Some, None, is_some, ok_or, Result, Ok, Err, codes}
 use Rattle.sj_base.specs.Tree.{Tree, null, boolean, integer, decimal, string, list, object, Items, no_items, item, Members, no_members, member, depth}
 use Rattle.sj_base.specs.Keep.{keep}
 use Rattle.sj_base.specs.Path.{Part, key, member_at, child, at, put}
@@ -7,7 +7,7 @@ use Rattle.sj_base.specs.Containers.{items_len, members_len, items_in, members_i
 use Rattle.sj_base.specs.Edit.{put_member, drop_member, push_item, last_item, pop_item}
 use Rattle.sj_base.specs.Spelling.{longest}
 use Rattle.sj_base.specs.Text.{text, pretty}
-use Rattle.sj_scripts.specs.Command.{Step, get, contains, type_of, len, keys, insert, remove, push, pop, set_at, reload, reload_pp, ◌>>=◌}
+use Rattle.sj_scripts.specs.Command.{Step, get, contains, type_of, len, keys, insert, remove, push, pop, set_at, undo, reload, reload_pp, ◌>>=◌}
 
 -- From when on a document keeps only the first of members with equal keys: from its start, or from the first write
 -- command on, also where that is refused.
@@ -138,6 +138,12 @@ settled t bases (Err word) = (string word, record { tree = t; bases = bases })
 abbrev pub rewritten : Job → State → List Part → Rewrite → Tree × State
 rewritten job s path change = let t = base s.tree job.keeping in settled t s.bases (write_at t path change)
 
+-- ---- taking back: the newest base is the tree again, if there is one
+
+abbrev pub undone : Tree → List Tree → Tree × State
+undone t [] = (boolean false, record { tree = t; bases = [] })
+undone t (b ∷ bs) = (boolean true, record { tree = b; bases = bs })
+
 -- ---- reloads: whether the text of the document isn't too long to be read again
 
 abbrev pub reload_reply : List ℕ → Tree
@@ -155,6 +161,7 @@ step job s (remove path k) = rewritten job s path (removal k)
 step job s (push path v) = rewritten job s path (pushing (fits_below path v job.limit) v)
 step job s (pop path) = rewritten job s path popping
 step job s (set_at path v) = rewritten job s path (setting (fits path v job.limit) v)
+step job s undo = undone s.tree s.bases
 step job s reload = (reload_reply (text s.tree), s)
 step job s reload_pp = (reload_reply (pretty s.tree), s)
 

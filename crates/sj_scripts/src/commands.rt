@@ -194,6 +194,7 @@ fn read_named_command(
             let (path, value) = read_path_and_value(alloc, arguments)?;
             Ok(Command::SetAt(path, value))
         }
+        "undo" => read_nullary(Command::Undo, &arguments),
         "reload" => read_nullary(Command::Reload, &arguments),
         "reload_pp" => read_nullary(Command::ReloadPp, &arguments),
         _ => Err(ReadError::Refused(CommandFault::UnknownName)),

@@ -1,67 +1,84 @@
 //! Edits of the part of a document that a path selects.
-ghost use Rattle.std.specs.Prelude.{◌≡◌, ◌+◌, nat_le, length, IfOk};
+ghost use Rattle.std.specs.Prelude.{◌≡◌, ◌+◌, nat_le, length, not, ◌&&◌, is_some, option_map, IfOk};
 ghost use Rattle.sj_owned.specs.Views.{value_tree};
+ghost use Rattle.std.specs.String.{string_bytes};
+ghost use Rattle.sj_scripts.specs.Inverse.{set_member, put_member, add_item};
+ghost use Rattle.sj_scripts.specs.Inverses.{change_view};
 ghost use Rattle.sj_scripts.specs.Script.{path_view};
 ghost use Rattle.sj_scripts.specs.Step.{write_at, insertion, pushing};
 ghost use Rattle.sj_scripts.specs.Values.{owned_tree};
-ghost use Rattle.sj_scripts.specs.inside.Documents.{change_of, IsEdited};
+ghost use Rattle.sj_scripts.specs.inside.Documents.{rewrite_of, undoing, change_of, back_of, is_taken, IsEdited, IsChanged};
+ghost use Rattle.sj_object.specs.Pairs.{value_at};
 
+use crate::inverse::Change;
 use crate::path::PathPart;
 use crate::read_error::ReadError;
 use crate::refusal::Refusal;
-use sj_base::{DecimalBuf, DecimalCow, TryCopy};
-use sj_object::ObjectKey;
-use sj_owned::{Literal, OwnedValue, Value};
+use sj_base::{AccessError, DecimalBuf, DecimalCow, TryCopy};
+use sj_object::{Object, ObjectKey};
+use sj_owned::{FromString, Literal, OwnedValue, Value, from_borrowed};
 use std::alloc::{AllocError, Global};
 use std::borrow::CowStr;
 use std::mem;
 
-/// A type of texts for documents that can be made from the values of scripts, with `D` as type of literals.
-pub trait ScriptText<D: Literal>: ObjectKey + Sized {
-    /// Copies a key.
+/// A type of texts for documents whose values are made from owned ones, and owned ones from them, with `D` as type of
+/// literals.
+pub trait ScriptText<D: Literal>: FromString {
+    /// Converts a value that owns its texts. These are moved.
     ///
     /// # Errors
     ///
-    /// `AllocError` if there is no memory for the copy.
-    fn copy_key(alloc: Global, key: &str) -> Result<Self, AllocError>
-        ensures { IfOk result (λ k. Self.text k ≡ key.now) };
+    /// `AllocError` if there is no memory for the new value. The old one is dropped.
+    fn from_owned(alloc: Global, value: OwnedValue) -> Result<Value<Self, D>, AllocError>
+        ensures { IfOk result (λ v. value_tree Self.text D.literal v ≡ owned_tree value) };
 
-    /// Copies a value.
+    /// Copies a value as one that owns its texts.
     ///
     /// # Errors
     ///
     /// `AllocError` if there is no memory for the copy.
-    fn copy_value(alloc: Global, value: &OwnedValue) -> Result<Value<Self, D>, AllocError>
-        ensures { IfOk result (λ v. value_tree Self.text D.literal v ≡ owned_tree value.now) };
+    fn to_owned(alloc: Global, value: &Value<Self, D>) -> Result<OwnedValue, AllocError>
+        ensures { IfOk result (λ v. owned_tree v ≡ value_tree Self.text D.literal value.now) };
 }
 
 impl ScriptText<DecimalBuf> for String {
-    fn copy_key(alloc: Global, key: &str) -> Result<String, AllocError> {
-        String::from_str(alloc, key)
+    fn from_owned(_alloc: Global, value: OwnedValue) -> Result<OwnedValue, AllocError> {
+        Ok(value)
     }
 
-    fn copy_value(_alloc: Global, value: &OwnedValue) -> Result<OwnedValue, AllocError> {
+    fn to_owned(_alloc: Global, value: &OwnedValue) -> Result<OwnedValue, AllocError> {
         value.try_clone()
     }
 }
 
 impl<'v> ScriptText<DecimalCow<'v>> for CowStr<'v> {
-    fn copy_key(alloc: Global, key: &str) -> Result<CowStr<'v>, AllocError> {
-        Ok(CowStr::Owned(String::from_str(alloc, key)?))
+    fn from_owned(
+        alloc: Global,
+        value: OwnedValue,
+    ) -> Result<Value<CowStr<'v>, DecimalCow<'v>>, AllocError> {
+        Value::from_owned(alloc, value)
     }
 
-    fn copy_value(
+    fn to_owned(
         alloc: Global,
-        value: &OwnedValue,
-    ) -> Result<Value<CowStr<'v>, DecimalCow<'v>>, AllocError> {
-        Value::from_owned(alloc, value.try_clone()?)
+        value: &Value<CowStr<'v>, DecimalCow<'v>>,
+    ) -> Result<OwnedValue, AllocError> {
+        from_borrowed(alloc, value.try_clone()?)
     }
 }
 
-/// What is done to the part of a document that a path selects. `fits` is whether the new value is within the limit of
-/// levels there.
-#[derive(Clone, Copy)]
+/// What is done to the part of a document that a path selects.
+#[derive(Drop)]
 pub(crate) enum Edit<'e> {
+    /// The edit of a write command.
+    Write(Write<'e>),
+    /// The change that takes one back. Where it can't be made, it is refused as `NoSuchPath`.
+    Back(Change),
+}
+
+/// The edit of a write command. `fits` is whether the new value is within the limit of levels there.
+#[derive(Clone, Copy)]
+pub(crate) enum Write<'e> {
     Insert {
         key: &'e str,
         value: &'e OwnedValue,
@@ -69,6 +86,8 @@ pub(crate) enum Edit<'e> {
     },
     Remove {
         key: &'e str,
+        /// The place of the key, if it is there.
+        place: usize,
     },
     Push {
         value: &'e OwnedValue,
@@ -79,6 +98,43 @@ pub(crate) enum Edit<'e> {
         value: &'e OwnedValue,
         fits: bool,
     },
+}
+
+impl Write<'_> {
+    /// Returns the change that takes the write back. `found` is the value that it replaced or took out.
+    pub(crate) fn inverse(
+        self,
+        alloc: Global,
+        found: Option<OwnedValue>,
+    ) -> Result<Change, AllocError>
+        ensures { IfOk result (λ change. change_view change ≡ back_of self.entry (option_map owned_tree found)) }
+    {
+        match self {
+            Write::Insert { key, .. } => {
+                let key = String::from_str(alloc, key)?;
+                match found {
+                    Some(value) => Ok(Change::SetMember(key, value)),
+                    None => Ok(Change::DropMember(key)),
+                }
+            }
+            Write::Remove { key, place } => match found {
+                Some(value) => {
+                    let key = String::from_str(alloc, key)?;
+                    Ok(Change::PutMember { place, key, value })
+                }
+                None => Ok(Change::Nothing),
+            },
+            Write::Push { .. } => Ok(Change::DropItem),
+            Write::Pop => match found {
+                Some(value) => Ok(Change::AddItem(value)),
+                None => Ok(Change::Nothing),
+            },
+            Write::Set { .. } => match found {
+                Some(value) => Ok(Change::SetPart(value)),
+                None => Ok(Change::Nothing),
+            },
+        }
+    }
 }
 
 /// Whether a path and levels behind it are together within the limit.
@@ -143,21 +199,41 @@ fn edit_part<K: ScriptText<D> + Drop, D: Literal + Drop>(
         (change_of edit.entry (value_tree K.text D.literal part.old)) }
 {
     match edit {
-        Edit::Insert { key, value, fits } => insert_member(alloc, part, key, value, fits),
-        Edit::Remove { key } => match part.remove(key) {
+        Edit::Write(write) => write_part(alloc, part, write),
+        Edit::Back(change) => {
+            if change_part(alloc, part, change)? {
+                Ok(None)
+            } else {
+                Err(ReadError::Refused(Refusal::NoSuchPath))
+            }
+        }
+    }
+}
+
+fn write_part<K: ScriptText<D> + Drop, D: Literal + Drop>(
+    alloc: Global,
+    part: &mut Value<K, D>,
+    write: Write<'_>,
+) -> Result<Option<Value<K, D>>, ReadError<Refusal>>
+    ensures { IsEdited (value_tree K.text D.literal) result (value_tree K.text D.literal part.old) (value_tree K.text D.literal part.new)
+        (rewrite_of write.entry (value_tree K.text D.literal part.old)) }
+{
+    match write {
+        Write::Insert { key, value, fits } => insert_member(alloc, part, key, value, fits),
+        Write::Remove { key, .. } => match part.remove(key) {
             Ok(old) => Ok(old),
             Err(_) => Err(ReadError::Refused(Refusal::NotAnObject)),
         },
-        Edit::Push { value, fits } => push_last(alloc, part, value, fits),
-        Edit::Pop => match part.pop() {
+        Write::Push { value, fits } => push_last(alloc, part, value, fits),
+        Write::Pop => match part.pop() {
             Ok(last) => Ok(last),
             Err(_) => Err(ReadError::Refused(Refusal::NotAnArray)),
         },
-        Edit::Set { value, fits } => {
+        Write::Set { value, fits } => {
             if !fits {
                 return Err(ReadError::Refused(Refusal::TooDeep));
             }
-            let new = K::copy_value(alloc, value)?;
+            let new = K::from_owned(alloc, value.try_clone()?)?;
             Ok(Some(mem::replace(part, new)))
         }
     }
@@ -179,8 +255,8 @@ fn insert_member<K: ScriptText<D> + Drop, D: Literal + Drop>(
     if !fits {
         return Err(ReadError::Refused(Refusal::TooDeep));
     }
-    let name = K::copy_key(alloc, key)?;
-    let new = K::copy_value(alloc, value)?;
+    let name = K::from_string(String::from_str(alloc, key)?);
+    let new = K::from_owned(alloc, value.try_clone()?)?;
     match part.insert(name, new) {
         Ok(old) => Ok(old),
         Err(_) => Err(ReadError::Memory),
@@ -202,8 +278,113 @@ fn push_last<K: ScriptText<D> + Drop, D: Literal + Drop>(
     if !fits {
         return Err(ReadError::Refused(Refusal::TooDeep));
     }
-    match part.push(K::copy_value(alloc, value)?) {
+    match part.push(K::from_owned(alloc, value.try_clone()?)?) {
         Ok(()) => Ok(None),
         Err(_) => Err(ReadError::Memory),
     }
+}
+
+/// Makes a change of a part, and returns whether it can be made.
+fn change_part<K: ScriptText<D> + Drop, D: Literal + Drop>(
+    alloc: Global,
+    part: &mut Value<K, D>,
+    change: Change,
+) -> Result<bool, AllocError>
+    ensures { IsChanged result (value_tree K.text D.literal part.old) (value_tree K.text D.literal part.new) (change_view change) }
+{
+    match change {
+        Change::Nothing => Ok(true),
+        Change::DropMember(key) => Ok(is_taken(&part.remove(&key))),
+        Change::SetMember(key, value) => set_member(alloc, part, key, value),
+        Change::PutMember { place, key, value } => put_member(alloc, part, place, key, value),
+        Change::DropItem => Ok(is_taken(&part.pop())),
+        Change::AddItem(value) => add_item(alloc, part, value),
+        Change::SetPart(value) => {
+            *part = K::from_owned(alloc, value)?;
+            Ok(true)
+        }
+    }
+}
+
+/// Returns whether a value was taken out.
+fn is_taken<T>(taken: &Result<Option<T>, AccessError>) -> bool
+    ensures { result ≡ is_taken taken.now }
+{
+    matches!(taken, Ok(Some(_)))
+}
+
+fn set_member<K: ScriptText<D> + Drop, D: Literal + Drop>(
+    alloc: Global,
+    part: &mut Value<K, D>,
+    key: String,
+    value: OwnedValue,
+) -> Result<bool, AllocError>
+    ensures { IsChanged result (value_tree K.text D.literal part.old) (value_tree K.text D.literal part.new)
+        (set_member (string_bytes key) (owned_tree value)) }
+{
+    let value = K::from_owned(alloc, value)?;
+    let Some(members) = part.as_object_mut() else {
+        return Ok(false);
+    };
+    match members.get_mut(&key) {
+        Some(member) => {
+            *member = value;
+            Ok(true)
+        }
+        None => Ok(false),
+    }
+}
+
+fn put_member<K: ScriptText<D> + Drop, D: Literal + Drop>(
+    alloc: Global,
+    part: &mut Value<K, D>,
+    place: usize,
+    key: String,
+    value: OwnedValue,
+) -> Result<bool, AllocError>
+    ensures { IsChanged result (value_tree K.text D.literal part.old) (value_tree K.text D.literal part.new)
+        (put_member place (string_bytes key) (owned_tree value)) }
+{
+    let Some(members) = part.as_object_mut() else {
+        return Ok(false);
+    };
+    if !takes_member(members, place, &key) {
+        return Ok(false);
+    }
+    let value = K::from_owned(alloc, value)?;
+    if members
+        .insert_at(place, K::from_string(key), value)
+        .is_err()
+    {
+        return Err(AllocError);
+    }
+    Ok(true)
+}
+
+/// Returns whether a member with this key can be put at a place.
+fn takes_member<K: ObjectKey, D: Literal>(
+    members: &Object<K, Value<K, D>>,
+    place: usize,
+    key: &str,
+) -> bool
+    ensures { result ≡ (not (is_some (value_at K.text members.now key.now)) && nat_le place (length members.now)) }
+{
+    !members.contains_key(key) && place <= members.len()
+}
+
+fn add_item<K: ScriptText<D> + Drop, D: Literal + Drop>(
+    alloc: Global,
+    part: &mut Value<K, D>,
+    value: OwnedValue,
+) -> Result<bool, AllocError>
+    ensures { IsChanged result (value_tree K.text D.literal part.old) (value_tree K.text D.literal part.new)
+        (add_item (owned_tree value)) }
+{
+    if !part.is_array() {
+        return Ok(false);
+    }
+    if part.push(K::from_owned(alloc, value)?).is_err() {
+        return Err(AllocError);
+    }
+    Ok(true)
 }

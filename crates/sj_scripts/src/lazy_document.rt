@@ -10,6 +10,7 @@ ghost use Rattle.sj_scripts.specs.Step.{from_write};
 ghost use Rattle.sj_scripts.specs.inside.LazyDocuments.{RepeatsNoKey};
 
 use crate::document::Document;
+use crate::inverse::Inverse;
 use crate::path::PathPart;
 use crate::reads::{contains_at, find, len_at, put_answer, put_found, put_keys_at, type_at};
 use crate::script_value::ScriptValue;
@@ -100,7 +101,7 @@ impl Document for LazyDocument<'_, '_> {
         value: &ScriptValue,
         depth: usize,
         out: &mut Vec<u8>,
-    ) -> Result<(), AllocError> {
+    ) -> Result<Option<Inverse>, AllocError> {
         let mut document = self.take(*out.allocator())?;
         let written = Document::insert(&mut document, path, key, value, depth, out);
         self.value = LazyValue::from(document);
@@ -112,7 +113,7 @@ impl Document for LazyDocument<'_, '_> {
         path: &[PathPart],
         key: &str,
         out: &mut Vec<u8>,
-    ) -> Result<(), AllocError> {
+    ) -> Result<Option<Inverse>, AllocError> {
         let mut document = self.take(*out.allocator())?;
         let written = Document::remove(&mut document, path, key, out);
         self.value = LazyValue::from(document);
@@ -125,14 +126,14 @@ impl Document for LazyDocument<'_, '_> {
         value: &ScriptValue,
         depth: usize,
         out: &mut Vec<u8>,
-    ) -> Result<(), AllocError> {
+    ) -> Result<Option<Inverse>, AllocError> {
         let mut document = self.take(*out.allocator())?;
         let written = Document::push(&mut document, path, value, depth, out);
         self.value = LazyValue::from(document);
         written
     }
 
-    fn pop(&mut self, path: &[PathPart], out: &mut Vec<u8>) -> Result<(), AllocError> {
+    fn pop(&mut self, path: &[PathPart], out: &mut Vec<u8>) -> Result<Option<Inverse>, AllocError> {
         let mut document = self.take(*out.allocator())?;
         let written = Document::pop(&mut document, path, out);
         self.value = LazyValue::from(document);
@@ -145,11 +146,20 @@ impl Document for LazyDocument<'_, '_> {
         value: &ScriptValue,
         depth: usize,
         out: &mut Vec<u8>,
-    ) -> Result<(), AllocError> {
+    ) -> Result<Option<Inverse>, AllocError> {
         let mut document = self.take(*out.allocator())?;
         let written = Document::set_at(&mut document, path, value, depth, out);
         self.value = LazyValue::from(document);
         written
+    }
+
+    fn take_back(&mut self, alloc: Global, inverse: Inverse) -> Result<bool, AllocError> {
+        // The document that is put back has to be known to repeat no key.
+        inverse.change.walk()?;
+        let mut document = self.take(alloc)?;
+        let taken = Document::take_back(&mut document, alloc, inverse);
+        self.value = LazyValue::from(document);
+        taken
     }
 
     fn text(&self, out: &mut Vec<u8>) -> Result<(), AllocError> {

@@ -15,7 +15,7 @@ use std::alloc::{AllocError, AllocFailed, Global};
 
 /// One command of a script.
 ///
-/// All but `Get` and the reloads reply `"NoSuchPath"` if the path selects nothing. `Insert`, `Remove`, `Push`, `Pop` and
+/// All but `Get`, `Undo` and the reloads reply `"NoSuchPath"` if the path selects nothing. `Insert`, `Remove`, `Push`, `Pop` and
 /// `SetAt` are the write commands.
 #[derive(Debug, Drop)]
 pub enum Command {
@@ -40,6 +40,9 @@ pub enum Command {
     Pop(Vec<PathPart>),
     /// Replaces the value that the path selects. Replies with an array of the old value, or else `"TooDeep"`.
     SetAt(Vec<PathPart>, ScriptValue),
+    /// Takes back the newest write that was not refused and is not taken back yet. Replies with `true`, or with `false` if there
+    /// is none.
+    Undo,
     /// Prints the document as compact text, and reads that text in its place. The document stays the same. Replies with
     /// `true`, or with `false` if the text has more than `u32::MAX` bytes; such a text is not read.
     Reload,

@@ -54,8 +54,9 @@ fn one_more(levels: usize) -> Result<usize, AllocError>
     levels.checked_add(1).ok_or(AllocError)
 }
 
+/// Returns the number of levels that the value nests. That no object in it repeats a key is known then.
 #[cycle(count_levels)]
-fn count_levels(value: &OwnedValue) -> Result<usize, AllocError>
+pub(crate) fn count_levels(value: &OwnedValue) -> Result<usize, AllocError>
     ensures levels { IfOk result (λ n. n ≡ depth (owned_tree value.now)) }
     ensures kept { OnOk result (IsKept (owned_tree value.now)) }
 {

@@ -113,6 +113,7 @@ const EXAMPLES: [(&str, &str, &str); 12] = [
         r#"["x"]"#,
         r#"{"a":[1,2],"b":null}"#,
     ),
+    (r#"["undo"]"#, r#"false"#, r#"{"a":[1,2],"b":"x"}"#),
     (r#"["reload"]"#, r#"true"#, r#"{"a":[1,2],"b":"x"}"#),
     (r#"["reload_pp"]"#, r#"true"#, r#"{"a":[1,2],"b":"x"}"#),
 ];

@@ -199,7 +199,7 @@ fn forty_equal_hashes(rt: HostRuntime) -> Result<(), Fail> {
     check_reloads(&rt, alloc, script, &line, LIMIT, &record)
 }
 
-// A write call appends its reply, or on want of memory nothing. Then the document is as it was or as the write leaves it.
+// A write call appends its reply and hands out an inverse, or on want of memory appends nothing. Then the document is as it was or as the write leaves it.
 #[test]
 fn write_call(rt: HostRuntime) -> Result<(), Fail> {
     let alloc = rt.alloc();
@@ -218,8 +218,8 @@ fn write_call(rt: HostRuntime) -> Result<(), Fail> {
     Document::text(&document, &mut shown)?;
     let is_new = shown.as_slice() == br#"{"a":{"k":["new"]}}"#.as_slice();
     match done {
-        Ok(()) => {
-            assert!(rt; is_new);
+        Ok(inverse) => {
+            assert!(rt; is_new && inverse.is_some());
             assert_eq!(rt; out.as_slice(), br#"> ["old"]"#.as_slice());
         }
         Err(AllocError) => {

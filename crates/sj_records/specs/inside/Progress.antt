@@ -1,15 +1,12 @@
--- What has been written of the lines that were cut so far, and by one command.
-use Rattle.std.specs.Prelude.{◌≡◌, ◌≢◌, ℕ, List, ◌++◌, [], take, Option, Result, Ok, Err}
+-- What has been written of the lines that were cut so far.
+use Rattle.std.specs.Prelude.{◌≢◌, ℕ, List, ◌++◌, take, Option, Result, Ok, Err}
 use Rattle.std.specs.List.{AllByRecursion}
 use Rattle.std.specs.Io.KnownBytes.{Appends}
 use Rattle.sj_base.specs.Output.{AppendsPrefix}
-use Rattle.sj_base.specs.Tree.{Tree}
 use Rattle.sj_records.specs.declared.run_error.RunError.{RunError}
 use Rattle.sj_records.specs.declared.run_error.RunError.TheVariants.{Memory, Write}
 use Rattle.sj_records.specs.declared.task.Task.{Task}
-use Rattle.sj_scripts.specs.Step.{Job, Keeping, State, step}
-use Rattle.sj_scripts.specs.Command.{Step}
-use Rattle.sj_base.specs.Text.{text}
+use Rattle.sj_scripts.specs.Step.{Job}
 use Rattle.sj_records.specs.Record.{AreRecords}
 use Rattle.sj_records.specs.Job.{job_of}
 
@@ -43,13 +40,3 @@ abbrev pub LeavesBytes : Result Unit RunError → Option (List ℕ) → Option (
 LeavesBytes (Ok done) old new bytes = Appends old new bytes
 LeavesBytes (Err Write) old new bytes = AppendsPrefix old new bytes
 LeavesBytes (Err _) old new bytes = ⊥
-
--- a state in which no write can be taken back
-abbrev pub without_bases : Tree → State
-without_bases t = record { tree = t; bases = [] }
-
--- The reply to a command on the tree t was appended, and u is the tree after it.
-abbrev pub IsStep : Keeping → ℕ → Tree → Tree → List ℕ → List ℕ → Step → Type 0
-IsStep keeping limit t u old new c =
-    let s = step (record { script = []; limit = limit; keeping = keeping }) (without_bases t) c in
-    (new ≡ old ++ text s.0) × (u ≡ s.1.tree)

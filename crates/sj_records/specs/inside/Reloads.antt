@@ -1,13 +1,15 @@
 -- What stands of a record where the commands of a script have been run up to a reload, or to the end.
-use Rattle.std.specs.Prelude.{◌≡◌, ◌⊎◌, ℕ, ◌<◌, ◌≤◌, Bool, true, false, List, [], ◌∷◌, ◌++◌, length, Option, Some, None, codes}
+use Rattle.std.specs.Prelude.{◌≡◌, ◌⊎◌, ℕ, ◌<◌, ◌≤◌, Bool, false, List, [], ◌∷◌, ◌++◌, length, Option, Some, None, codes}
 use Rattle.sj_base.specs.Spelling.{longest}
 use Rattle.sj_base.specs.Text.{text, pretty}
 use Rattle.sj_base.specs.Tree.{Tree, IsValidTree, depth}
 use Rattle.sj_scripts.specs.declared.script.Command.{Command}
-use Rattle.sj_scripts.specs.Command.{Step, reload, reload_pp}
+use Rattle.sj_scripts.specs.Command.{Step}
 use Rattle.sj_scripts.specs.Step.{Job, State, replies, after}
 use Rattle.sj_scripts.specs.Script.{commands_view}
+use Rattle.sj_scripts.specs.declared.inverse.Inverse.{Inverse}
 use Rattle.sj_scripts.specs.inside.Documents.{items_left}
+use Rattle.sj_records.specs.History.{StandFor}
 
 -- the text of a record from the replies to these commands on, which run from the state s. `is_first`: their first reply is the
 -- first of the record
@@ -23,20 +25,16 @@ abbrev pub IsPrinted : Tree → List ℕ → Type 0
 IsPrinted t bytes = ((bytes ≡ text t) ⊎ (bytes ≡ pretty t)) × (length bytes ≤ longest)
 
 -- Some of the commands cs were run from the state s on, and `left` are left. The replies were appended, and the tree that was
--- reached was printed. (That fewer are left shows that a loop ends.)
-pub record Reloads (job : Job) (s : State) (cs left : List Step) (is_first : Bool) (printed old new : List ℕ) : Type 0 where
+-- reached was printed. It stands for the state, with the history. (That fewer are left shows that a loop ends.)
+pub record Reloads (job : Job) (s : State) (cs left : List Step) (is_first : Bool) (history : List Inverse) (printed old new : List ℕ) : Type 0 where
   pub ran : List Step
   pub parts : cs ≡ ran ++ left
   pub fewer : length left < length cs
   pub is_printed : IsPrinted (after job s ran).tree printed
+  pub stands : StandFor job.keeping (after job s ran).tree history (after job s ran)
   pub written : new ++ record_from job (after job s ran) left false ≡ old ++ record_from job s cs is_first
 
 -- What was run, by the commands that are left: all of them, and the record was ended; or some of them.
-abbrev pub Runs : Job → State → List Step → Bool → Option (List Command) → List ℕ → List ℕ → List ℕ → Type 0
-Runs job s cs is_first None printed old new = new ≡ old ++ record_from job s cs is_first
-Runs job s cs is_first (Some left) printed old new = Reloads job s cs (commands_view left) is_first printed old new
-
-abbrev pub is_reload : Step → Bool
-is_reload reload = true
-is_reload reload_pp = true
-is_reload _ = false
+abbrev pub Runs : Job → State → List Step → Bool → Option (List Command) → List Inverse → List ℕ → List ℕ → List ℕ → Type 0
+Runs job s cs is_first None history printed old new = new ≡ old ++ record_from job s cs is_first
+Runs job s cs is_first (Some left) history printed old new = Reloads job s cs (commands_view left) is_first history printed old new

@@ -1,20 +1,25 @@
 -- The edits of documents, what is appended of them, and how the elements of an array are kept apart in its text.
-use Rattle.std.specs.Prelude.{◌≡◌, ℕ, Bool, true, false, List, [], ◌∷◌, Option, Some, None, option_map, Result, Ok, Err, IsErr, codes, ◌++◌}
+use Rattle.std.specs.Prelude.{◌≡◌, ℕ, Bool, true, false, List, [], ◌∷◌, Option, Some, None, option_map, ok_or, is_some, Result, Ok, Err, codes, ◌++◌}
+use Rattle.std.specs.Option.{unwrap_or}
 use Rattle.std.specs.Io.{StartsWith}
 use Rattle.sj_base.specs.Containers.{members_in}
 use Rattle.sj_base.specs.Tree.{Tree, Items, Members, string, list}
 use Rattle.sj_base.specs.Scalar.{scalar_tree}
 use Rattle.sj_base.specs.declared.scalar.Scalar.{Scalar}
 use Rattle.sj_scripts.specs.declared.edit.Edit.{Edit}
-use Rattle.sj_scripts.specs.declared.edit.Edit.TheVariants.{Insert, Remove, Push, Pop, Set}
+use Rattle.sj_scripts.specs.declared.edit.Edit.TheVariants.{Write as WriteEdit, Back}
+use Rattle.sj_scripts.specs.declared.edit.Write.{Write}
+use Rattle.sj_scripts.specs.declared.edit.Write.TheVariants.{Insert, Remove, Push, Pop, Set}
 use Rattle.sj_scripts.specs.declared.refusal.Refusal.{Refusal}
 use Rattle.sj_scripts.specs.declared.refusal.Refusal.TheVariants.{NoSuchPath, NotAnObject, NotAnArray, NotAContainer, TooDeep}
 use Rattle.sj_scripts.specs.declared.read_error.ReadError.{ReadError}
 use Rattle.sj_scripts.specs.declared.read_error.ReadError.TheVariants.{Memory, Refused}
 use Rattle.std.specs.declared.alloc.AllocError.{AllocError}
+use Rattle.sj_base.specs.declared.fault.AccessError.{AccessError}
 use Rattle.sj_base.specs.Text.{text, items_text, more_items_text}
 use Rattle.sj_scripts.specs.Values.{owned_tree}
-use Rattle.sj_base.specs.Output.{AppendsOrLeaves}
+use Rattle.sj_scripts.specs.Inverse.{Change, drop_item, changed, insertion_back, removal_back, popping_back, setting_back}
+use Rattle.sj_scripts.specs.Inverses.{change_view}
 use Rattle.sj_scripts.specs.Step.{Word, Rewrite, reply_of, insertion, removal, pushing, popping, setting, key_items}
 
 -- what stands before an element that is the first or another
@@ -50,13 +55,39 @@ abbrev pub reply_view : Result Scalar Refusal → Tree
 reply_view (Ok s) = scalar_tree s
 reply_view (Err why) = string (refusal_name why)
 
--- the change that an edit makes of a part
+-- the rewrite of a write, and the change that takes it back, by the value that it found
+abbrev pub rewrite_of : Write → Rewrite
+rewrite_of (Insert k v fits) = insertion fits k.now (owned_tree v.now)
+rewrite_of (Remove k place) = removal k.now
+rewrite_of (Push v fits) = pushing fits (owned_tree v.now)
+rewrite_of Pop = popping
+rewrite_of (Set v fits) = setting fits (owned_tree v.now)
+
+abbrev pub back_of : Write → Option Tree → Change
+back_of (Insert k v fits) found = insertion_back k.now found
+back_of (Remove k place) found = removal_back place k.now found
+back_of (Push v fits) found = drop_item
+back_of Pop found = popping_back found
+back_of (Set v fits) found = setting_back found
+
+-- A change as a rewrite that finds nothing. Any word would do where it can't be made.
+abbrev pub undoing : Change → Rewrite
+undoing change part = ok_or (option_map (λ t. (reply_of None, t)) (changed change part)) (codes "NoSuchPath")
+
+-- the rewrite of an edit
 abbrev pub change_of : Edit → Rewrite
-change_of (Insert k v fits) = insertion fits k.now (owned_tree v.now)
-change_of (Remove k) = removal k.now
-change_of (Push v fits) = pushing fits (owned_tree v.now)
-change_of Pop = popping
-change_of (Set v fits) = setting fits (owned_tree v.now)
+change_of (WriteEdit write) = rewrite_of write
+change_of (Back change) = undoing (change_view change)
+
+-- whether an edit took a value out
+abbrev pub is_taken : {A : Type 0} → Result (Option A) AccessError → Bool
+is_taken (Ok found) = is_some found
+is_taken (Err e) = false
+
+-- What a change leaves of the tree t: whether it can be made, and the tree after it. Want of memory leaves t.
+abbrev pub IsChanged : {E : Type 0} → Result Bool E → Tree → Tree → Change → Type 0
+IsChanged (Ok is_made) t u change = (is_made ≡ is_some (changed change t)) × (u ≡ unwrap_or (changed change t) t)
+IsChanged (Err e) t u change = u ≡ t
 
 -- What an edit of the tree t leaves: what it replaced or took out and the new tree, or a refusal and the old tree. Want of
 -- memory leaves the old tree.
@@ -64,12 +95,6 @@ abbrev pub IsEdited : {V : Type 0} → (V → Tree) → Result (Option V) (ReadE
 IsEdited tree (Ok found) t u w = w ≡ Ok (reply_of (option_map tree found), u)
 IsEdited tree (Err (Refused why)) t u w = (w ≡ Err (refusal_name why)) × (u ≡ t)
 IsEdited tree (Err Memory) t u w = u ≡ t
-
--- What is appended of an edit: what it replaced or took out, or its refusal. On an error nothing is appended.
-abbrev pub ShowsEdit : {V : Type 0} → (V → Tree) → Result (Option V) (ReadError Refusal) → Result Unit AllocError → List ℕ → List ℕ → Type 0
-ShowsEdit tree (Ok found) r old new = AppendsOrLeaves r old new (text (reply_of (option_map tree found)))
-ShowsEdit tree (Err (Refused why)) r old new = AppendsOrLeaves r old new (text (string (refusal_name why)))
-ShowsEdit tree (Err Memory) r old new = IsErr r × (new ≡ old)
 
 -- What is appended of an object's keys: an array of them, or a part of it before an error. Of another tree nothing is.
 abbrev pub PutsKeys : Tree → Option (Result Unit AllocError) → List ℕ → List ℕ → Type 0

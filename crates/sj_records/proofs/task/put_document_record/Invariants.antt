@@ -13,7 +13,7 @@ use Rattle.sj_records.proofs.task.put_document_record.Given as goal
 abbrev pub invariant-loop-left : goal.invariant-loop-left
 invariant-loop-left l =
     let job = task_job l.task in
-    Runs job (begun job (nodes_tree (tape_nodes l.fn.tape))) job.script true (option_copied l.left) l.texts.printed.items (l.fn.out.items ++ codes "{\"replies\":[") l.out.items
+    Runs job (begun job (nodes_tree (tape_nodes l.fn.tape))) job.script true (option_copied l.left) l.room.history.items l.room.printed.items (l.fn.out.items ++ codes "{\"replies\":[") l.out.items
     × (buffer_limit l.buffers ≡ buffer_limit l.fn.buffers)
 
 abbrev pub decreases-loop-left : goal.decreases-loop-left

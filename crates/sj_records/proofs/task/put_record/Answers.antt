@@ -17,7 +17,7 @@ pub put_document_record-requires-clause-readable : goal.put_document_record-requ
 put_document_record-requires-clause-readable c =
     let found = c.in-Ok.ensures.found in
     let nodes = tape_nodes c.read_tape.new.tape in
-    let document = subst (λ (limit : ℕ). Document c.args.line.now limit found.0) c.requires found.1 in
+    let document = subst (λ (limit : ℕ). Document c.args.line.now limit found.0) c.requires.limit found.1 in
     let is : nodes_tree nodes ≡ found.0 = tree_from (entries nodes) found.0 found.2 in
     subst (λ (t : Tree). IsReadable c.args.task.depth t) (sym is) (only_trees c.args.line.now found.0 document.spells, document.shallow)
 
@@ -26,12 +26,12 @@ returns-in-Ok-clause-holds c =
     let job = task_job c.args.task in
     let found = c.in-Ok.ensures.found in
     let nodes = tape_nodes c.read_tape.new.tape in
-    let document = subst (λ (limit : ℕ). Document c.args.line.now limit found.0) c.requires found.1 in
+    let document = subst (λ (limit : ℕ). Document c.args.line.now limit found.0) c.requires.limit found.1 in
     let is : nodes_tree nodes ≡ found.0 = tree_from (entries nodes) found.0 found.2 in
     on_ok_weaker c.put_document_record.result (λ put. (text (outcome job (nodes_tree nodes)), put, inl (found.0, document, ap (λ t. text (outcome job t)) is))) c.put_document_record.ensures.holds
 
 pub returns-in-Err-Refused-clause-holds : goal.returns-in-Err-Refused-clause-holds
 returns-in-Err-Refused-clause-holds c =
     let why = c.in-Err-Refused.fault in
-    let first = subst (λ (limit : ℕ). fault c.args.line.now limit ≡ Some why) c.requires (rw c.in-Err-Refused.field-0-is at c.in-Err-Refused.ensures.refused) in
+    let first = subst (λ (limit : ℕ). fault c.args.line.now limit ≡ Some why) c.requires.limit (rw c.in-Err-Refused.field-0-is at c.in-Err-Refused.ensures.refused) in
     on_ok_weaker c.put_fault_record.result (λ put. (text (fault_record why), put, inr (why, first, refl))) (rw c.in-Err-Refused.fault-is at c.put_fault_record.ensures)

@@ -1,0 +1,107 @@
+//! Commands on a document whose writes can be taken back.
+ghost use Rattle.std.specs.Prelude.{◌≡◌, false};
+ghost use Rattle.sj_base.specs.Output.{AppendsOrLeaves};
+ghost use Rattle.sj_base.specs.Text.{text};
+ghost use Rattle.sj_base.specs.Tree.{boolean};
+ghost use Rattle.sj_scripts.specs.Script.{command_view};
+ghost use Rattle.sj_records.specs.History.{CommandLeaves, UndoLeaves};
+ghost use Rattle.sj_records.specs.Laws.{is_reload};
+ghost use Rattle.sj_records.specs.inside.Adds.{Adds};
+
+use sj_base::{Scalar, StaticNode, put_text};
+use sj_scripts::{Command, Document, Inverse};
+use std::alloc::AllocError;
+
+/// Runs a command that is no reload on a document, and appends its reply.
+///
+/// `history` has what takes the document's writes back, the newest last. A write that isn't refused adds its inverse. `Undo`
+/// takes the newest off and makes its change; it replies `false` if there is none, or if the change can't be made.
+///
+/// # Errors
+///
+/// `AllocError` if there is no memory for what the call of the document needs, or for one more inverse. `out` is unchanged. The
+/// document is as it was, as the command leaves it or, in the form `Lazy`, without repeated members. Nothing is known of
+/// `history`.
+pub fn apply<T: Document>(
+    document: &mut T,
+    history: &mut Vec<Inverse>,
+    command: &Command,
+    depth: usize,
+    out: &mut Vec<u8>,
+) -> Result<(), AllocError>
+    requires { is_reload (command_view command.now) ≡ false }
+    ensures { CommandLeaves result T.keeping depth (T.tree document.old) (T.tree document.new) history.old.items history.new.items
+        out.old.items out.new.items (command_view command.now) }
+{
+    let start = out.len();
+    match command {
+        Command::Get(path) => document.get(path, out),
+        Command::Contains(path, key) => document.contains(path, key, out),
+        Command::TypeOf(path) => document.type_of(path, out),
+        Command::Len(path) => document.len(path, out),
+        Command::Keys(path) => document.keys(path, out),
+        Command::Insert(path, key, value) => {
+            let written = document.insert(path, key, value, depth, out);
+            add(history, written, start, out)
+        }
+        Command::Remove(path, key) => {
+            let written = document.remove(path, key, out);
+            add(history, written, start, out)
+        }
+        Command::Push(path, value) => {
+            let written = document.push(path, value, depth, out);
+            add(history, written, start, out)
+        }
+        Command::Pop(path) => {
+            let written = document.pop(path, out);
+            add(history, written, start, out)
+        }
+        Command::SetAt(path, value) => {
+            let written = document.set_at(path, value, depth, out);
+            add(history, written, start, out)
+        }
+        Command::Undo => undo(document, history, out),
+        Command::Reload | Command::ReloadPp => unreachable!(),
+    }
+}
+
+/// Adds what a write handed out. Takes the reply, which begins at `start`, off again if there is no memory for it.
+fn add(
+    history: &mut Vec<Inverse>,
+    written: Result<Option<Inverse>, AllocError>,
+    start: usize,
+    out: &mut Vec<u8>,
+) -> Result<(), AllocError>
+    ensures { Adds result written history.old.items history.new.items start out.old.items out.new.items }
+{
+    if let Some(inverse) = written?
+        && history.push(inverse).is_err()
+    {
+        out.truncate(start);
+        return Err(AllocError);
+    }
+    Ok(())
+}
+
+/// Takes back the newest write, and appends the reply.
+fn undo<T: Document>(
+    document: &mut T,
+    history: &mut Vec<Inverse>,
+    out: &mut Vec<u8>,
+) -> Result<(), AllocError>
+    ensures { UndoLeaves result T.keeping (T.tree document.old) (T.tree document.new) history.old.items history.new.items
+        out.old.items out.new.items }
+{
+    let Some(inverse) = history.pop() else {
+        return put_bool(false, out);
+    };
+    let is_made = document.take_back(*out.allocator(), inverse)?;
+    put_bool(is_made, out)
+}
+
+/// Appends the reply that is a boolean.
+pub(crate) fn put_bool(reply: bool, out: &mut Vec<u8>) -> Result<(), AllocError>
+    ensures { AppendsOrLeaves result out.old.items out.new.items (text (boolean reply)) }
+{
+    put_text(out, &Scalar::Static(StaticNode::Bool(reply)))
+}
