@@ -90,7 +90,7 @@ fn faulty_lines(rt: HostRuntime) {
 }
 
 // Each command of the README on `{"a":[1,2],"b":"x"}`, its reply, and the document after it.
-const EXAMPLES: [(&str, &str, &str); 12] = [
+const EXAMPLES: [(&str, &str, &str); 13] = [
     (r#"["get",["a",1]]"#, r#"[2]"#, r#"{"a":[1,2],"b":"x"}"#),
     (
         r#"["contains",[],"b"]"#,
