@@ -43,7 +43,8 @@ impl DocumentPass {
         documents: Vec<Vec<u8>>,
         form: Form,
     ) -> Result<DocumentPass, AllocError>
-        ensures { IfOk result (λ pass. pass.documents ≡ documents) }
+        ensures documents { IfOk result (λ pass. pass.documents ≡ documents) }
+        ensures form { IfOk result (λ pass. pass.form ≡ form) }
     {
         let buffers = Buffers::new(alloc, 0)?;
         Ok(DocumentPass {
