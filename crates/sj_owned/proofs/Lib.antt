@@ -11,4 +11,5 @@ pub mod Steps
 pub mod Copies
 pub mod Comparing
 pub mod Made
+pub mod Depths
 pub mod Zipped

@@ -4,3 +4,4 @@ pub mod Kept
 pub mod Copying
 pub mod Comparing
 pub mod Shown
+pub mod Depths

@@ -1,5 +1,5 @@
 //! Documents made of other values. The conversions that `From` stands for need no memory.
-ghost use Rattle.std.specs.Prelude.{◌≡◌, List, IfOk, OnOk, MatchOption, string_bytes, map as map_entries};
+ghost use Rattle.std.specs.Prelude.{◌≡◌, List, IfOk, MatchOption, string_bytes, map as map_entries};
 ghost use Rattle.std.specs.Cow.{cow_str_bytes};
 ghost use Rattle.std.specs.Cmp.Lexicographic.{slice_cmp};
 ghost use Rattle.std.specs.List.Sorted.{IsPermutation, IsSortedByKey};
@@ -11,11 +11,11 @@ ghost use Rattle.std.specs.declared.string.String.{String as Text};
 ghost use Rattle.std.proofs.Common.{refl};
 ghost use Rattle.sj_base.specs.Tree.{string};
 ghost use Rattle.sj_base.specs.declared.static_node.StaticNode.TheVariants.{Null, Bool, I64, U64};
-ghost use Rattle.sj_object.specs.Pairs.{put_key};
 ghost use Rattle.sj_owned.specs.From.{IsArrayOf, IsObjectOf, IsObjectOfEntries};
 ghost use Rattle.sj_owned.specs.Views.{value_tree};
 ghost use Rattle.sj_owned.specs.declared.value.Value.{Static, String, Array, Object as Members};
 
+use crate::copy::insert;
 use crate::literal::Literal;
 use crate::value::Value;
 use sj_base::StaticNode;
@@ -204,19 +204,6 @@ impl<K: ObjectKey, D, T: Into<Value<K, D>>> From<Option<T>> for Value<K, D> {
     }
 }
 
-fn put_pair<K: ObjectKey + Drop, D: Drop>(
-    members: &mut Object<K, Value<K, D>>,
-    key: K,
-    value: Value<K, D>,
-) -> Result<(), AllocError>
-    ensures { OnOk result (members.new ≡ put_key K.text members.old key value) }
-{
-    match members.insert(key, value) {
-        Ok(_) => Ok(()),
-        Err(_) => Err(AllocError),
-    }
-}
-
 // The entries, with their keys converted.
 fn entry_pairs<K: FromString + Drop, D: Drop>(
     alloc: Global,
@@ -304,7 +291,7 @@ impl<K: ObjectKey + Drop, D: Literal + Drop> Value<K, D> {
     {
         let mut members = Object::new(alloc);
         for (key, value) in pairs {
-            put_pair(&mut members, key, value.into())?;
+            insert(&mut members, key, value.into())?;
         }
         Ok(Value::Object(members))
     }

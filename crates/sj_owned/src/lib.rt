@@ -11,6 +11,7 @@ mod built;
 mod compare;
 mod convert;
 mod copy;
+mod depth;
 mod deserializer;
 mod display;
 mod edit;

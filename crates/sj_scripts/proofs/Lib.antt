@@ -3,7 +3,6 @@ pub mod Edits
 pub mod Parts
 pub mod Settled
 pub mod TapeKeys
-pub mod KeptValues
 pub mod KeptTrees
 pub mod Changes
 pub mod KeptChanges

@@ -6,7 +6,6 @@ ghost use Rattle.sj_scripts.specs.Values.{owned_tree};
 ghost use Rattle.sj_scripts.specs.inside.KeptValues.{IsKeptChange};
 
 use crate::path::PathPart;
-use crate::script_value::count_levels;
 use sj_owned::OwnedValue;
 use std::alloc::AllocError;
 
@@ -63,7 +62,7 @@ impl Change {
         ensures { OnOk result (IsKeptChange (change_view self.now)) }
     {
         if let Some(value) = self.found() {
-            count_levels(value)?;
+            value.depth()?;
         }
         Ok(())
     }

@@ -1,14 +1,9 @@
 -- Trees and changes whose objects repeat no key.
-use Rattle.std.specs.Prelude.{◌≡◌, ◌&&◌, Bool, true, not, is_some, List, Some}
-use Rattle.std.specs.declared.alloc.Global.{Global}
-use Rattle.std.specs.declared.string.String.{String}
-use Rattle.sj_base.specs.Keep.{keep_items, keep_members, IsKept}
+use Rattle.std.specs.Prelude.{◌≡◌, ◌&&◌, Bool, true, not, is_some, Some}
+use Rattle.sj_base.specs.Keep.{IsKept}
 use Rattle.sj_base.specs.Path.{member_at}
 use Rattle.sj_base.specs.Tree.{Tree, null, boolean, integer, decimal, string, list, object, Items, no_items, item, Members, no_members, member}
-use Rattle.sj_object.specs.declared.entry.Entry.{Entry}
 use Rattle.sj_scripts.specs.Inverse.{Change, found_of}
-use Rattle.sj_scripts.specs.Values.{OwnedValue}
-use Rattle.sj_scripts.specs.inside.Views.{items_view, members_view}
 
 abbrev mutual
   pub is_kept : Tree → Bool
@@ -27,13 +22,6 @@ abbrev mutual
   pub are_kept_members : Members → Bool
   are_kept_members no_members = true
   are_kept_members (member k t ms) = is_kept t && (not (is_some (member_at ms k)) && are_kept_members ms)
-
--- The items and the members of values are kept.
-abbrev pub KeepItems : List OwnedValue → Type 0
-KeepItems vs = keep_items (items_view vs) ≡ items_view vs
-
-abbrev pub KeepMembers : List (Entry (String Global) OwnedValue) → Type 0
-KeepMembers es = keep_members (members_view es) ≡ members_view es
 
 -- The value of a change is kept.
 abbrev pub IsKeptChange : Change → Type 0

@@ -1,15 +1,9 @@
 -- The lists inside documents that own their texts.
 use Rattle.std.specs.Prelude.{List, string_bytes}
-use Rattle.std.specs.declared.alloc.Global.{Global}
-use Rattle.std.specs.declared.string.String.{String}
-use Rattle.sj_base.specs.Tree.{Items, Members}
+use Rattle.sj_base.specs.Tree.{Items}
 use Rattle.sj_base.specs.Scalar.{decimal_buf_text}
-use Rattle.sj_object.specs.declared.entry.Entry.{Entry}
 use Rattle.sj_owned.specs.Views as owned
 use Rattle.sj_scripts.specs.Values.{OwnedValue}
 
 abbrev pub items_view : List OwnedValue → Items
 items_view = owned.items_view string_bytes decimal_buf_text
-
-abbrev pub members_view : List (Entry (String Global) OwnedValue) → Members
-members_view = owned.members_view string_bytes decimal_buf_text

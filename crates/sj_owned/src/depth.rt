@@ -1,0 +1,79 @@
+//! How deep documents nest.
+ghost use Rattle.std.specs.Prelude.{◌≡◌, ◌+◌, IfOk, OnOk};
+ghost use Rattle.sj_base.specs.Keep.{IsKept};
+ghost use Rattle.sj_base.specs.Tree.{depth, items_depth, members_depth};
+ghost use Rattle.sj_owned.specs.Views.{value_tree, items_view, members_view};
+ghost use Rattle.sj_owned.specs.inside.Depths.{KeepItems, KeepMembers};
+
+use crate::literal::Literal;
+use crate::value::Value;
+use sj_object::{Object, ObjectKey};
+use std::alloc::AllocError;
+
+impl<K: ObjectKey, D: Literal> Value<K, D> {
+    /// Returns the number of levels that the document nests: 0 for a scalar, and 1 for an array or an object with nothing
+    /// inside. That no object in it repeats a key is known then, of every document.
+    ///
+    /// The recursion is as deep as the document nests.
+    ///
+    /// # Errors
+    ///
+    /// `AllocError` if the document nests more levels than a `usize` holds, which none in memory does.
+    pub fn depth(&self) -> Result<usize, AllocError>
+        ensures levels { IfOk result (λ n. n ≡ depth (value_tree K.text D.literal self.now)) }
+        ensures kept { OnOk result (IsKept (value_tree K.text D.literal self.now)) }
+    {
+        count_levels(self)
+    }
+}
+
+// One level more, if there is such a number.
+fn one_more(levels: usize) -> Result<usize, AllocError>
+    ensures { IfOk result (λ n. n ≡ levels + 1) }
+{
+    levels.checked_add(1).ok_or(AllocError)
+}
+
+#[cycle(count_levels)]
+fn count_levels<K: ObjectKey, D: Literal>(value: &Value<K, D>) -> Result<usize, AllocError>
+    ensures levels { IfOk result (λ n. n ≡ depth (value_tree K.text D.literal value.now)) }
+    ensures kept { OnOk result (IsKept (value_tree K.text D.literal value.now)) }
+{
+    match value {
+        Value::Array(items) => one_more(count_item_levels(items)?),
+        Value::Object(members) => one_more(count_member_levels(members)?),
+        _ => Ok(0),
+    }
+}
+
+#[cycle(count_levels)]
+fn count_item_levels<K: ObjectKey, D: Literal>(
+    items: &Vec<Value<K, D>>,
+) -> Result<usize, AllocError>
+    ensures levels { IfOk result (λ n. n ≡ items_depth (items_view K.text D.literal items.now.items)) }
+    ensures kept { OnOk result (KeepItems K.text D.literal items.now.items) }
+{
+    let mut deepest = 0;
+    for item in items {
+        deepest = deepest.max(count_levels(item)?);
+    }
+    Ok(deepest)
+}
+
+#[cycle(count_levels)]
+fn count_member_levels<K: ObjectKey, D: Literal>(
+    members: &Object<K, Value<K, D>>,
+) -> Result<usize, AllocError>
+    ensures levels { IfOk result (λ n. n ≡ members_depth (members_view K.text D.literal members.now)) }
+    ensures kept { OnOk result (KeepMembers K.text D.literal members.now) }
+{
+    // That no key stands twice is told by `len`.
+    if members.len() == 0 {
+        return Ok(0);
+    }
+    let mut deepest = 0;
+    for (_, member) in members {
+        deepest = deepest.max(count_levels(member)?);
+    }
+    Ok(deepest)
+}
