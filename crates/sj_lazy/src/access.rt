@@ -1,5 +1,5 @@
 //! Reads of the parts of a lazy value, with the names of the traits of `value_trait`. They build nothing.
-ghost use Rattle.std.specs.Prelude.{◌≡◌, is_some, option_map, option_and_then, ok_or};
+ghost use Rattle.std.specs.Prelude.{◌≡◌, false, is_some, option_map, option_and_then, ok_or, IfSome, IfOk};
 ghost use Rattle.sj_base.specs.Containers.{items_in, members_in, scalar_in};
 ghost use Rattle.sj_base.specs.Path.{key, place, child, member_at, item_at};
 ghost use Rattle.sj_reads.specs.Reads.{mismatch};
@@ -15,6 +15,7 @@ impl<'t, 'i> Value<'_, 't, 'i> {
     ghost use Rattle.sj_lazy.specs.ByName.{read_found};
     ghost use Rattle.sj_lazy.specs.Contents.{contents};
     ghost use Rattle.sj_lazy.specs.Parts.{array_items, array_contents, array_in, object_members, object_contents, object_in, part_of, try_member, try_item};
+    ghost use Rattle.sj_lazy.specs.Upgrade.{owns};
     ghost use Rattle.sj_lazy.specs.Views.{lazy_tree, lazy_kind};
 
     /// Returns the items, or `None` if the value isn't an array.
@@ -57,6 +58,7 @@ impl<'t, 'i> Value<'_, 't, 'i> {
     pub fn get(&self, name: &str) -> Option<Value<'_, 't, 'i>>
         ensures tree { option_map lazy_tree result ≡ child (lazy_tree self.now) (key name.now) }
         ensures part { option_map contents result ≡ part_of (contents self.now) (key name.now) }
+        ensures held { IfSome result (λ v. owns v ≡ false) }
     {
         match self {
             Value::Tape(view) => Some(Value::Tape(view.get(name)?)),
@@ -75,6 +77,7 @@ impl<'t, 'i> Value<'_, 't, 'i> {
     pub fn get_idx(&self, index: usize) -> Option<Value<'_, 't, 'i>>
         ensures tree { option_map lazy_tree result ≡ child (lazy_tree self.now) (place index) }
         ensures part { option_map contents result ≡ part_of (contents self.now) (place index) }
+        ensures held { IfSome result (λ v. owns v ≡ false) }
     {
         match self {
             Value::Tape(view) => Some(Value::Tape(view.get_idx(index)?)),
@@ -126,6 +129,7 @@ impl<'t, 'i> Value<'_, 't, 'i> {
             ≡ ok_or (option_map (λ ms. member_at ms name.now) (members_in (lazy_tree self.now)))
             (mismatch ValueType.Object (lazy_kind self.now)) }
         ensures part { ok_map (option_map contents) result ≡ try_member (contents self.now) name.now }
+        ensures held { IfOk result (λ found. IfSome found (λ v. owns v ≡ false)) }
     {
         match self.as_object() {
             Some(members) => Ok(members.get(name)),
@@ -143,6 +147,7 @@ impl<'t, 'i> Value<'_, 't, 'i> {
             ≡ ok_or (option_map (λ ts. item_at ts index) (items_in (lazy_tree self.now)))
             (mismatch ValueType.Array (lazy_kind self.now)) }
         ensures part { ok_map (option_map contents) result ≡ try_item (contents self.now) index }
+        ensures held { IfOk result (λ found. IfSome found (λ v. owns v ≡ false)) }
     {
         match self.as_array() {
             Some(items) => Ok(items.get(index)),

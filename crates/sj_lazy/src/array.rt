@@ -1,5 +1,5 @@
 //! Arrays of lazy values.
-ghost use Rattle.std.specs.Prelude.{◌≡◌, ◌↔◌, IsTrue, IfSome, Some, option_map, slice_get, length, map};
+ghost use Rattle.std.specs.Prelude.{◌≡◌, ◌↔◌, false, IsTrue, IfSome, Some, option_map, slice_get, length, map};
 ghost use Rattle.std.specs.Cow.{cow_str_bytes};
 ghost use Rattle.std.specs.Option.{option_copied};
 ghost use Rattle.std.specs.Iterator.{YieldsFirstBy, UpTo, item_count};
@@ -27,6 +27,7 @@ pub enum Array<'b, 't, 'i> {
 
 impl<'b, 't, 'i> Array<'b, 't, 'i> {
     ghost use Rattle.sj_lazy.specs.Contents.{contents};
+    ghost use Rattle.sj_lazy.specs.Upgrade.{owns};
     ghost use Rattle.sj_lazy.specs.Views.{lazy_tree, contents_tree};
     ghost use Rattle.sj_lazy.specs.Parts.{array_items, array_contents, item_within, array_parts, items_left};
 
@@ -51,6 +52,7 @@ impl<'b, 't, 'i> Array<'b, 't, 'i> {
     pub fn get(&self, index: usize) -> Option<Value<'b, 't, 'i>>
         ensures tree { option_map lazy_tree result ≡ item_at (array_items self.now) index }
         ensures part { option_map contents result ≡ item_within (array_contents self.now) index }
+        ensures held { IfSome result (λ v. owns v ≡ false) }
     {
         match self {
             Array::Tape(items) => Some(Value::Tape(items.get(index)?)),

@@ -1,5 +1,5 @@
 //! Objects of lazy values.
-ghost use Rattle.std.specs.Prelude.{◌≡◌, ◌↔◌, IsTrue, IfSome, Some, option_map, length, map};
+ghost use Rattle.std.specs.Prelude.{◌≡◌, ◌↔◌, false, IsTrue, IfSome, Some, option_map, length, map};
 ghost use Rattle.std.specs.Cow.{cow_str_bytes};
 ghost use Rattle.std.specs.Option.{option_copied};
 ghost use Rattle.std.specs.Iterator.{YieldsFirstBy, UpTo, item_count};
@@ -32,6 +32,7 @@ pub enum Object<'b, 't, 'i> {
 
 impl<'b, 't, 'i: 'b> Object<'b, 't, 'i> {
     ghost use Rattle.sj_lazy.specs.Contents.{contents};
+    ghost use Rattle.sj_lazy.specs.Upgrade.{owns};
     ghost use Rattle.sj_lazy.specs.Views.{lazy_tree, contents_tree};
     ghost use Rattle.sj_lazy.specs.Parts.{object_members, object_contents, member_within, object_parts, pairs_left, keys_left, values_left, pair_tree};
 
@@ -56,6 +57,7 @@ impl<'b, 't, 'i: 'b> Object<'b, 't, 'i> {
     pub fn get(&self, name: &str) -> Option<Value<'b, 't, 'i>>
         ensures tree { option_map lazy_tree result ≡ member_at (object_members self.now) name.now }
         ensures part { option_map contents result ≡ member_within (object_contents self.now) name.now }
+        ensures held { IfSome result (λ v. owns v ≡ false) }
     {
         match self {
             Object::Tape(members) => Some(Value::Tape(members.get(name)?)),

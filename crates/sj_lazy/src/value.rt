@@ -1,5 +1,5 @@
 //! The type of lazy values, and how new ones are made.
-ghost use Rattle.std.specs.Prelude.{◌≡◌, [], Some, IfOk, true};
+ghost use Rattle.std.specs.Prelude.{◌≡◌, [], Some, IfOk, true, false};
 ghost use Rattle.sj_base.specs.Tree.{null};
 ghost use Rattle.sj_owned.specs.Views.{items_inside, members_inside};
 
@@ -24,7 +24,7 @@ pub enum Value<'b, 't, 'i> {
 impl<'b, 't, 'i> Value<'b, 't, 'i> {
     ghost use Rattle.sj_lazy.specs.Contents.{contents, document as of_document, is_tape, is_document};
     ghost use Rattle.sj_lazy.specs.Views.{lazy_tree, lazy_kind};
-    ghost use Rattle.sj_lazy.specs.Upgrade.{OwnsSuch};
+    ghost use Rattle.sj_lazy.specs.Upgrade.{OwnsSuch, owns};
 
     /// Creates a lazy value of a value of a tape. Builds nothing.
     pub fn from_tape(tape: TapeValue<'t, 'i>) -> Self
@@ -35,7 +35,8 @@ impl<'b, 't, 'i> Value<'b, 't, 'i> {
 
     // A lazy value of a part of a document.
     pub(crate) fn borrowed(document: &'b BorrowedValue<'i>) -> Self
-        ensures { contents result ≡ of_document document.now }
+        ensures part { contents result ≡ of_document document.now }
+        ensures held { owns result ≡ false }
     {
         Value::Value(Held::Borrowed(document))
     }
