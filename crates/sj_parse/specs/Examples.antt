@@ -1,12 +1,33 @@
--- Worked values: the first fault of a text.
-use Rattle.std.specs.Prelude.{◌≡◌, refl, codes, ℕ, Option, Some, None, [], ◌∷◌}
+-- Worked values: the first fault of a text, and the carriers of its integers.
+use Rattle.std.specs.Prelude.{◌≡◌, refl, codes, ℕ, pos, nat_lt, true, if◌then◌else◌, Option, Some, None, List, [], ◌∷◌, length}
 use Rattle.std.specs.Char.{encode_utf8}
 use Rattle.std.specs.Str.{chars, is_utf8}
+use Rattle.std.proofs.Common.{ap}
+use Rattle.sj_base.specs.Spelling.{longest}
 use Rattle.sj_base.specs.declared.error.Error.{Error}
 use Rattle.sj_base.specs.declared.error.ErrorType.{ErrorType}
-use Rattle.sj_base.specs.declared.error.ErrorType.TheVariants.{Eof, ExpectedArrayComma, ExpectedArrayContent, ExpectedFalse, ExpectedMapComma, ExpectedNull, ExpectedObjectColon, ExpectedObjectContent, ExpectedObjectKey, ExpectedTrue, InsufficientPadding, InternalError, InvalidEscape, InvalidNumber, InvalidUnicodeCodepoint, InvalidUnicodeEscape, InvalidUtf8, Syntax, TrailingData}
+use Rattle.sj_base.specs.declared.error.ErrorType.TheVariants.{Eof, ExpectedArrayComma, ExpectedArrayContent, ExpectedFalse, ExpectedMapComma, ExpectedNull, ExpectedObjectColon, ExpectedObjectContent, ExpectedObjectKey, ExpectedTrue, InputTooLarge, InsufficientPadding, InternalError, InvalidEscape, InvalidNumber, InvalidUnicodeCodepoint, InvalidUnicodeEscape, InvalidUtf8, Syntax, TrailingData}
+use Rattle.sj_base.specs.declared.static_node.StaticNode.TheVariants.{I64, U64}
+use Rattle.sj_scan.specs.Scan.{scan_fault}
+use Rattle.sj_tape.specs.declared.node.Node.TheVariants.{Array, Static}
 use Rattle.sj_parse.specs.Descent.{value}
-use Rattle.sj_parse.specs.Fault.{fault, generic, padded_fault}
+use Rattle.sj_parse.specs.Fault.{fault, fault_behind, generic, padded_fault}
+use Rattle.sj_parse.specs.Nodes.{HaveCarriers}
+use Rattle.sj_parse.specs.Token.{tokens}
+
+-- a text of more than 4294967295 bytes, whatever they are
+too_large : (bytes : List ℕ) (limit : ℕ) → nat_lt longest (length bytes) ≡ true → fault bytes limit ≡ Some (generic InputTooLarge)
+too_large bytes limit long = ap (λ b. if b then Some (generic InputTooLarge) else fault_behind bytes limit (scan_fault bytes)) long
+
+padded_too_large : padded_fault (codes "1") 4294967296 1024 ≡ Some (generic InputTooLarge)
+padded_too_large = refl
+
+-- an integer with a minus is an `I64`, and no `U64`
+minus_zero_is_signed : HaveCarriers (tokens (codes "[-0]")) (Array 1 1 ∷ Static (I64 (pos 0)) ∷ [])
+minus_zero_is_signed = (tt, (refl, tt))
+
+minus_zero_is_not_unsigned : HaveCarriers (tokens (codes "[-0]")) (Array 1 1 ∷ Static (U64 0) ∷ []) → ⊥
+minus_zero_is_not_unsigned carriers = carriers.1.0 refl
 
 whitespace_alone : fault (codes " ") 1024 ≡ Some (generic Eof)
 unfolding is_utf8 chars encode_utf8 value

@@ -8,13 +8,13 @@ use Rattle.sj_base.specs.Tree.{Tree, null, boolean, integer, decimal, string, li
 use Rattle.sj_base.specs.Path.{key, place}
 use Rattle.sj_base.specs.Number.{signed}
 use Rattle.sj_base.specs.Text.{text}
-use Rattle.sj_base.specs.declared.error.ErrorType.TheVariants.{Eof, ExpectedTrue, InputTooLarge, InternalError, Syntax}
+use Rattle.sj_base.specs.declared.error.ErrorType.TheVariants.{Eof, ExpectedTrue, InternalError, Syntax}
 use Rattle.sj_records.specs.Lines.{lines}
 use Rattle.sj_scripts.specs.Command.{Step, get, contains, type_of, len, keys, insert, remove, push, pop, set_at, undo, reload, reload_pp}
 use Rattle.sj_scripts.specs.Inverse.{drop_item, set_part}
 use Rattle.sj_scripts.specs.Step.{Job, Keeping, from_start, from_write, begun, after}
 use Rattle.sj_parse.specs.Descent.{value}
-use Rattle.sj_parse.specs.Fault.{generic, padded_fault}
+use Rattle.sj_parse.specs.Fault.{generic}
 use Rattle.sj_records.specs.History.{bases_from}
 use Rattle.sj_records.specs.Record.{outcome, IsRecord}
 use Rattle.sj_scripts.specs.Examples.{one, two, word, number, empty_list, empty_object, repeated_key, a_is_1}
@@ -225,10 +225,6 @@ bases_of_owned : (after (owned []) (begun (owned []) a_is_1) (set_at [] null ∷
 bases_of_owned = refl
 
 -- lines that are no documents, and their records
-
--- A text of 4294967296 bytes. The bytes aren't looked at.
-text_too_large : padded_fault (codes "1") 4294967296 1024 ≡ Some (generic InputTooLarge)
-text_too_large = refl
 
 blank_line : IsRecord (owned []) (codes " ") (codes "{\"error\":\"Eof\",\"index\":0,\"character\":null}")
 unfolding digits is_utf8 chars encode_utf8
