@@ -118,16 +118,45 @@ fn refused_push(rt: HostRuntime) -> Result<(), Fail> {
     Ok(())
 }
 
-// What stands where the upgrade lacks memory, as `rt try --fail-alloc` has it.
+// Makes one of the calls that lend a part, and returns whether there was memory for it.
+fn lends_part(value: &mut Value<'_, '_, '_>, alloc: Global, call: u8) -> bool {
+    match call {
+        0 => value.value_mut(alloc).is_ok(),
+        1 => value.as_array_mut(alloc).is_ok(),
+        2 => value.as_object_mut(alloc).is_ok(),
+        3 => value.get_mut(alloc, "b").is_ok(),
+        _ => value.get_idx_mut(alloc, 0).is_ok(),
+    }
+}
+
+// Each of these calls as the first one on a tape, whatever it finds. Where the upgrade lacks memory, as
+// `rt try --fail-alloc` has it, the tape stays.
 #[test]
-fn refused_upgrade(rt: HostRuntime) -> Result<(), Fail> {
+fn first_writes(rt: HostRuntime) -> Result<(), Fail> {
     let alloc = rt.alloc();
-    let mut text = bytes(alloc, r#"{"a":[1]}"#)?;
+    let mut text = bytes(alloc, r#"{"a":1,"a":2}"#)?;
     let tape = to_tape(alloc, &mut text)?;
-    let mut value = lazy(&tape)?;
-    let is_made = value.value_mut(alloc).is_ok();
-    assert!(rt; value.is_value() == is_made && value.is_tape() != is_made);
-    expect_text(&rt, alloc, &value, r#"{"a":[1]}"#)?;
+    for call in 0..5u8 {
+        let mut value = lazy(&tape)?;
+        let is_made = lends_part(&mut value, alloc, call);
+        assert!(rt; value.is_value() == is_made && value.is_tape() != is_made);
+        let left = if is_made {
+            r#"{"a":1}"#
+        } else {
+            r#"{"a":1,"a":2}"#
+        };
+        expect_text(&rt, alloc, &value, left)?;
+    }
+    Ok(())
+}
+
+// The parts of {"a":[1,2],"s":"x"}.
+fn expect_parts(rt: &impl Abort, value: &Value<'_, '_, '_>) -> Result<(), Fail> {
+    let items = value.get_array("a").ok_or("no array")?;
+    expect_eq(rt, items.len(), 2);
+    let string = value.get("s").ok_or("no member")?;
+    let copied = string.into_string()?.ok_or("no string")?;
+    expect_eq(rt, copied.as_str(), "x");
     Ok(())
 }
 
@@ -138,19 +167,18 @@ fn borrowed_document(rt: HostRuntime) -> Result<(), Fail> {
     let mut text = bytes(alloc, r#"{"a":[1,2],"s":"x"}"#)?;
     let document = to_borrowed_value(alloc, &mut text)?;
     let mut value = Value::Value(Held::Borrowed(&document));
-    let inside = value.get_array("a").ok_or("no array")?;
-    expect_eq(&rt, inside.len(), 2);
-    let string = value.get("s").ok_or("no member")?;
-    let copied = string.into_string()?.ok_or("no string")?;
-    expect_eq(&rt, copied.as_str(), "x");
+    expect_parts(&rt, &value)?;
     value.remove(alloc, "a")?;
     expect_text(&rt, alloc, &value, r#"{"s":"x"}"#)?;
     let whole = Value::Value(Held::Borrowed(&document));
     expect_text(&rt, alloc, &whole, r#"{"a":[1,2],"s":"x"}"#)?;
-    let Ok(Value::Value(Held::Owned(_))) = whole.into_owned(alloc) else {
-        return Err(Fail::new("not owned"));
-    };
+    assert!(rt; owns_document(whole, alloc));
     Ok(())
+}
+
+// Whether `into_owned` gives a document of its own.
+fn owns_document(value: Value<'_, '_, '_>, alloc: Global) -> bool {
+    matches!(value.into_owned(alloc), Ok(Value::Value(Held::Owned(_))))
 }
 
 #[test]

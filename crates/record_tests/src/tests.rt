@@ -21,6 +21,9 @@ use std::test::Fail;
 
 const LIMIT: usize = 1024;
 
+// More than two blocks of 64 bytes.
+const MOST_SPACES: usize = 130;
+
 // Gives its bytes, at most `step` a read, then an error of the kind, and then its end. Where `is_cut`,
 // an interruption comes before each read.
 #[derive(Drop)]

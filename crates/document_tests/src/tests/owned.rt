@@ -92,6 +92,18 @@ fn replaced_item(rt: HostRuntime) -> Result<(), Fail> {
     Ok(())
 }
 
+// A document that has nothing to lend stays as it is.
+#[test]
+fn nothing_to_lend(rt: HostRuntime) -> Result<(), Fail> {
+    let alloc = rt.alloc();
+    let mut v = sample(alloc)?;
+    assert!(rt; v.get_mut("x").is_none() && v.get_idx_mut(0).is_none());
+    let items = v.get_mut("a").ok_or("no items")?;
+    assert!(rt; items.get_mut("n").is_none() && items.get_idx_mut(1).is_none());
+    expect_text(&rt, alloc, &v, r#"{"n":1,"s":"x","a":[1],"o":{}}"#)?;
+    Ok(())
+}
+
 #[test]
 fn owned_insert_remove(rt: HostRuntime) -> Result<(), Fail> {
     let alloc = rt.alloc();
@@ -163,11 +175,13 @@ fn owned_push_pop(rt: HostRuntime) -> Result<(), Fail> {
     Ok(())
 }
 
-// {"a":..,"b":..}, or with its members in the other order
+// {"a":1,"b":2}, or with its members in the other order
 fn two_members(alloc: Global, first: &str, second: &str) -> Result<Value, Fail> {
     let mut value = Value::object(alloc);
-    value.insert(String::from_str(alloc, first)?, Value::from(first == "a"))?;
-    value.insert(String::from_str(alloc, second)?, Value::from(second == "a"))?;
+    for name in [first, second] {
+        let place = if name == "a" { 1 } else { 2 };
+        value.insert(String::from_str(alloc, name)?, number(place))?;
+    }
     Ok(value)
 }
 
@@ -182,8 +196,8 @@ fn equal_documents(rt: HostRuntime) -> Result<(), Fail> {
     let there = two_members(alloc, "a", "b")?;
     let back = two_members(alloc, "b", "a")?;
     assert!(rt; there == back);
-    expect_text(&rt, alloc, &there, r#"{"a":true,"b":false}"#)?;
-    expect_text(&rt, alloc, &back, r#"{"b":false,"a":true}"#)?;
+    expect_text(&rt, alloc, &there, r#"{"a":1,"b":2}"#)?;
+    expect_text(&rt, alloc, &back, r#"{"b":2,"a":1}"#)?;
     let mut long = Value::array(alloc);
     long.push(decimal(alloc, "1.50")?)?;
     let mut short = Value::array(alloc);

@@ -1,11 +1,8 @@
 //! The first fault of a line, kind by kind, and of the same line behind spaces.
-use super::{LIMIT, Stream, split_row};
+use super::{LIMIT, MOST_SPACES, Stream, split_row};
 use std::alloc::{AllocError, Global};
 use std::process::Abort;
 use std::test::Fail;
-
-// More than two blocks of 64 bytes.
-const MOST_SPACES: usize = 130;
 
 // A fault of the whole line has no place.
 fn record_of(

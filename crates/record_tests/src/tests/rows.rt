@@ -1,5 +1,5 @@
 //! Worked lines, each with its record under the empty script and under a reload.
-use super::{LIMIT, Stream, split_row};
+use super::{LIMIT, MOST_SPACES, Stream, split_row};
 use std::alloc::Global;
 use std::process::Abort;
 use std::test::Fail;
@@ -74,6 +74,33 @@ fn of_worked_lines(rt: HostRuntime) -> Result<(), Fail> {
         all.check(&rt, rt.alloc(), LIMIT, step);
     }
     all.check_reloads(&rt, rt.alloc(), LIMIT);
+    Ok(())
+}
+
+// Adds a line behind each number of spaces up to 130, with the same record.
+fn add_behind_spaces(lines: &mut Stream, line: &[u8], record: &str) -> Result<(), Fail> {
+    for spaces in 1..MOST_SPACES + 1 {
+        lines.add(spaces, line, record)?;
+    }
+    Ok(())
+}
+
+// Those lines that are documents.
+#[test]
+fn of_documents_behind_spaces(rt: HostRuntime) -> Result<(), Fail> {
+    let alloc = rt.alloc();
+    let mut lines = Stream::new(alloc);
+    for row in ROWS.lines().skip(1) {
+        let (line, record) = split_row(row)?;
+        if record.starts_with(r#"{"replies""#) {
+            add_behind_spaces(&mut lines, line.as_bytes(), record)?;
+        }
+    }
+    for line in ACROSS_BLOCKS {
+        let record = format!(in alloc; r#"{{"replies":[],"document":{line}}}"#)?;
+        add_behind_spaces(&mut lines, line.as_bytes(), &record)?;
+    }
+    lines.check(&rt, alloc, LIMIT, 65536);
     Ok(())
 }
 

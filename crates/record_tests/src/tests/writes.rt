@@ -77,7 +77,13 @@ fn worked_scripts(rt: HostRuntime) -> Result<(), Fail> {
 }
 
 // A script, a line in which a key stands twice, its record where only the first member is kept, and that of the form `Lazy`.
-pub(super) const REPEATED_KEYS: [(&str, &str, &str, &str); 5] = [
+pub(super) const REPEATED_KEYS: [(&str, &str, &str, &str); 6] = [
+    (
+        r#"[["get",["a"]]]"#,
+        r#"{"a":1,"a":2}"#,
+        r#"{"replies":[[1]],"document":{"a":1}}"#,
+        r#"{"replies":[[1]],"document":{"a":1,"a":2}}"#,
+    ),
     (
         "[]",
         r#"{"a":1,"\u0061":2}"#,

@@ -45,7 +45,8 @@ fn positions(rt: HostRuntime) -> Result<(), Fail> {
     Ok(())
 }
 
-// Texts with something to find near the end of a block, once they stand behind spaces, and the lines of the worked rows.
+// Texts with something to find near the end of a block, once they stand behind spaces, and the lines of the worked rows but
+// the object of forty members.
 const TEXTS: &str = r#"1
 ""
  "\\\"" 
@@ -95,6 +96,9 @@ time
 {"some": ["key", "value", 2]}
 {"snot": 1, "badger":[2, 2.5]}
 {"x":{"a":1},"é":"€","😀":[[],{}]}
+null
+{}
+{"key":1}
 {:}[,]{:}[,]{:}[,]{:}[,]{:}[,]{:}[,]{:}[,]{:}[,]{:}[,]{:}[,]{:}[,]{:}[,]{:}[,]"#;
 
 // Scans a text up to each of its bytes, behind each number of spaces up to two blocks.
