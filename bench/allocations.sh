@@ -1,8 +1,9 @@
 #!/usr/bin/env bash
 # Counts the requests for memory of `records` over equal lines that come in one piece: 1 and 100 short ones, and 1 and 5 of a
-# hundred times the length. Fails where the lazy form makes more of them for many lines than for one. Counts those for an array
-# of four strings with three and with four reloads, and fails where the owned form doesn't make at least four more with four, as
-# it does if each reload reads its text:
+# hundred times the length. Fails where the lazy form makes more of them for many lines than for one. Counts those of the lazy
+# form over 1 and 3 lines that come in several pieces, of two lengths, and fails where a line costs more the longer it is.
+# Counts those for an array of four strings with three and with four reloads, and fails where the owned form doesn't make at
+# least four more with four, as it does if each reload reads its text:
 #
 #     bench/allocations.sh
 #
@@ -26,6 +27,10 @@ echo "$line" > "$work/1"
 yes "$line" | head -n 100 > "$work/100"
 echo "$long" > "$work/1-long"
 yes "$long" | head -n 5 > "$work/5-long"
+for times in 700 1400; do
+    yes "$line" | head -n $times | paste -sd, | sed 's/.*/{"more":{"note":[&]}}/' > "$work/1-of-$times"
+    cat "$work/1-of-$times" "$work/1-of-$times" "$work/1-of-$times" > "$work/3-of-$times"
+done
 echo '[["get",["more","note"]],["keys",[]]]' > "$work/reads"
 echo '["a","b","c","d"]' > "$work/strings"
 echo '[["reload"],["reload"],["reload"]]' > "$work/three"
@@ -45,6 +50,14 @@ for form in owned borrowed lazy; do
     echo "$form: $one requests for 1 line, $hundred for 100; $one_long for 1 long line, $five_long for 5"
     if [ $form = lazy ] && [ "$one $one_long" != "$hundred $five_long" ]; then failed=1; fi
 done
+each=()
+for times in 700 1400; do
+    one=$(count lazy reads "1-of-$times")
+    three=$(count lazy reads "3-of-$times")
+    echo "lazy: $one requests for 1 line of $(wc -c < "$work/1-of-$times") bytes, $three for 3"
+    each+=("$((three - one))")
+done
+if [ "${each[0]}" != "${each[1]}" ]; then failed=1; fi
 three=$(count owned three strings)
 four=$(count owned four strings)
 echo "owned: $three requests for 3 reloads, $four for 4"
