@@ -5,7 +5,7 @@ use Rattle.std.specs.declared.alloc.Global.{Global}
 use Rattle.sj_base.specs.Calls.{Calls}
 use Rattle.sj_base.specs.Output.{AppendsPrefix, WritesAll, WritesPrefix}
 use Rattle.sj_scripts.specs.Command.{Step}
-use Rattle.sj_scripts.specs.Step.{Job}
+use Rattle.sj_documents.specs.Step.{Job}
 use Rattle.sj_records.specs.Record.{IsOutput}
 use Rattle.sj_records.specs.Run.{Transfers, RecordsOfSome, RecordsOfEnded, RecordsPrefix}
 use Rattle.sj_records.specs.Job.{keeping_of}

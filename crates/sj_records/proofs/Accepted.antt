@@ -13,7 +13,7 @@ use Rattle.sj_base.proofs.Valid.{valid_when_kept}
 use Rattle.sj_scripts.specs.declared.script.CommandFault.{CommandFault}
 use Rattle.sj_scripts.specs.Command.{Step, get, contains, type_of, len, keys, insert, remove, push, pop, set_at, undo, reload, reload_pp, ◌>>=◌, as_path, as_key, path_alone, path_and_key, path_and_value, path_key_value, nullary, named, command_of, with_index, commands_from, commands_in}
 use Rattle.sj_scripts.specs.Script.{IsAccepted}
-use Rattle.sj_scripts.proofs.Changes.{bind_ok, same_ok}
+use Rattle.sj_documents.proofs.Changes.{bind_ok, same_ok}
 
 -- valid, and without repeated keys
 abbrev pub Good : Tree → Type 0

@@ -6,8 +6,8 @@ use Rattle.sj_base.specs.Tree.{Tree, depth}
 use Rattle.sj_base.specs.Path.{Part}
 use Rattle.sj_base.proofs.Depths.{depth_when_kept, depth_of_part, depth_when_put, depth_with_member, depth_when_dropped, depth_when_pushed, depth_when_popped}
 use Rattle.sj_scripts.specs.Command.{Step, get, contains, type_of, len, keys, insert, remove, push, pop, set_at, undo, reload, reload_pp}
-use Rattle.sj_scripts.specs.Step.{Job, Keeping, from_start, from_write, State, Word, Rewrite, start, begun, base, fits, fits_below, insertion, removal, pushing, popping, setting, write_at, settled, undone, rewritten, step, after}
-use Rattle.sj_scripts.proofs.Changes.{inserted, removed, pushed, popped, within, write_done}
+use Rattle.sj_documents.specs.Step.{Job, Keeping, from_start, from_write, State, Word, Rewrite, start, begun, base, fits, fits_below, insertion, removal, pushing, popping, setting, write_at, settled, undone, rewritten, step, after}
+use Rattle.sj_documents.proofs.Changes.{inserted, removed, pushed, popped, within, write_done}
 use Rattle.sj_records.specs.Laws.{HoldsInState, DepthStays}
 
 -- A new part stays within the limit where the old one did.

@@ -4,7 +4,7 @@ use Rattle.std.proofs.lemmas.List.{append-nil}
 use Rattle.sj_records.specs.Lines.{ended, unended}
 use Rattle.sj_records.specs.declared.run_error.RunError.{RunError}
 use Rattle.sj_records.specs.declared.run_error.RunError.TheVariants.{Memory, Write, Read, TooManyReads}
-use Rattle.sj_scripts.specs.Step.{Job}
+use Rattle.sj_documents.specs.Step.{Job}
 use Rattle.sj_records.specs.inside.Progress.{HasNoLineFeed, Wrote, WroteSome, WrotePrefix, LeavesLines}
 use Rattle.sj_records.proofs.Cut.{ended-none, unended-none, ended-cut, unended-cut, HasNoLineFeed-append}
 use Rattle.sj_records.proofs.Written.{Wrote-nothing, Wrote-then, WroteSome-front, WroteSome-none, WrotePrefix-then, AreRecords-append}

@@ -12,19 +12,19 @@ use Rattle.sj_base.specs.Text.{text, pretty}
 use Rattle.sj_base.specs.Tree.{Tree, boolean}
 use Rattle.sj_base.proofs.Keeping.{keeps_once}
 use Rattle.sj_scripts.specs.Command.{get, contains, type_of, len, keys, insert, remove, push, pop, set_at, undo, reload, reload_pp}
-use Rattle.sj_scripts.specs.Inverse.{Change, drop_item, place_in, place_at, back, insertion_back, removal_back, popping_back, setting_back}
-use Rattle.sj_scripts.specs.Inverses.{change_view, HandsOut, Settles, TakesBack}
+use Rattle.sj_documents.specs.Inverse.{Change, drop_item, place_in, place_at, back, insertion_back, removal_back, popping_back, setting_back}
+use Rattle.sj_documents.specs.Inverses.{change_view, HandsOut, Settles, TakesBack}
 use Rattle.sj_scripts.specs.Script.{path_view, command_view}
-use Rattle.sj_scripts.specs.Step.{Job, Keeping, begun, from_start, from_write, State, Word, Rewrite, start, base, fits, fits_below, reply_of, contains_reply, type_reply, len_reply, keys_reply, reload_reply, write_at, settled, undone}
+use Rattle.sj_documents.specs.Step.{Job, Keeping, begun, from_start, from_write, State, Word, Rewrite, start, base, fits, fits_below, reply_of, contains_reply, type_reply, len_reply, keys_reply, reload_reply, write_at, settled, undone}
 use Rattle.std.specs.declared.alloc.AllocError.{AllocError}
 use Rattle.sj_scripts.specs.Values.{owned_tree}
-use Rattle.sj_scripts.specs.declared.inverse.Inverse.{Inverse}
+use Rattle.sj_documents.specs.declared.inverse.Inverse.{Inverse}
 use Rattle.sj_scripts.specs.declared.script.Command.{Command}
 use Rattle.sj_scripts.specs.declared.script.Command.TheVariants.{Get, Contains, TypeOf, Len, Keys, Insert, Remove, Push, Pop, SetAt, Undo, Reload, ReloadPp}
-use Rattle.sj_scripts.proofs.Changes.{same_ok}
-use Rattle.sj_scripts.proofs.KeptChanges.{StaysKept, settled_kept, insertion_kept, removal_kept, pushing_kept, popping_kept, setting_kept}
+use Rattle.sj_documents.proofs.Changes.{same_ok}
+use Rattle.sj_documents.proofs.KeptChanges.{StaysKept, settled_kept, insertion_kept, removal_kept, pushing_kept, popping_kept, setting_kept}
 use Rattle.sj_scripts.proofs.KeptTrees.{kept-found}
-use Rattle.sj_scripts.proofs.MadeChanges.{same_found}
+use Rattle.sj_documents.proofs.MadeChanges.{same_found}
 use Rattle.sj_records.specs.History.{added, WriteLeaves, UndoLeaves, inverse_view, bases_from, bases, StandFor}
 use Rattle.sj_records.specs.Laws.{Undoes, WritesKept, HistoriesStand}
 use Rattle.sj_records.specs.inside.Adds.{Adds}

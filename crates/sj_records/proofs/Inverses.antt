@@ -10,11 +10,11 @@ use Rattle.sj_base.specs.Edit as edits
 use Rattle.sj_base.specs.Keep.{keep_members, IsKept}
 use Rattle.sj_base.proofs.Keys.{same_key, own_key}
 use Rattle.sj_base.proofs.Kept.{kept_member, kept_part, object_parts}
-use Rattle.sj_scripts.specs.Step.{Rewrite, reply_of, insertion, removal, pushing, popping, setting}
-use Rattle.sj_scripts.specs.Inverse.{Change, drop_item, place_of, place_in, put_member_at, changed, back, insertion_back, removal_back, popping_back}
+use Rattle.sj_documents.specs.Step.{Rewrite, reply_of, insertion, removal, pushing, popping, setting}
+use Rattle.sj_documents.specs.Inverse.{Change, drop_item, place_of, place_in, put_member_at, changed, back, insertion_back, removal_back, popping_back}
 use Rattle.sj_records.specs.Laws.{Undoes, InsertUndone, RemoveUndone, PushUndone, PopUndone, SetUndone}
-use Rattle.sj_scripts.proofs.MadeChanges.{none_dropped, none_popped}
-use Rattle.sj_scripts.proofs.Changes.{inserted, removed, pushed, popped, within, write_done}
+use Rattle.sj_documents.proofs.MadeChanges.{none_dropped, none_popped}
+use Rattle.sj_documents.proofs.Changes.{inserted, removed, pushed, popped, within, write_done}
 
 -- ---- a child that is changed, and changed back
 

@@ -7,10 +7,10 @@ use Rattle.sj_base.specs.Keep.{IsKept}
 use Rattle.sj_base.specs.Text.{text}
 use Rattle.sj_base.proofs.Keeping.{keeps_once}
 use Rattle.sj_scripts.specs.Command.{Step, get, contains, type_of, len, keys, insert, remove, push, pop, set_at, undo, reload, reload_pp}
-use Rattle.sj_scripts.specs.Step.{Job, Keeping, from_start, from_write, State, start, begun, base, fits, fits_below, insertion, removal, pushing, popping, setting, write_at, settled, undone, step, replies, after}
+use Rattle.sj_documents.specs.Step.{Job, Keeping, from_start, from_write, State, start, begun, base, fits, fits_below, insertion, removal, pushing, popping, setting, write_at, settled, undone, step, replies, after}
 use Rattle.sj_records.specs.Record.{record_of, outcome}
 use Rattle.sj_records.specs.Laws.{is_write, has_dropped, BasesAreKept, TreesAreKept, FormsAgree}
-use Rattle.sj_scripts.proofs.KeptChanges.{BothKept, settled_kept, insertion_kept, removal_kept, pushing_kept, popping_kept, setting_kept}
+use Rattle.sj_documents.proofs.KeptChanges.{BothKept, settled_kept, insertion_kept, removal_kept, pushing_kept, popping_kept, setting_kept}
 use Rattle.sj_records.proofs.Accepted.{Sound, accepted_sound}
 
 -- what each write command makes of its base

@@ -23,10 +23,10 @@ use Rattle.sj_tape.specs.declared.node.Node.{Node}
 use Rattle.sj_tape.proofs.Listings.{tree_from}
 use Rattle.sj_tape.proofs.ValidTrees.{tree_found}
 use Rattle.sj_scripts.specs.Command.{Step, get, contains, type_of, len, keys, insert, remove, push, pop, set_at, undo, reload, reload_pp}
-use Rattle.sj_scripts.specs.Step.{Job, Keeping, from_start, from_write, start, begun, after}
+use Rattle.sj_documents.specs.Step.{Job, Keeping, from_start, from_write, start, begun, after}
 use Rattle.sj_scripts.specs.Script.{IsAccepted}
 use Rattle.sj_scripts.specs.inside.KeptValues.{is_kept}
-use Rattle.sj_scripts.specs.declared.inverse.Inverse.{Inverse}
+use Rattle.sj_documents.specs.declared.inverse.Inverse.{Inverse}
 use Rattle.sj_records.specs.inside.Reloads.{IsReadable, IsPrinted, Reloads}
 use Rattle.sj_records.proofs.Accepted.{Good, Sound, accepted_sound}
 use Rattle.sj_records.proofs.Along.{after_within, start_within}

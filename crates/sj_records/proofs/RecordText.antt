@@ -5,13 +5,13 @@ use Rattle.sj_base.specs.Tree.{Tree, Items, no_items, item}
 use Rattle.sj_base.specs.Text.{text, more_items_text}
 use Rattle.sj_scripts.specs.declared.script.Command.{Command}
 use Rattle.sj_scripts.specs.Command.{Step, get, contains, type_of, len, keys, insert, remove, push, pop, set_at, undo, reload, reload_pp}
-use Rattle.sj_scripts.specs.Step.{Job, Keeping, State, step, replies, after}
-use Rattle.sj_scripts.specs.declared.inverse.Inverse.{Inverse}
+use Rattle.sj_documents.specs.Step.{Job, Keeping, State, step, replies, after}
+use Rattle.sj_documents.specs.declared.inverse.Inverse.{Inverse}
 use Rattle.sj_records.specs.History.{StandFor, bare, Applied}
 use Rattle.sj_records.specs.Laws.{with_script}
 use Rattle.sj_records.specs.Record.{record_of}
 use Rattle.sj_scripts.specs.Script.{commands_view}
-use Rattle.sj_scripts.specs.inside.Documents.{separator, items_left}
+use Rattle.sj_documents.specs.inside.Documents.{separator, items_left}
 use Rattle.sj_records.specs.inside.Reloads.{record_from, IsPrinted, Reloads, Runs}
 
 -- the text of a record whose first commands are still to be run

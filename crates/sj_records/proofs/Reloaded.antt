@@ -3,7 +3,7 @@ use Rattle.std.proofs.Common.{◌≡◌, ℕ, List, [], ◌∷◌, ◌++◌, ref
 use Rattle.sj_base.specs.Tree.{Tree, Items, item}
 use Rattle.sj_base.specs.Text.{text, pretty}
 use Rattle.sj_scripts.specs.Command.{Step, reload, reload_pp}
-use Rattle.sj_scripts.specs.Step.{Job, State, begun, reload_reply, step, replies, after}
+use Rattle.sj_documents.specs.Step.{Job, State, begun, reload_reply, step, replies, after}
 use Rattle.sj_records.specs.Record.{record_of, outcome}
 use Rattle.sj_records.specs.Laws.{with_script, items_then, ChangesNothing}
 use Rattle.sj_records.proofs.RecordText.{same_step, after_join}

@@ -5,7 +5,7 @@ use Rattle.std.specs.Io.KnownBytes.{Consumes, Keeps}
 use Rattle.std.proofs.KnownBytes.{Consumes-nil, Consumes-trans, Consumes-kept}
 use Rattle.sj_records.specs.declared.run_error.RunError.{RunError}
 use Rattle.sj_records.specs.declared.run_error.RunError.TheVariants.{Memory, Write, Read, TooManyReads}
-use Rattle.sj_scripts.specs.Step.{Job}
+use Rattle.sj_documents.specs.Step.{Job}
 use Rattle.sj_records.specs.Lines.{ended, unended, if_any}
 use Rattle.sj_records.specs.Record.{AreRecords}
 use Rattle.sj_records.specs.Run.{Transfers, LeavesOutput}

@@ -18,10 +18,10 @@ use Rattle.sj_base.specs.Laws.{OneLine}
 use Rattle.sj_base.proofs.Trees.{only_trees}
 use Rattle.sj_base.proofs.Valid.{valid_when_kept, valid_part, valid_last, valid_put, valid_with_member, valid_dropped, valid_pushed, valid_popped}
 use Rattle.sj_scripts.specs.Command.{Step, get, contains, type_of, len, keys, insert, remove, push, pop, set_at, undo, reload, reload_pp, ◌>>=◌}
-use Rattle.sj_scripts.specs.Step.{Job, Keeping, from_start, from_write, State, Word, Rewrite, start, begun, base, answer, part_at, reply_of, type_name, count, key_items, fits, fits_below, insertion, removal, pushing, popping, setting, write_at, settled, undone, rewritten, step, replies, after}
+use Rattle.sj_documents.specs.Step.{Job, Keeping, from_start, from_write, State, Word, Rewrite, start, begun, base, answer, part_at, reply_of, type_name, count, key_items, fits, fits_below, insertion, removal, pushing, popping, setting, write_at, settled, undone, rewritten, step, replies, after}
 use Rattle.sj_records.specs.Record.{record_of, character_of, fault_record}
 use Rattle.sj_records.specs.Laws.{HoldsInState, NoLineFeed}
-use Rattle.sj_scripts.proofs.Changes.{inserted, removed, pushed, popped, within, write_done}
+use Rattle.sj_documents.proofs.Changes.{inserted, removed, pushed, popped, within, write_done}
 use Rattle.sj_records.proofs.Accepted.{Sound, accepted_sound}
 
 -- ---- numbers

@@ -7,7 +7,7 @@ use Rattle.sj_base.specs.declared.error.Error.{Error}
 use Rattle.sj_parse.specs.Fault.{fault}
 use Rattle.sj_parse.proofs.Documents.{fault_or_tree}
 use Rattle.sj_base.proofs.Meanings.{same_tree}
-use Rattle.sj_scripts.specs.Step.{Job}
+use Rattle.sj_documents.specs.Step.{Job}
 use Rattle.sj_scripts.specs.Command.{json, commands_of}
 use Rattle.sj_scripts.specs.Reading.{ComesOf}
 use Rattle.sj_records.specs.Record.{fault_record, outcome, AreRecords}

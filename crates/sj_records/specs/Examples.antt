@@ -11,8 +11,8 @@ use Rattle.sj_base.specs.Text.{text}
 use Rattle.sj_base.specs.declared.error.ErrorType.TheVariants.{Eof, ExpectedTrue, InternalError, Syntax}
 use Rattle.sj_records.specs.Lines.{lines}
 use Rattle.sj_scripts.specs.Command.{Step, get, contains, type_of, len, keys, insert, remove, push, pop, set_at, undo, reload, reload_pp}
-use Rattle.sj_scripts.specs.Inverse.{drop_item, set_part}
-use Rattle.sj_scripts.specs.Step.{Job, Keeping, from_start, from_write, begun, after}
+use Rattle.sj_documents.specs.Inverse.{drop_item, set_part}
+use Rattle.sj_documents.specs.Step.{Job, Keeping, from_start, from_write, begun, after}
 use Rattle.sj_parse.specs.Descent.{value}
 use Rattle.sj_parse.specs.Fault.{generic}
 use Rattle.sj_records.specs.History.{bases_from}

@@ -6,11 +6,11 @@ use Rattle.sj_base.specs.Keep.{keep, IsKept}
 use Rattle.sj_base.specs.Path.{Part}
 use Rattle.sj_base.specs.Text.{text}
 use Rattle.sj_scripts.specs.Command.{Step, insert, remove, push, pop, set_at, undo}
-use Rattle.sj_scripts.specs.Inverse.{Change, drop_item, place_at, back, insertion_back, removal_back, popping_back, setting_back}
-use Rattle.sj_scripts.specs.Inverses.{change_view, Settles, TakesBack}
+use Rattle.sj_documents.specs.Inverse.{Change, drop_item, place_at, back, insertion_back, removal_back, popping_back, setting_back}
+use Rattle.sj_documents.specs.Inverses.{change_view, Settles, TakesBack}
 use Rattle.sj_scripts.specs.Script.{path_view}
-use Rattle.sj_scripts.specs.Step.{Job, Keeping, State, Rewrite, start, base, fits, fits_below, insertion, removal, pushing, popping, setting, step}
-use Rattle.sj_scripts.specs.declared.inverse.Inverse.{Inverse}
+use Rattle.sj_documents.specs.Step.{Job, Keeping, State, Rewrite, start, base, fits, fits_below, insertion, removal, pushing, popping, setting, step}
+use Rattle.sj_documents.specs.declared.inverse.Inverse.{Inverse}
 
 -- ---- what a command leaves of a document and its history, whose newest inverse stands last
 

@@ -3,7 +3,7 @@ use Rattle.std.specs.Prelude.{ℕ}
 use Rattle.sj_scripts.specs.declared.script.Script.{Script}
 use Rattle.sj_records.specs.declared.form.Form.{Form}
 use Rattle.sj_records.specs.declared.form.Form.TheVariants.{Owned, Borrowed, Lazy}
-use Rattle.sj_scripts.specs.Step.{Job, Keeping, from_start, from_write}
+use Rattle.sj_documents.specs.Step.{Job, Keeping, from_start, from_write}
 use Rattle.sj_scripts.specs.Steps.{steps_of}
 
 -- how a form keeps a document

@@ -10,12 +10,12 @@ use Rattle.sj_base.specs.Text.{text}
 use Rattle.sj_base.specs.declared.error.Error.{Error}
 use Rattle.sj_parse.specs.Fault.{fault}
 use Rattle.sj_scripts.specs.Command.{Step, insert, remove, push, pop, set_at, undo, reload, reload_pp}
-use Rattle.sj_scripts.specs.Step.{Job, Keeping, from_start, from_write, State, begun, reload_reply, replies, after, Rewrite, reply_of, insertion, removal, pushing, popping, setting, write_at}
-use Rattle.sj_scripts.specs.Inverse.{Change, drop_item, place_in, back, insertion_back, removal_back, popping_back, setting_back}
+use Rattle.sj_documents.specs.Step.{Job, Keeping, from_start, from_write, State, begun, reload_reply, replies, after, Rewrite, reply_of, insertion, removal, pushing, popping, setting, write_at}
+use Rattle.sj_documents.specs.Inverse.{Change, drop_item, place_in, back, insertion_back, removal_back, popping_back, setting_back}
 use Rattle.sj_base.specs.Path.{Part, at}
 use Rattle.sj_records.specs.Record.{IsRecord, record_of, fault_record}
 use Rattle.sj_scripts.specs.Script.{IsReadAs, IsAccepted}
-use Rattle.sj_scripts.specs.declared.inverse.Inverse.{Inverse}
+use Rattle.sj_documents.specs.declared.inverse.Inverse.{Inverse}
 use Rattle.sj_records.specs.History.{CommandLeaves, StandFor, Applied}
 
 -- exactly one x satisfies P

@@ -6,7 +6,7 @@ use Rattle.sj_base.specs.Names.{name_of}
 use Rattle.sj_base.specs.declared.error.Error.{Error}
 use Rattle.sj_scripts.specs.Reading.{ComesOf}
 use Rattle.sj_records.specs.Lines.{lines}
-use Rattle.sj_scripts.specs.Step.{Job, begun, replies, after}
+use Rattle.sj_documents.specs.Step.{Job, begun, replies, after}
 
 -- the record of replies and a document, as a tree
 abbrev pub record_of : Items → Tree → Tree

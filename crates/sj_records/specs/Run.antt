@@ -4,7 +4,7 @@ use Rattle.std.specs.Io.KnownBytes.{Consumes, Appends}
 use Rattle.sj_base.specs.Calls.{Calls, unsuccessful}
 use Rattle.sj_records.specs.declared.run_error.RunError.{RunError}
 use Rattle.sj_records.specs.declared.run_error.RunError.TheVariants.{Memory, Write, Read, TooManyReads}
-use Rattle.sj_scripts.specs.Step.{Job}
+use Rattle.sj_documents.specs.Step.{Job}
 use Rattle.sj_records.specs.Lines.{ended}
 use Rattle.sj_records.specs.Record.{IsOutput, AreRecords}
 

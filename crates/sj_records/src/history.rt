@@ -9,7 +9,8 @@ ghost use Rattle.sj_records.specs.Laws.{is_reload};
 ghost use Rattle.sj_records.specs.inside.Adds.{Adds};
 
 use sj_base::{Scalar, StaticNode, put_text};
-use sj_scripts::{Command, Document, Inverse};
+use sj_documents::{Document, Inverse};
+use sj_scripts::Command;
 use std::alloc::AllocError;
 
 /// Runs a command that is no reload on a document, and appends its reply.

@@ -12,7 +12,5 @@ pub use engine::{run, run_with};
 pub use form::Form;
 pub use history::apply;
 pub use run_error::RunError;
-pub use sj_scripts::{
-    Change, Command, CommandFault, Document, Inverse, LazyDocument, PathPart, Script, ScriptFault,
-    ScriptValue,
-};
+pub use sj_documents::{Change, Document, Inverse, LazyDocument};
+pub use sj_scripts::{Command, CommandFault, PathPart, Script, ScriptFault, ScriptValue};

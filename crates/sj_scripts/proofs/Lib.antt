@@ -1,13 +1,2 @@
 pub mod ScriptSteps
-pub mod Edits
-pub mod Parts
-pub mod Settled
-pub mod TapeKeys
 pub mod KeptTrees
-pub mod Changes
-pub mod KeptChanges
-pub mod MadeChanges
-pub mod BackEdits
-pub mod Paths
-pub mod Writing
-pub mod LazyWrites

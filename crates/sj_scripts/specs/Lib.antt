@@ -1,10 +1,7 @@
 pub mod Values
 pub mod Command
-pub mod Step
 pub mod Reading
 pub mod Script
 pub mod Steps
-pub mod Inverse
-pub mod Inverses
 pub mod Examples
 pub mod inside

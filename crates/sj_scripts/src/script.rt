@@ -3,7 +3,7 @@ ghost use Rattle.std.specs.Prelude.{◌≡◌, ◌<◌, Ok, length, slice_get, S
 ghost use Rattle.sj_scripts.specs.declared.script.ScriptFault.TheVariants.{Memory};
 ghost use Rattle.sj_scripts.specs.Script.{IsReadAs, command_view, commands_view, IsAccepted, IsRefusedAs, fault_text, command_fault_name};
 ghost use Rattle.sj_base.specs.Output.{AppendsOrLeaves};
-ghost use Rattle.sj_scripts.specs.inside.Documents.{AppendsOrGrows};
+ghost use Rattle.sj_scripts.specs.inside.Output.{AppendsOrGrows};
 ghost use Rattle.sj_scripts.specs.inside.ReadErrors.{IsScriptFault};
 
 use crate::commands::read_commands;

@@ -1,6 +1,6 @@
 -- What the parts of the program give: the arguments, the script and the run.
 use Rattle.std.specs.Prelude.{ℕ, List, Option, Result, Ok, Err, ⊤}
-use Rattle.sj_scripts.specs.Step.{Job}
+use Rattle.sj_documents.specs.Step.{Job}
 use Rattle.sj_records.specs.Run.{LeavesOutput}
 use Rattle.sj_records.specs.declared.run_error.RunError.{RunError}
 use Rattle.records_program.specs.Arguments.{AskForRun, AskForHelp, AreRefused}

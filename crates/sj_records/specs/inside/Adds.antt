@@ -1,6 +1,6 @@
 -- What adding the inverse of a write to a history leaves.
 use Rattle.std.specs.Prelude.{◌≡◌, ℕ, List, take, Option, Result, Ok, Err}
-use Rattle.sj_scripts.specs.declared.inverse.Inverse.{Inverse}
+use Rattle.sj_documents.specs.declared.inverse.Inverse.{Inverse}
 use Rattle.sj_records.specs.History.{added}
 
 -- What was handed out was added, if anything; or it is an error; or there was no memory, and the bytes from `start` on are gone.

@@ -5,10 +5,10 @@ use Rattle.sj_base.specs.Text.{text, pretty}
 use Rattle.sj_base.specs.Tree.{Tree, IsValidTree, depth}
 use Rattle.sj_scripts.specs.declared.script.Command.{Command}
 use Rattle.sj_scripts.specs.Command.{Step}
-use Rattle.sj_scripts.specs.Step.{Job, State, replies, after}
+use Rattle.sj_documents.specs.Step.{Job, State, replies, after}
 use Rattle.sj_scripts.specs.Script.{commands_view}
-use Rattle.sj_scripts.specs.declared.inverse.Inverse.{Inverse}
-use Rattle.sj_scripts.specs.inside.Documents.{items_left}
+use Rattle.sj_documents.specs.declared.inverse.Inverse.{Inverse}
+use Rattle.sj_documents.specs.inside.Documents.{items_left}
 use Rattle.sj_records.specs.History.{StandFor}
 
 -- the text of a record from the replies to these commands on, which run from the state s. `is_first`: their first reply is the

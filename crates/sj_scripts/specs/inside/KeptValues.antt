@@ -1,9 +1,7 @@
--- Trees and changes whose objects repeat no key.
-use Rattle.std.specs.Prelude.{◌≡◌, ◌&&◌, Bool, true, not, is_some, Some}
-use Rattle.sj_base.specs.Keep.{IsKept}
+-- Trees whose objects repeat no key.
+use Rattle.std.specs.Prelude.{◌&&◌, Bool, true, not, is_some}
 use Rattle.sj_base.specs.Path.{member_at}
 use Rattle.sj_base.specs.Tree.{Tree, null, boolean, integer, decimal, string, list, object, Items, no_items, item, Members, no_members, member}
-use Rattle.sj_scripts.specs.Inverse.{Change, found_of}
 
 abbrev mutual
   pub is_kept : Tree → Bool
@@ -22,7 +20,3 @@ abbrev mutual
   pub are_kept_members : Members → Bool
   are_kept_members no_members = true
   are_kept_members (member k t ms) = is_kept t && (not (is_some (member_at ms k)) && are_kept_members ms)
-
--- The value of a change is kept.
-abbrev pub IsKeptChange : Change → Type 0
-IsKeptChange change = (t : Tree) → found_of change ≡ Some t → IsKept t

@@ -1,8 +1,8 @@
 use Rattle.std.proofs.Common.{arith}
 use Rattle.std.specs.String.{string_bytes}
-use Rattle.sj_scripts.specs.Inverse.{drop_item, place_at, insertion_back, removal_back, popping_back, setting_back}
+use Rattle.sj_documents.specs.Inverse.{drop_item, place_at, insertion_back, removal_back, popping_back, setting_back}
 use Rattle.sj_scripts.specs.Script.{path_view}
-use Rattle.sj_scripts.specs.Step.{base, fits, fits_below, insertion, removal, pushing, popping, setting}
+use Rattle.sj_documents.specs.Step.{base, fits, fits_below, insertion, removal, pushing, popping, setting}
 use Rattle.sj_scripts.specs.Values.{owned_tree}
 use Rattle.sj_records.proofs.Histories.{write_leaves}
 use Rattle.sj_records.proofs.history.apply.Goals as goal

@@ -3,7 +3,7 @@ use Rattle.std.specs.Prelude.{codes}
 use Rattle.std.specs.Option.{option_copied}
 use Rattle.sj_parse.specs.Answers.{buffer_limit}
 use Rattle.sj_tape.specs.Views.{tape_nodes, nodes_tree}
-use Rattle.sj_scripts.specs.Step.{begun}
+use Rattle.sj_documents.specs.Step.{begun}
 use Rattle.sj_records.specs.inside.Progress.{task_job}
 use Rattle.sj_records.specs.inside.Reloads.{Runs}
 use Rattle.sj_records.proofs.RecordText.{left_len}

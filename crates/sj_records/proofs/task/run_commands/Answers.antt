@@ -2,7 +2,7 @@ use Rattle.std.proofs.Common.{◌≡◌, ◌<◌, ◌∷◌, [], length, refl, s
 use Rattle.std.proofs.lemmas.List.{nil_from_length}
 use Rattle.sj_base.specs.Tree.{Tree}
 use Rattle.sj_scripts.specs.Script.{command_view, commands_view}
-use Rattle.sj_scripts.specs.Step.{State, after}
+use Rattle.sj_documents.specs.Step.{State, after}
 use Rattle.sj_records.specs.History.{StandFor}
 use Rattle.sj_records.specs.inside.Progress.{task_job}
 use Rattle.sj_records.specs.inside.Reloads.{IsPrinted}

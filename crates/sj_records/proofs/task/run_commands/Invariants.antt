@@ -1,5 +1,5 @@
 use Rattle.std.proofs.Common.{length}
-use Rattle.sj_scripts.specs.Step.{State, after}
+use Rattle.sj_documents.specs.Step.{State, after}
 use Rattle.sj_scripts.specs.Script.{commands_view}
 use Rattle.sj_records.specs.History.{StandFor}
 use Rattle.sj_records.specs.inside.Progress.{task_job}

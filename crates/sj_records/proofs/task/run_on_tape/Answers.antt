@@ -2,7 +2,7 @@ use Rattle.std.proofs.Common.{sym, ap, ◌∙◌}
 use Rattle.std.proofs.lemmas.Result.{IfOk-weaker}
 use Rattle.sj_tape.specs.Views.{tape_nodes, nodes_tree}
 use Rattle.sj_records.specs.Job.{keeping_of}
-use Rattle.sj_scripts.specs.Step.{start}
+use Rattle.sj_documents.specs.Step.{start}
 use Rattle.sj_records.proofs.RecordText.{stands_begun}
 use Rattle.sj_records.proofs.task.run_on_tape.Goals as goal
 

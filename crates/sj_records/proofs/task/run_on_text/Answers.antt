@@ -4,7 +4,7 @@ use Rattle.sj_base.specs.Tree.{Tree}
 use Rattle.sj_parse.specs.Answers.{IsTapeOf, buffer_limit}
 use Rattle.sj_parse.specs.Fault.{fault}
 use Rattle.sj_tape.specs.Views.{tape_nodes, nodes_tree}
-use Rattle.sj_scripts.specs.Step.{start}
+use Rattle.sj_documents.specs.Step.{start}
 use Rattle.sj_records.specs.History.{StandFor}
 use Rattle.sj_records.specs.inside.Progress.{task_job}
 use Rattle.sj_records.proofs.Readable.{printed_spells, printed_faultless, printed_document}

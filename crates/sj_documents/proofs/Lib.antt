@@ -1,0 +1,11 @@
+pub mod Edits
+pub mod Parts
+pub mod Settled
+pub mod TapeKeys
+pub mod Changes
+pub mod KeptChanges
+pub mod MadeChanges
+pub mod BackEdits
+pub mod Paths
+pub mod Writing
+pub mod LazyWrites

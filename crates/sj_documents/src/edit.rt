@@ -1,0 +1,389 @@
+//! Edits of the part of a document that a path selects.
+ghost use Rattle.std.specs.Prelude.{◌≡◌, ◌+◌, nat_le, length, not, ◌&&◌, is_some, option_map, IfOk};
+ghost use Rattle.sj_owned.specs.Views.{value_tree};
+ghost use Rattle.std.specs.String.{string_bytes};
+ghost use Rattle.sj_documents.specs.Inverse.{set_member, put_member, add_item};
+ghost use Rattle.sj_documents.specs.Inverses.{change_view};
+ghost use Rattle.sj_scripts.specs.Script.{path_view};
+ghost use Rattle.sj_documents.specs.Step.{write_at, insertion, pushing};
+ghost use Rattle.sj_scripts.specs.Values.{owned_tree};
+ghost use Rattle.sj_documents.specs.inside.Documents.{rewrite_of, undoing, change_of, back_of, is_taken, IsEdited, IsChanged};
+ghost use Rattle.sj_object.specs.Pairs.{value_at};
+
+use crate::inverse::Change;
+use crate::refusal::Refusal;
+use sj_base::{AccessError, DecimalBuf, DecimalCow, TryCopy};
+use sj_object::{Object, ObjectKey};
+use sj_owned::{FromString, Literal, OwnedValue, Value, from_borrowed};
+use sj_scripts::{PathPart, ReadError};
+use std::alloc::{AllocError, Global};
+use std::borrow::CowStr;
+use std::mem;
+
+/// A type of texts for documents whose values are made from owned ones, and owned ones from them, with `D` as type of
+/// literals.
+pub trait ScriptText<D: Literal>: FromString {
+    /// Converts a value that owns its texts. These are moved.
+    ///
+    /// # Errors
+    ///
+    /// `AllocError` if there is no memory for the new value. The old one is dropped.
+    fn from_owned(alloc: Global, value: OwnedValue) -> Result<Value<Self, D>, AllocError>
+        ensures { IfOk result (λ v. value_tree Self.text D.literal v ≡ owned_tree value) };
+
+    /// Copies a value as one that owns its texts.
+    ///
+    /// # Errors
+    ///
+    /// `AllocError` if there is no memory for the copy.
+    fn to_owned(alloc: Global, value: &Value<Self, D>) -> Result<OwnedValue, AllocError>
+        ensures { IfOk result (λ v. owned_tree v ≡ value_tree Self.text D.literal value.now) };
+}
+
+impl ScriptText<DecimalBuf> for String {
+    fn from_owned(_alloc: Global, value: OwnedValue) -> Result<OwnedValue, AllocError> {
+        Ok(value)
+    }
+
+    fn to_owned(_alloc: Global, value: &OwnedValue) -> Result<OwnedValue, AllocError> {
+        value.try_clone()
+    }
+}
+
+impl<'v> ScriptText<DecimalCow<'v>> for CowStr<'v> {
+    fn from_owned(
+        alloc: Global,
+        value: OwnedValue,
+    ) -> Result<Value<CowStr<'v>, DecimalCow<'v>>, AllocError> {
+        Value::from_owned(alloc, value)
+    }
+
+    fn to_owned(
+        alloc: Global,
+        value: &Value<CowStr<'v>, DecimalCow<'v>>,
+    ) -> Result<OwnedValue, AllocError> {
+        from_borrowed(alloc, value.try_clone()?)
+    }
+}
+
+/// What is done to the part of a document that a path selects.
+#[derive(Drop)]
+pub(crate) enum Edit<'e> {
+    /// The edit of a write command.
+    Write(Write<'e>),
+    /// The change that takes one back. Where it can't be made, it is refused as `NoSuchPath`.
+    Back(Change),
+}
+
+/// The edit of a write command. `fits` is whether the new value is within the limit of levels there.
+#[derive(Clone, Copy)]
+pub(crate) enum Write<'e> {
+    Insert {
+        key: &'e str,
+        value: &'e OwnedValue,
+        fits: bool,
+    },
+    Remove {
+        key: &'e str,
+        /// The place of the key, if it is there.
+        place: usize,
+    },
+    Push {
+        value: &'e OwnedValue,
+        fits: bool,
+    },
+    Pop,
+    Set {
+        value: &'e OwnedValue,
+        fits: bool,
+    },
+}
+
+impl Write<'_> {
+    /// Returns the change that takes the write back. `found` is the value that it replaced or took out.
+    pub(crate) fn inverse(
+        self,
+        alloc: Global,
+        found: Option<OwnedValue>,
+    ) -> Result<Change, AllocError>
+        ensures { IfOk result (λ change. change_view change ≡ back_of self.entry (option_map owned_tree found)) }
+    {
+        match self {
+            Write::Insert { key, .. } => {
+                let key = String::from_str(alloc, key)?;
+                match found {
+                    Some(value) => Ok(Change::SetMember(key, value)),
+                    None => Ok(Change::DropMember(key)),
+                }
+            }
+            Write::Remove { key, place } => match found {
+                Some(value) => {
+                    let key = String::from_str(alloc, key)?;
+                    Ok(Change::PutMember { place, key, value })
+                }
+                None => Ok(Change::Nothing),
+            },
+            Write::Push { .. } => Ok(Change::DropItem),
+            Write::Pop => match found {
+                Some(value) => Ok(Change::AddItem(value)),
+                None => Ok(Change::Nothing),
+            },
+            Write::Set { .. } => match found {
+                Some(value) => Ok(Change::SetPart(value)),
+                None => Ok(Change::Nothing),
+            },
+        }
+    }
+}
+
+/// Whether a path and levels behind it are together within the limit.
+pub(crate) fn is_within(path: &[PathPart], depth: usize, limit: usize) -> bool
+    ensures { result ≡ nat_le (length path.now + depth) limit }
+{
+    match limit.checked_sub(path.len()) {
+        Some(left) => depth <= left,
+        None => false,
+    }
+}
+
+/// The same with one more level between the two.
+pub(crate) fn is_within_below(path: &[PathPart], depth: usize, limit: usize) -> bool
+    ensures { result ≡ nat_le (length path.now + 1 + depth) limit }
+{
+    limit > 0 && is_within(path, depth, limit - 1)
+}
+
+/// Edits the part that the path selects, and returns the value that was replaced or taken out, if any.
+#[cycle(edit_at)]
+pub(crate) fn edit_at<K: ScriptText<D> + Drop, D: Literal + Drop>(
+    alloc: Global,
+    document: &mut Value<K, D>,
+    path: &[PathPart],
+    edit: Edit<'_>,
+) -> Result<Option<Value<K, D>>, ReadError<Refusal>>
+    ensures { IsEdited (value_tree K.text D.literal) result (value_tree K.text D.literal document.old) (value_tree K.text D.literal document.new)
+        (write_at (value_tree K.text D.literal document.old) (path_view path.now) (change_of edit.entry)) }
+{
+    let Some((part, rest)) = path.split_first() else {
+        return edit_part(alloc, document, edit);
+    };
+    match part {
+        PathPart::Key(name) => {
+            let Some(members) = document.as_object_mut() else {
+                return Err(ReadError::Refused(Refusal::NoSuchPath));
+            };
+            match members.get_mut(name) {
+                Some(member) => edit_at(alloc, member, rest, edit),
+                None => Err(ReadError::Refused(Refusal::NoSuchPath)),
+            }
+        }
+        PathPart::Item(place) => {
+            let Some(items) = document.as_array_mut() else {
+                return Err(ReadError::Refused(Refusal::NoSuchPath));
+            };
+            match items.get_mut(*place as usize) {
+                Some(item) => edit_at(alloc, item, rest, edit),
+                None => Err(ReadError::Refused(Refusal::NoSuchPath)),
+            }
+        }
+    }
+}
+
+fn edit_part<K: ScriptText<D> + Drop, D: Literal + Drop>(
+    alloc: Global,
+    part: &mut Value<K, D>,
+    edit: Edit<'_>,
+) -> Result<Option<Value<K, D>>, ReadError<Refusal>>
+    ensures { IsEdited (value_tree K.text D.literal) result (value_tree K.text D.literal part.old) (value_tree K.text D.literal part.new)
+        (change_of edit.entry (value_tree K.text D.literal part.old)) }
+{
+    match edit {
+        Edit::Write(write) => write_part(alloc, part, write),
+        Edit::Back(change) => {
+            if change_part(alloc, part, change)? {
+                Ok(None)
+            } else {
+                Err(ReadError::Refused(Refusal::NoSuchPath))
+            }
+        }
+    }
+}
+
+fn write_part<K: ScriptText<D> + Drop, D: Literal + Drop>(
+    alloc: Global,
+    part: &mut Value<K, D>,
+    write: Write<'_>,
+) -> Result<Option<Value<K, D>>, ReadError<Refusal>>
+    ensures { IsEdited (value_tree K.text D.literal) result (value_tree K.text D.literal part.old) (value_tree K.text D.literal part.new)
+        (rewrite_of write.entry (value_tree K.text D.literal part.old)) }
+{
+    match write {
+        Write::Insert { key, value, fits } => insert_member(alloc, part, key, value, fits),
+        Write::Remove { key, .. } => match part.remove(key) {
+            Ok(old) => Ok(old),
+            Err(_) => Err(ReadError::Refused(Refusal::NotAnObject)),
+        },
+        Write::Push { value, fits } => push_last(alloc, part, value, fits),
+        Write::Pop => match part.pop() {
+            Ok(last) => Ok(last),
+            Err(_) => Err(ReadError::Refused(Refusal::NotAnArray)),
+        },
+        Write::Set { value, fits } => {
+            if !fits {
+                return Err(ReadError::Refused(Refusal::TooDeep));
+            }
+            let new = K::from_owned(alloc, value.try_clone()?)?;
+            Ok(Some(mem::replace(part, new)))
+        }
+    }
+}
+
+fn insert_member<K: ScriptText<D> + Drop, D: Literal + Drop>(
+    alloc: Global,
+    part: &mut Value<K, D>,
+    key: &str,
+    value: &OwnedValue,
+    fits: bool,
+) -> Result<Option<Value<K, D>>, ReadError<Refusal>>
+    ensures { IsEdited (value_tree K.text D.literal) result (value_tree K.text D.literal part.old) (value_tree K.text D.literal part.new)
+        (insertion fits key.now (owned_tree value.now) (value_tree K.text D.literal part.old)) }
+{
+    if !part.is_object() {
+        return Err(ReadError::Refused(Refusal::NotAnObject));
+    }
+    if !fits {
+        return Err(ReadError::Refused(Refusal::TooDeep));
+    }
+    let name = K::from_string(String::from_str(alloc, key)?);
+    let new = K::from_owned(alloc, value.try_clone()?)?;
+    match part.insert(name, new) {
+        Ok(old) => Ok(old),
+        Err(_) => Err(ReadError::Memory),
+    }
+}
+
+fn push_last<K: ScriptText<D> + Drop, D: Literal + Drop>(
+    alloc: Global,
+    part: &mut Value<K, D>,
+    value: &OwnedValue,
+    fits: bool,
+) -> Result<Option<Value<K, D>>, ReadError<Refusal>>
+    ensures { IsEdited (value_tree K.text D.literal) result (value_tree K.text D.literal part.old) (value_tree K.text D.literal part.new)
+        (pushing fits (owned_tree value.now) (value_tree K.text D.literal part.old)) }
+{
+    if !part.is_array() {
+        return Err(ReadError::Refused(Refusal::NotAnArray));
+    }
+    if !fits {
+        return Err(ReadError::Refused(Refusal::TooDeep));
+    }
+    match part.push(K::from_owned(alloc, value.try_clone()?)?) {
+        Ok(()) => Ok(None),
+        Err(_) => Err(ReadError::Memory),
+    }
+}
+
+/// Makes a change of a part, and returns whether it can be made.
+fn change_part<K: ScriptText<D> + Drop, D: Literal + Drop>(
+    alloc: Global,
+    part: &mut Value<K, D>,
+    change: Change,
+) -> Result<bool, AllocError>
+    ensures { IsChanged result (value_tree K.text D.literal part.old) (value_tree K.text D.literal part.new) (change_view change) }
+{
+    match change {
+        Change::Nothing => Ok(true),
+        Change::DropMember(key) => Ok(is_taken(&part.remove(&key))),
+        Change::SetMember(key, value) => set_member(alloc, part, key, value),
+        Change::PutMember { place, key, value } => put_member(alloc, part, place, key, value),
+        Change::DropItem => Ok(is_taken(&part.pop())),
+        Change::AddItem(value) => add_item(alloc, part, value),
+        Change::SetPart(value) => {
+            *part = K::from_owned(alloc, value)?;
+            Ok(true)
+        }
+    }
+}
+
+/// Returns whether a value was taken out.
+fn is_taken<T>(taken: &Result<Option<T>, AccessError>) -> bool
+    ensures { result ≡ is_taken taken.now }
+{
+    matches!(taken, Ok(Some(_)))
+}
+
+fn set_member<K: ScriptText<D> + Drop, D: Literal + Drop>(
+    alloc: Global,
+    part: &mut Value<K, D>,
+    key: String,
+    value: OwnedValue,
+) -> Result<bool, AllocError>
+    ensures { IsChanged result (value_tree K.text D.literal part.old) (value_tree K.text D.literal part.new)
+        (set_member (string_bytes key) (owned_tree value)) }
+{
+    let value = K::from_owned(alloc, value)?;
+    let Some(members) = part.as_object_mut() else {
+        return Ok(false);
+    };
+    match members.get_mut(&key) {
+        Some(member) => {
+            *member = value;
+            Ok(true)
+        }
+        None => Ok(false),
+    }
+}
+
+fn put_member<K: ScriptText<D> + Drop, D: Literal + Drop>(
+    alloc: Global,
+    part: &mut Value<K, D>,
+    place: usize,
+    key: String,
+    value: OwnedValue,
+) -> Result<bool, AllocError>
+    ensures { IsChanged result (value_tree K.text D.literal part.old) (value_tree K.text D.literal part.new)
+        (put_member place (string_bytes key) (owned_tree value)) }
+{
+    let Some(members) = part.as_object_mut() else {
+        return Ok(false);
+    };
+    if !takes_member(members, place, &key) {
+        return Ok(false);
+    }
+    let value = K::from_owned(alloc, value)?;
+    if members
+        .insert_at(place, K::from_string(key), value)
+        .is_err()
+    {
+        return Err(AllocError);
+    }
+    Ok(true)
+}
+
+/// Returns whether a member with this key can be put at a place.
+fn takes_member<K: ObjectKey, D: Literal>(
+    members: &Object<K, Value<K, D>>,
+    place: usize,
+    key: &str,
+) -> bool
+    ensures { result ≡ (not (is_some (value_at K.text members.now key.now)) && nat_le place (length members.now)) }
+{
+    !members.contains_key(key) && place <= members.len()
+}
+
+fn add_item<K: ScriptText<D> + Drop, D: Literal + Drop>(
+    alloc: Global,
+    part: &mut Value<K, D>,
+    value: OwnedValue,
+) -> Result<bool, AllocError>
+    ensures { IsChanged result (value_tree K.text D.literal part.old) (value_tree K.text D.literal part.new)
+        (add_item (owned_tree value)) }
+{
+    if !part.is_array() {
+        return Ok(false);
+    }
+    if part.push(K::from_owned(alloc, value)?).is_err() {
+        return Err(AllocError);
+    }
+    Ok(true)
+}

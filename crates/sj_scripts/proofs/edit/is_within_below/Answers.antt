@@ -1,5 +1,0 @@
-use Rattle.std.proofs.Common.{rules}
-use Rattle.sj_scripts.proofs.edit.is_within_below.Goals as goal
-
-pub returns-then-limit-gt0 : goal.returns-then-limit-gt0
-returns-then-limit-gt0 c = search rules

@@ -1,5 +1,0 @@
-use Rattle.std.proofs.Common.{rules}
-use Rattle.sj_scripts.proofs.reads.put_separator.Goals as goal
-
-pub returns-else-not-is_first : goal.returns-else-not-is_first
-returns-else-not-is_first c = search rules
