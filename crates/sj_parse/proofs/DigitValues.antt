@@ -1,12 +1,12 @@
 -- The value of digits that stand behind others.
-use Rattle.std.specs.Prelude.{◌≡◌, ℕ, zero, suc, ◌+◌, ◌-◌, ◌*◌, ◌<◌, ◌≤◌, true, List, [], ◌∷◌, length, drop}
+use Rattle.std.specs.Prelude.{◌≡◌, ℕ, zero, suc, ◌+◌, ◌-◌, ◌*◌, ◌<◌, ◌≤◌, true, List, [], ◌∷◌, length, take, drop}
 use Rattle.std.specs.Char.{is_ascii_digit, digit_value, IsAsciiDigit}
 use Rattle.std.specs.Str.{all_ascii_digits}
-use Rattle.std.specs.Str.Parse.{digits_value_after}
+use Rattle.std.specs.Str.Parse.{digits_value, digits_value_after}
 use Rattle.std.proofs.Common.{get_or, ap, arith}
 use Rattle.std.proofs.lemmas.Bool.{and_parts}
 use Rattle.std.proofs.lemmas.Str.{digit_value_digit}
-use Rattle.sj_base.proofs.Literals.{from_test}
+use Rattle.sj_base.proofs.Literals.{from_test, AllDigits-from_test, all_digits-from_AllDigits}
 
 pub after-ge : (n : ℕ) (ds : List ℕ) → n ≤ digits_value_after 10 n ds
 after-ge n [] = omega arith
@@ -30,3 +30,26 @@ next n zero (d ∷ ds) some all =
 next n (suc i) (d ∷ ds) some all =
     let p = next n i ds (omega arith) all in
     record { digit = p.digit; others = p.others; value = p.value; at_most = p.at_most }
+
+-- Eight digits more are read.
+pub record NextEight (n : ℕ) (ds : List ℕ) : Type 0 where
+  pub digits : all_ascii_digits (take 8 ds) ≡ true
+  pub others : all_ascii_digits (drop 8 ds) ≡ true
+  pub value : digits_value_after 10 (n * 100000000 + digits_value 10 (take 8 ds)) (drop 8 ds) ≡ digits_value_after 10 n ds
+  pub at_most : n * 100000000 + digits_value 10 (take 8 ds) ≤ digits_value_after 10 n ds
+
+behind : (n a b c d e f g h : ℕ) → n * 100000000 + ((((((((0 * 10 + a) * 10 + b) * 10 + c) * 10 + d) * 10 + e) * 10 + f) * 10 + g) * 10 + h) ≡ (((((((n * 10 + a) * 10 + b) * 10 + c) * 10 + d) * 10 + e) * 10 + f) * 10 + g) * 10 + h
+behind n a b c d e f g h = omega arith
+
+pub next_eight : (n : ℕ) (ds : List ℕ) → 8 ≤ length ds → all_ascii_digits ds ≡ true → NextEight n ds
+next_eight n (a ∷ b ∷ c ∷ d ∷ e ∷ f ∷ g ∷ h ∷ ds) many all =
+    let k = AllDigits-from_test (a ∷ b ∷ c ∷ d ∷ e ∷ f ∷ g ∷ h ∷ ds) all in
+    let value : digits_value_after 10 (n * 100000000 + digits_value 10 (a ∷ b ∷ c ∷ d ∷ e ∷ f ∷ g ∷ h ∷ [])) ds ≡ digits_value_after 10 n (a ∷ b ∷ c ∷ d ∷ e ∷ f ∷ g ∷ h ∷ ds) =
+    ap (λ (x : ℕ). digits_value_after 10 x ds) (behind n (digit_value a) (digit_value b) (digit_value c) (digit_value d) (digit_value e) (digit_value f) (digit_value g) (digit_value h)) in
+    record {
+      digits = all_digits-from_AllDigits (a ∷ b ∷ c ∷ d ∷ e ∷ f ∷ g ∷ h ∷ []) (k.0, (k.1.0, (k.1.1.0, (k.1.1.1.0, (k.1.1.1.1.0, (k.1.1.1.1.1.0, (k.1.1.1.1.1.1.0, (k.1.1.1.1.1.1.1.0, tt))))))));
+      others = all_digits-from_AllDigits ds k.1.1.1.1.1.1.1.1;
+      value = value;
+      at_most = omega (arith, value, after-ge (n * 100000000 + digits_value 10 (a ∷ b ∷ c ∷ d ∷ e ∷ f ∷ g ∷ h ∷ [])) ds);
+    }
+next_eight n ds many all = absurd (omega arith)

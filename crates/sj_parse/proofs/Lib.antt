@@ -8,6 +8,7 @@ pub mod LanePlaces
 pub mod NumberLemmas
 pub mod PlainNumbers
 pub mod DigitValues
+pub mod DigitWords
 pub mod EscapeForms
 pub mod FormSteps
 pub mod StringLemmas

@@ -10,7 +10,25 @@ pub(crate) fn value_of(digits: &[u8]) -> u64
     requires few { length digits.now ≤ 19 }
     ensures { result ≡ digits_value 10 digits.now }
 {
-    value_after(0, digits)
+    let mut value = 0;
+    let mut rest = digits;
+    while let Some((word, others)) = rest.split_first_chunk::<8>() {
+        value = value * 100_000_000 + value_of_word(*word);
+        rest = others;
+    }
+    value_after(value, rest)
+}
+
+/// The value of eight digits. Neighbours are joined in lanes of 16, of 32 and of 64 bits, all at once.
+#[inline(always)]
+fn value_of_word(digits: [u8; 8]) -> u64
+    requires { all_ascii_digits digits ≡ true }
+    ensures { result ≡ digits_value 10 digits }
+{
+    let numbers = u64::from_le_bytes(digits) - 0x3030_3030_3030_3030;
+    let pairs = (numbers * 10 + (numbers >> 8)) & 0x00FF_00FF_00FF_00FF;
+    let fours = (pairs * 100 + (pairs >> 16)) & 0x0000_FFFF_0000_FFFF;
+    (fours * 10_000 + (fours >> 32)) & 0xFFFF_FFFF
 }
 
 /// The value of digits that stand behind those of a value.
