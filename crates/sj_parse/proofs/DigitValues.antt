@@ -1,14 +1,21 @@
 -- The value of digits that stand behind others.
-use Rattle.std.specs.Prelude.{◌≡◌, ℕ, zero, suc, ◌+◌, ◌-◌, ◌*◌, ◌<◌, ◌≤◌, true, List, [], ◌∷◌, length, take, drop}
+use Rattle.std.specs.Prelude.{◌≡◌, ℕ, zero, suc, ◌+◌, ◌-◌, ◌*◌, ◌^◌, ◌<◌, ◌≤◌, true, List, [], ◌∷◌, length, take, drop}
 use Rattle.std.specs.Char.{is_ascii_digit, digit_value, IsAsciiDigit}
 use Rattle.std.specs.Str.{all_ascii_digits}
 use Rattle.std.specs.Str.Parse.{digits_value, digits_value_after}
 use Rattle.std.proofs.Common.{get_or, ap, arith}
 use Rattle.std.proofs.lemmas.Bool.{and_parts}
 use Rattle.std.proofs.lemmas.Str.{digit_value_digit}
+use Rattle.std.proofs.lemmas.Str.Parse.{IsNumeralModel, numerals_by_value, tells_all_ascii_digits, digits_value_short}
 use Rattle.sj_base.proofs.Literals.{from_test, AllDigits-from_test, all_digits-from_AllDigits}
 
-pub after-ge : (n : ℕ) (ds : List ℕ) → n ≤ digits_value_after 10 n ds
+pub own : IsNumeralModel (λ ds. all_ascii_digits ds ≡ true) (digits_value 10)
+own = numerals_by_value (λ ds. all_ascii_digits ds ≡ true) tells_all_ascii_digits
+
+pub few_digits : (ds : List ℕ) → all_ascii_digits ds ≡ true → length ds ≤ 19 → digits_value 10 ds < 2 ^ 64
+few_digits ds all few = let small = digits_value_short own ds 19 all few in omega arith
+
+after-ge : (n : ℕ) (ds : List ℕ) → n ≤ digits_value_after 10 n ds
 after-ge n [] = omega arith
 after-ge n (d ∷ ds) = omega (arith, after-ge (n * 10 + digit_value d) ds)
 

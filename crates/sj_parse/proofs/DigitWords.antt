@@ -23,22 +23,22 @@ keep-16 rest high low mask h l =
 
 -- ---- words of lanes, the lowest first
 
-abbrev pub two : ℕ → ℕ → ℕ
+abbrev two : ℕ → ℕ → ℕ
 two a b = b * 4294967296 + a
 
-abbrev pub four : ℕ → ℕ → ℕ → ℕ → ℕ
+abbrev four : ℕ → ℕ → ℕ → ℕ → ℕ
 four a b c d = ((d * 65536 + c) * 65536 + b) * 65536 + a
 
-abbrev pub eight : ℕ → ℕ → ℕ → ℕ → ℕ → ℕ → ℕ → ℕ → ℕ
+abbrev eight : ℕ → ℕ → ℕ → ℕ → ℕ → ℕ → ℕ → ℕ → ℕ
 eight a b c d e f g h = ((((((h * 256 + g) * 256 + f) * 256 + e) * 256 + d) * 256 + c) * 256 + b) * 256 + a
 
-pub joined-2 : (a b : ℕ) → a ≤ 9999 → b ≤ 9999 → bit_and (two a b * 10000 + two a b / 2 ^ 32) 0xffffffff ≡ a * 10000 + b
+joined-2 : (a b : ℕ) → a ≤ 9999 → b ≤ 9999 → bit_and (two a b * 10000 + two a b / 2 ^ 32) 0xffffffff ≡ a * 10000 + b
 joined-2 a b la lb =
     let shifted = shr_high b 32 a (omega arith) in
     let parts : two a b * 10000 + two a b / 2 ^ 32 ≡ b * 10000 * 4294967296 + (a * 10000 + b) = omega (arith, shifted) in
     ap (λ n. bit_and n 0xffffffff) parts ∙ and_mask (b * 10000 * 4294967296 + (a * 10000 + b)) 32 ∙ mod_low (b * 10000) 32 (a * 10000 + b) (omega arith)
 
-pub joined-4 : (a b c d : ℕ) → a ≤ 99 → b ≤ 99 → c ≤ 99 → d ≤ 99 → bit_and (four a b c d * 100 + four a b c d / 2 ^ 16) 0x0000ffff0000ffff ≡ two (a * 100 + b) (c * 100 + d)
+joined-4 : (a b c d : ℕ) → a ≤ 99 → b ≤ 99 → c ≤ 99 → d ≤ 99 → bit_and (four a b c d * 100 + four a b c d / 2 ^ 16) 0x0000ffff0000ffff ≡ two (a * 100 + b) (c * 100 + d)
 joined-4 a b c d la lb lc ld =
     let shifted = shr_high ((d * 65536 + c) * 65536 + b) 16 a (omega arith) in
     let parts : four a b c d * 100 + four a b c d / 2 ^ 16 ≡ (d * 100 * 65536 + (c * 100 + d)) * 4294967296 + ((b * 100 + c) * 65536 + (a * 100 + b)) = omega (arith, shifted) in
@@ -46,7 +46,7 @@ joined-4 a b c d la lb lc ld =
     ∙ keep-16 (d * 100 * 65536 + (c * 100 + d)) (b * 100 + c) (a * 100 + b) 0xffff (omega arith) (omega arith)
     ∙ ap (λ n. n * 4294967296 + (a * 100 + b)) (and_mask (d * 100 * 65536 + (c * 100 + d)) 16 ∙ mod_low (d * 100) 16 (c * 100 + d) (omega arith))
 
-pub joined-8 : (a b c d e f g h : ℕ) → a ≤ 9 → b ≤ 9 → c ≤ 9 → d ≤ 9 → e ≤ 9 → f ≤ 9 → g ≤ 9 → h ≤ 9
+joined-8 : (a b c d e f g h : ℕ) → a ≤ 9 → b ≤ 9 → c ≤ 9 → d ≤ 9 → e ≤ 9 → f ≤ 9 → g ≤ 9 → h ≤ 9
     → bit_and (eight a b c d e f g h * 10 + eight a b c d e f g h / 2 ^ 8) 0x00ff00ff00ff00ff ≡ four (a * 10 + b) (c * 10 + d) (e * 10 + f) (g * 10 + h)
 joined-8 a b c d e f g h la lb lc ld le lf lg lh =
     let shifted = shr_high ((((((h * 256 + g) * 256 + f) * 256 + e) * 256 + d) * 256 + c) * 256 + b) 8 a (omega arith) in
@@ -102,8 +102,8 @@ spelled : (x0 x1 x2 x3 x4 x5 x6 x7 a b c d e f g h : ℕ) → a + 48 ≡ x0 → 
     → from_le_bytes w64 (x0 ∷ x1 ∷ x2 ∷ x3 ∷ x4 ∷ x5 ∷ x6 ∷ x7 ∷ []) ≡ eight a b c d e f g h + 0x3030303030303030
 spelled x0 x1 x2 x3 x4 x5 x6 x7 a b c d e f g h ea eb ec ed ee ef eg eh = omega arith
 
-pub digits_word : (digits : List ℕ) → length digits ≡ 8 → all_ascii_digits digits ≡ true → Word digits
-digits_word (x0 ∷ x1 ∷ x2 ∷ x3 ∷ x4 ∷ x5 ∷ x6 ∷ x7 ∷ []) size all =
+pub word_of_digits : (digits : List ℕ) → length digits ≡ 8 → all_ascii_digits digits ≡ true → Word digits
+word_of_digits (x0 ∷ x1 ∷ x2 ∷ x3 ∷ x4 ∷ x5 ∷ x6 ∷ x7 ∷ []) size all =
     let k = AllDigits-from_test (x0 ∷ x1 ∷ x2 ∷ x3 ∷ x4 ∷ x5 ∷ x6 ∷ x7 ∷ []) all in
     let a = digit x0 k.0 in
     let b = digit x1 k.1.0 in
@@ -118,4 +118,4 @@ digits_word (x0 ∷ x1 ∷ x2 ∷ x3 ∷ x4 ∷ x5 ∷ x6 ∷ x7 ∷ []) size al
       bytes_are = spelled x0 x1 x2 x3 x4 x5 x6 x7 (digit_value x0) (digit_value x1) (digit_value x2) (digit_value x3) (digit_value x4) (digit_value x5) (digit_value x6) (digit_value x7) a.1 b.1 c.1 d.1 e.1 f.1 g.1 h.1;
       steps = rw (digits_value_is 10 (x0 ∷ x1 ∷ x2 ∷ x3 ∷ x4 ∷ x5 ∷ x6 ∷ x7 ∷ [])) (joins (digit_value x0) (digit_value x1) (digit_value x2) (digit_value x3) (digit_value x4) (digit_value x5) (digit_value x6) (digit_value x7) a.0 b.0 c.0 d.0 e.0 f.0 g.0 h.0);
     }
-digits_word digits size all = absurd (omega arith)
+word_of_digits digits size all = absurd (omega arith)

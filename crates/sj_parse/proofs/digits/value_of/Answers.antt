@@ -1,14 +1,10 @@
 use Rattle.std.proofs.Common.{◌∙◌, ap, ap₂, arith}
-use Rattle.std.specs.Prelude.{◌≡◌, ℕ, ◌+◌, ◌*◌, true, List}
+use Rattle.std.specs.Prelude.{ℕ, ◌+◌, ◌*◌, List}
 use Rattle.std.specs.Str.{all_ascii_digits}
 use Rattle.std.specs.Str.Parse.{digits_value, digits_value_after}
-use Rattle.std.proofs.lemmas.Str.Parse.{IsNumeralModel, numerals_by_value, tells_all_ascii_digits, digits_value_short}
-use Rattle.sj_parse.proofs.DigitValues.{next_eight}
+use Rattle.sj_parse.proofs.DigitValues.{few_digits, next_eight}
 use Rattle.sj_parse.proofs.digits.value_of.Goals as goal
 use Rattle.sj_parse.proofs.digits.value_of.Goals.{In-Some}
-
-own : IsNumeralModel (λ ds. all_ascii_digits ds ≡ true) (digits_value 10)
-own = numerals_by_value (λ ds. all_ascii_digits ds ≡ true) tells_all_ascii_digits
 
 pub value_of_word-requires : goal.value_of_word-requires
 value_of_word-requires c =
@@ -18,13 +14,13 @@ value_of_word-requires c =
 pub overflow_mul-value : goal.overflow_mul-value
 overflow_mul-value c =
     let read = next_eight c.loop-word.value c.loop-word.rest.now (omega (arith, c.in-Some.ensures.cases.2)) c.loop-word.invariant.digits in
-    let small = digits_value_short own c.args.digits.now 19 c.requires.digits c.requires.few in
+    let small = few_digits c.args.digits.now c.requires.digits c.requires.few in
     omega (arith, small, read.at_most, c.loop-word.invariant.value)
 
 pub overflow_add-value : goal.overflow_add-value
 overflow_add-value c =
     let read = next_eight c.loop-word.value c.loop-word.rest.now (omega (arith, c.in-Some.ensures.cases.2)) c.loop-word.invariant.digits in
-    let small = digits_value_short own c.args.digits.now 19 c.requires.digits c.requires.few in
+    let small = few_digits c.args.digits.now c.requires.digits c.requires.few in
     omega (arith, small, read.at_most, c.loop-word.invariant.value, c.value_of_word.ensures ∙ ap (digits_value 10) c.in-Some.ensures.cases.0)
 
 pub loop-word-preserved : goal.loop-word-preserved
@@ -38,6 +34,6 @@ loop-word-preserved c =
 
 pub value_after-requires : goal.value_after-requires
 value_after-requires c =
-    let small = digits_value_short own c.args.digits.now 19 c.requires.digits c.requires.few in
+    let small = few_digits c.args.digits.now c.requires.digits c.requires.few in
     let read = c.loop-word.invariant in
     record { digits = read.digits; fits = omega (arith, small, read.value) }

@@ -1,11 +1,11 @@
 use Rattle.std.specs.Prelude.{◌≡◌, ◌+◌, ◌-◌}
 use Rattle.std.proofs.Common.{◌∙◌, arith}
-use Rattle.sj_parse.proofs.DigitWords.{Word, digits_word}
+use Rattle.sj_parse.proofs.DigitWords.{Word, word_of_digits}
 use Rattle.sj_parse.proofs.digits.value_of_word.Goals as goal
 use Rattle.sj_parse.proofs.digits.value_of_word.Goals.{After-from_le_bytes-numbers}
 
 word : (c : After-from_le_bytes-numbers) → Word c.args.digits
-word c = digits_word c.args.digits (omega arith) c.requires
+word c = word_of_digits c.args.digits (omega arith) c.requires
 
 -- The word of the bytes is that of the numbers and that of eight zeros.
 bytes : (c : After-from_le_bytes-numbers) → c.from_le_bytes-numbers.result ≡ (word c).numbers + 0x3030303030303030

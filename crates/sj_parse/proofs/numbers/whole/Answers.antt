@@ -3,12 +3,10 @@ use Rattle.std.specs.Result.{result_ok}
 use Rattle.std.specs.Str.{all_ascii_digits}
 use Rattle.std.specs.Str.Parse.{digits_value, ParsesUnsigned}
 use Rattle.std.proofs.Common.{arith}
-use Rattle.std.proofs.lemmas.Str.Parse.{IsNumeralModel, numerals_by_value, tells_all_ascii_digits, parse_digits}
+use Rattle.std.proofs.lemmas.Str.Parse.{parse_digits}
+use Rattle.sj_parse.proofs.DigitValues.{own}
 use Rattle.sj_parse.proofs.NumberLemmas.{whole-digits}
 use Rattle.sj_parse.proofs.numbers.whole.Goals as goal
-
-own : IsNumeralModel (λ ds. all_ascii_digits ds ≡ true) (digits_value 10)
-own = numerals_by_value (λ ds. all_ascii_digits ds ≡ true) tells_all_ascii_digits
 
 -- what a parsed integer says
 parsed : (E : Type 0) (ds : List ℕ) (r : Result ℕ E) → all_ascii_digits ds ≡ true → 0 < length ds → ParsesUnsigned 64 10 ds r → SomeIff (result_ok r) (digits_value 10 ds < 2 ^ 64) (digits_value 10 ds)
