@@ -7,6 +7,8 @@ pub mod BlockPlaces
 pub mod LanePlaces
 pub mod NumberLemmas
 pub mod PlainNumbers
+pub mod DigitValues
+pub mod DigitWords
 pub mod EscapeForms
 pub mod FormSteps
 pub mod StringLemmas

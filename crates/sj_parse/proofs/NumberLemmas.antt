@@ -1,18 +1,19 @@
 -- The tests on numbers hold of what the grammar calls a number.
-use Rattle.std.specs.Prelude.{◌≡◌, ℕ, zero, suc, ℤ, ◌≤◌, ◌^◌, ◌⊎◌, Bool, true, false, not, ◌||◌, List, [], ◌∷◌, ◌++◌}
+use Rattle.std.specs.Prelude.{◌≡◌, ℕ, zero, suc, ℤ, ◌<◌, ◌≤◌, ◌^◌, ◌⊎◌, Bool, true, false, not, ◌||◌, List, [], ◌∷◌, ◌++◌}
 use Rattle.std.specs.List.{AllByRecursion, list_all}
 use Rattle.std.specs.Char.{is_ascii_digit, IsAsciiDigit}
+use Rattle.std.specs.Str.{all_ascii_digits}
 use Rattle.std.specs.Str.Parse.{digits_value}
 use Rattle.std.proofs.Common.{refl, sym, ap, ap₂, ◌∙◌, subst, inl, inr, arith, append-nil}
-use Rattle.std.proofs.lemmas.Bool.{and_right, lt-leb, and_parts, and_from, or_cases, or_left, or_right, or_from, false_from_ne_true, agree_below_at, leb-true, le-leb, ltb-true, lt-ltb}
+use Rattle.std.proofs.lemmas.Bool.{and_right, lt-leb, and_parts, and_from, or_cases, or_left, or_right, or_from, false_from_ne_true, agree_below_at, leb-true, le-leb, ltb-true, lt-ltb, le-ltb, cases_Bool}
 use Rattle.sj_base.specs.Tree.{IsInRange, integer, decimal}
 use Rattle.sj_base.specs.Number.{minus, signed, SpellsInteger}
 use Rattle.sj_base.specs.Spelling.{SpellsValue}
-use Rattle.sj_base.proofs.NumberBytes.{IsInNumber, integer_parts, no_decimal, integer_bytes, decimal_bytes, number_first}
+use Rattle.sj_base.proofs.NumberBytes.{IsInNumber, integer_parts, no_decimal, integer_bytes, decimal_bytes, number_first, whole_digits}
 use Rattle.sj_base.specs.NumberTests.{is_negative, magnitude, is_whole, is_decimal, is_in_range, is_integer, integer_value, is_number}
 use Rattle.sj_parse.specs.inside.Trees.{number_tree}
 use Rattle.sj_parse.specs.inside.WordBytes.{is_word_byte}
-use Rattle.sj_base.proofs.Literals.{to_test, IsWhole-from_is_whole, is_whole-from_IsWhole, sign_parts, sign_of, IsDecimal-from_is_decimal, is_decimal-from_IsDecimal}
+use Rattle.sj_base.proofs.Literals.{to_test, all_digits-from_AllDigits, IsWhole-from_is_whole, is_whole-from_IsWhole, sign_parts, sign_of, IsDecimal-from_is_decimal, is_decimal-from_IsDecimal}
 
 -- ---- integers
 
@@ -53,12 +54,26 @@ is_integer-from_SpellsInteger n bs h range =
 pub is_integer-decimal : (bs : List ℕ) → is_decimal bs ≡ true → is_integer bs ≡ false
 is_integer-decimal bs e = false_from_ne_true (is_integer bs) (λ i. no_decimal (integer_value bs) bs (SpellsInteger-from_is_integer bs i).0 (IsDecimal-from_is_decimal bs e))
 
--- A whole number below the range is no number.
+-- A whole number out of range is no number.
+pub is_number-out : (bs : List ℕ) → is_whole (magnitude bs) ≡ true → is_in_range (is_negative bs) (digits_value 10 (magnitude bs)) ≡ false → is_number bs ≡ false
+is_number-out bs whole out =
+    or_from (is_integer bs) (is_decimal bs)
+    (and_right (is_whole (magnitude bs)) (is_in_range (is_negative bs) (digits_value 10 (magnitude bs))) out)
+    (false_from_ne_true (is_decimal bs) (λ d. no_decimal (integer_value bs) bs (SpellsInteger-from_is_whole bs whole) (IsDecimal-from_is_decimal bs d)))
+
 pub is_number-below : (bs : List ℕ) → is_negative bs ≡ true → is_whole (magnitude bs) ≡ true → (digits_value 10 (magnitude bs) ≤ 2 ^ 63 → ⊥) → is_number bs ≡ false
 is_number-below bs negative whole large =
-    or_from (is_integer bs) (is_decimal bs)
-    (and_right (is_whole (magnitude bs)) (is_in_range (is_negative bs) (digits_value 10 (magnitude bs))) (ap (λ b. is_in_range b (digits_value 10 (magnitude bs))) negative ∙ lt-leb (digits_value 10 (magnitude bs)) (2 ^ 63) (omega arith)))
-    (false_from_ne_true (is_decimal bs) (λ d. no_decimal (integer_value bs) bs (SpellsInteger-from_is_whole bs whole) (IsDecimal-from_is_decimal bs d)))
+    is_number-out bs whole (ap (λ b. is_in_range b (digits_value 10 (magnitude bs))) negative ∙ lt-leb (digits_value 10 (magnitude bs)) (2 ^ 63) (omega arith))
+
+pub is_number-above : (bs : List ℕ) → is_whole (magnitude bs) ≡ true → (digits_value 10 (magnitude bs) < 2 ^ 64 → ⊥) → is_number bs ≡ false
+is_number-above bs whole large = elim (cases_Bool (is_negative bs)) [
+  | inl e ↦ is_number-below bs e whole (λ le. large (omega (arith, le)))
+  | inr e ↦ is_number-out bs whole (ap (λ b. is_in_range b (digits_value 10 (magnitude bs))) e ∙ le-ltb (digits_value 10 (magnitude bs)) (2 ^ 64) (omega arith))
+]
+
+-- a whole number is digits
+pub whole-digits : (ds : List ℕ) → is_whole ds ≡ true → all_ascii_digits ds ≡ true
+whole-digits ds e = all_digits-from_AllDigits ds (whole_digits ds (IsWhole-from_is_whole ds e))
 
 -- ---- numbers and their trees
 

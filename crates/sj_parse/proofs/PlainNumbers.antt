@@ -1,17 +1,19 @@
 -- Numbers without an exponent that stand as whole words.
-use Rattle.std.specs.Prelude.{◌≡◌, ℕ, ◌+◌, ◌-◌, ◌<◌, ◌≤◌, ◌||◌, Bool, true, false, not, cond, List, [], ◌∷◌, ◌++◌, length, take, drop, if◌then◌else◌}
+use Rattle.std.specs.Prelude.{◌≡◌, ℕ, ◌+◌, ◌-◌, ◌<◌, ◌≤◌, ◌||◌, ◌==◌, Bool, true, false, not, cond, List, [], ◌∷◌, ◌++◌, length, take, drop, if◌then◌else◌}
 use Rattle.std.specs.List.{AllByRecursion}
 use Rattle.std.specs.Char.{is_ascii_digit, IsAsciiDigit}
 use Rattle.std.specs.Str.{all_ascii_digits}
+use Rattle.std.specs.Str.Parse.{digits_value}
 use Rattle.std.proofs.Common.{refl, sym, ap, ap₂, ◌∙◌, arith, inl, inr, take_at, take-append-drop, append_assoc, append-nil, length-append}
-use Rattle.std.proofs.lemmas.Bool.{agree_below_at, not-true}
+use Rattle.std.proofs.lemmas.Bool.{true≢false, agree_below_at, not-true, and_parts, cases_Bool, eqb-true}
 use Rattle.std.proofs.lemmas.List.{length-take-le}
 use Rattle.sj_base.specs.Number.{minus, IsDecimal}
-use Rattle.sj_base.specs.NumberTests.{front_digits, is_whole, is_decimal}
-use Rattle.sj_base.proofs.Literals.{to_test, AllDigits-from_test, front_digits-all, IsWhole-from_is_whole, is_decimal-from_IsDecimal}
+use Rattle.sj_base.specs.NumberTests.{front_digits, is_negative, magnitude, is_whole, is_in_range, is_integer, is_decimal}
+use Rattle.sj_base.proofs.Literals.{from_test, to_test, AllDigits-from_test, front_digits-all, IsWhole-from_is_whole, is_decimal-from_IsDecimal}
 use Rattle.sj_scan.specs.Positions.{is_whitespace, is_operator}
 use Rattle.sj_parse.specs.Atoms.{ends_word}
 use Rattle.sj_parse.specs.Token.{word}
+use Rattle.sj_parse.proofs.NumberLemmas.{whole-digits}
 
 -- It ends no word.
 IsInside : ℕ → Type 0
@@ -58,6 +60,53 @@ front_is_word bytes xs rest n parts size inside ends =
 
 front_all : (n : ℕ) (bs : List ℕ) → take n bs ≡ front_digits bs → AllByRecursion IsAsciiDigit (take n bs)
 front_all n bs digits = AllDigits-from_test (take n bs) (ap all_ascii_digits digits ∙ front_digits-all bs)
+
+-- ---- where a word is an integer
+
+magnitude-word : (bs : List ℕ) → magnitude (word bs) ≡ word (magnitude bs)
+magnitude-word [] = refl
+magnitude-word (b ∷ bs) = elim (cases_Bool (b == 0x2d)) [
+  | inl e ↦ rw (eqb-true b 0x2d e) refl
+  | inr e ↦ elim (cases_Bool (is_whitespace b || is_operator b)) [
+    | inl stop ↦ rw e (rw stop refl)
+    | inr goes_on ↦ rw e (rw goes_on (rw e refl))
+  ]
+]
+
+-- a word of digits: the digits in front, before the end of a word
+digits_word : (m : List ℕ) → AllByRecursion IsAsciiDigit (word m) → (front_digits m ≡ word m) × (ends_word (drop (length (word m)) m) ≡ true)
+unfolding IsInside
+digits_word [] h = (refl, refl)
+digits_word (b ∷ bs) h = elim (cases_Bool (is_whitespace b || is_operator b)) [
+  | inl stop ↦ elim (cases_Bool (is_ascii_digit b)) [
+    | inl digit ↦ absurd (true≢false (sym stop ∙ inside-digit b (from_test b digit)))
+    | inr other ↦ rw stop (rw other (refl, stop))
+  ]
+  | inr goes_on ↦
+      let k = rw goes_on at h in
+      let more = digits_word bs k.1 in
+      rw goes_on (rw (to_test b k.0) (ap (λ (xs : List ℕ). b ∷ xs) more.0, more.1))
+]
+
+-- a word that is an integer: a whole number, before the end of a word
+pub integer_word : (bytes m : List ℕ) (n : ℕ) → m ≡ magnitude bytes → n ≤ length m → take n m ≡ front_digits m → is_integer (word bytes) ≡ true
+    → (is_whole (take n m) ≡ true) × (ends_word (drop n m) ≡ true)
+integer_word bytes m n parts within digits e =
+    let p = and_parts (is_whole (magnitude (word bytes))) (is_in_range (is_negative (word bytes)) (digits_value 10 (magnitude (word bytes)))) e in
+    let whole : is_whole (word m) ≡ true = ap (λ (xs : List ℕ). is_whole (word xs)) parts ∙ sym (ap is_whole (magnitude-word bytes)) ∙ p.0 in
+    let found = digits_word m (AllDigits-from_test (word m) (whole-digits (word m) whole)) in
+    let same : take n m ≡ word m = digits ∙ found.0 in
+    let size : n ≡ length (word m) = sym (length-take-le n m within) ∙ ap length same in
+    (ap is_whole same ∙ whole, ap (λ (k : ℕ). ends_word (drop k m)) size ∙ found.1)
+
+-- and the other way round
+pub whole_word : (bytes m : List ℕ) (n : ℕ) → m ≡ magnitude bytes → n ≤ length m → take n m ≡ front_digits m → is_whole (take n m) ≡ true → ends_word (drop n m) ≡ true
+    → is_whole (magnitude (word bytes)) ≡ true
+whole_word bytes m n parts within digits whole ends =
+    let same : take n m ≡ word m = front_is_word m (take n m) (drop n m) n (sym (take-append-drop n m)) (sym (length-take-le n m within)) (inside-digits (take n m) (front_all n m digits)) ends in
+    ap is_whole (magnitude-word bytes ∙ ap word (sym parts) ∙ sym same) ∙ whole
+
+-- ---- plain numbers
 
 -- a sign and digits, before the end of a word
 pub plain_whole : (bytes : List ℕ) (negative : Bool) (m : List ℕ) (k n : ℕ) → bytes ≡ minus negative ++ m → k ≡ length bytes - length m → n ≤ length m → take n m ≡ front_digits m → ends_word (drop n m) ≡ true → take (k + n) bytes ≡ word bytes

@@ -11,6 +11,7 @@ mod bytes;
 mod characters;
 mod containers;
 mod deserializer;
+mod digits;
 mod escapes;
 pub mod laws;
 mod numbers;

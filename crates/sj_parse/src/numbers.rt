@@ -1,24 +1,49 @@
 //! Numbers: an integer by its value, any other by its text.
-ghost use Rattle.std.specs.Prelude.{◌≡◌, ◌<◌, ◌≤◌, ◌^◌, true, false, pos, neg_ℤ, length, take, MatchOption, IfSome, SomeIff};
+ghost use Rattle.std.specs.Prelude.{◌≡◌, ◌<◌, ◌≤◌, ◌^◌, true, false, pos, neg_ℤ, length, take, MatchOption, IfSome, IfNone, SomeIff};
 ghost use Rattle.std.specs.Str.{all_ascii_digits};
 ghost use Rattle.sj_parse.specs.Token.{word};
 ghost use Rattle.std.specs.Str.Parse.{digits_value};
 ghost use Rattle.sj_base.specs.NumberTests.{is_negative, magnitude, is_whole, is_decimal, is_number};
-ghost use Rattle.sj_parse.specs.inside.NumberNode.{IsNumberNode};
+ghost use Rattle.sj_parse.specs.inside.NumberNode.{IsNumberNode, HasShape};
 
 use crate::atoms::ends_word;
+use crate::digits::value_of;
 use crate::search::digits_len;
 use sj_base::{Decimal, StaticNode};
 use sj_tape::Node;
 
+/// What is known of a word.
+#[derive(Clone, Copy)]
+pub(crate) enum Shape {
+    /// It is a whole number with a minus or without one, and may be out of range.
+    Whole,
+    /// It is a decimal literal.
+    Decimal,
+    /// It is no integer.
+    Other,
+}
+
 /// Returns the node of a number, or `None` for any other text. An integer with a minus is an `I64`, any other a `U64`.
-pub(crate) fn number<'a>(text: &'a [u8]) -> Option<Node<'a>>
+#[inline(always)]
+pub(crate) fn number<'a>(text: &'a [u8], shape: Shape) -> Option<Node<'a>>
+    requires { HasShape text.now shape }
+    ensures { MatchOption result (is_number text.now ≡ false) (IsNumberNode text.now) }
+{
+    match shape {
+        Shape::Whole => integer(text),
+        Shape::Decimal => Some(Node::Decimal(Decimal::from_bytes_unchecked(text))),
+        Shape::Other => decimal(text),
+    }
+}
+
+// The node of a whole number, where it is in range.
+#[inline(always)]
+fn integer<'a>(text: &'a [u8]) -> Option<Node<'a>>
+    requires { is_whole (magnitude text.now) ≡ true }
     ensures { MatchOption result (is_number text.now ≡ false) (IsNumberNode text.now) }
 {
     let (negative, digits) = split_minus(text);
-    let Some(value) = whole(digits) else {
-        return decimal(text);
-    };
+    let value = whole(digits)?;
     if negative {
         Some(Node::Static(StaticNode::I64(negated(value)?)))
     } else {
@@ -26,34 +51,38 @@ pub(crate) fn number<'a>(text: &'a [u8]) -> Option<Node<'a>>
     }
 }
 
-/// The length of the number that the bytes begin with, and whether it has a fraction, if it stands as a whole word and has no
-/// exponent. A number with a fraction is tested. An integer is not: `01` and `-` are found too.
+/// The length of the number that the bytes begin with, and its shape, if it stands as a whole word and has no exponent.
 #[inline(always)]
-pub(crate) fn plain_number(bytes: &[u8]) -> Option<(usize, bool)>
+pub(crate) fn plain_number(bytes: &[u8]) -> Option<(usize, Shape)>
     ensures within { IfSome result (λ p. p.0 ≤ length bytes.now) }
     ensures word { IfSome result (λ p. take p.0 bytes.now ≡ word bytes.now) }
-    ensures decimal { IfSome result (λ p. p.1 ≡ true → is_decimal (word bytes.now) ≡ true) }
+    ensures shape { IfSome result (λ p. HasShape (word bytes.now) p.1) }
+    ensures none { IfNone result (HasShape (word bytes.now) Shape.Other) }
 {
     let (_, magnitude) = split_minus(bytes);
     let whole = digits_len(magnitude);
     let (digits, behind) = magnitude.split_at(whole);
+    if !is_whole(digits) {
+        return None;
+    }
     let len = bytes.len() - magnitude.len() + whole;
     let Some((b'.', fraction)) = behind.split_first() else {
         return if ends_word(behind) {
-            Some((len, false))
+            Some((len, Shape::Whole))
         } else {
             None
         };
     };
     let places = digits_len(fraction);
-    if places > 0 && is_whole(digits) && ends_word(&fraction[places..]) {
-        Some((len + 1 + places, true))
+    if places > 0 && ends_word(&fraction[places..]) {
+        Some((len + 1 + places, Shape::Decimal))
     } else {
         None
     }
 }
 
 // Whether the digits are `0`, or begin with another one.
+#[inline(always)]
 fn is_whole(digits: &[u8]) -> bool
     requires { all_ascii_digits digits.now ≡ true }
     ensures { result ≡ is_whole digits.now }
@@ -76,19 +105,18 @@ fn split_minus(text: &[u8]) -> (bool, &[u8])
     }
 }
 
-// The value of `0`, or of digits of which the first is another.
+// The value of a whole number, where it is in range.
+#[inline(always)]
 fn whole(digits: &[u8]) -> Option<u64>
-    ensures { SomeIff result
-        ((is_whole digits.now ≡ true) × (digits_value 10 digits.now < 2 ^ 64))
-        (digits_value 10 digits.now) }
+    requires { is_whole digits.now ≡ true }
+    ensures { SomeIff result (digits_value 10 digits.now < 2 ^ 64) (digits_value 10 digits.now) }
 {
-    let Some((first, others)) = digits.split_first() else {
-        return None;
-    };
-    if !first.is_ascii_digit() || (*first == b'0' && !others.is_empty()) {
-        return None;
+    // The largest of them has 20 digits.
+    if digits.len() < 20 {
+        Some(value_of(digits))
+    } else {
+        fast_float::parse_u64(digits).ok()
     }
-    fast_float::parse_u64(digits).ok()
 }
 
 // The number with a minus, where it is in range.

@@ -1,12 +1,12 @@
 //! Strings, numbers and literals, read where they stand in the input.
 ghost use Rattle.std.specs.Prelude.{◌≡◌, ◌≢◌, ℕ, ◌+◌, ◌<◌, ◌≤◌, ◌^◌, ◌∷◌, [], None, Some, true, false, MatchResult, IfErr, IfOk, length, take, drop, slice_index, IsUtf8};
-ghost use Rattle.sj_base.specs.NumberTests.{is_decimal};
 ghost use Rattle.sj_parse.specs.Token.{word};
 ghost use Rattle.sj_parse.specs.Escapes.{bad_escape};
+ghost use Rattle.sj_parse.specs.inside.NumberNode.{HasShape};
 ghost use Rattle.sj_parse.specs.inside.Trees.{decoded};
 ghost use Rattle.sj_parse.specs.inside.Step.{string_body, StopsAt};
 
-use crate::numbers::plain_number;
+use crate::numbers::{Shape, plain_number};
 use crate::search::{plain_len, word_len};
 use crate::stop::Stop;
 use crate::strings::decode;
@@ -72,29 +72,29 @@ pub(crate) fn take_string<'i>(
     Ok((text, behind))
 }
 
-/// The length of the word that begins the bytes, and whether it is known to be a decimal literal.
+/// The length of the word that begins the bytes, and its shape.
 #[inline(always)]
-fn find_word(bytes: &[u8]) -> (usize, bool)
+fn find_word(bytes: &[u8]) -> (usize, Shape)
     ensures within { result.0 ≤ length bytes.now }
     ensures word { take result.0 bytes.now ≡ word bytes.now }
-    ensures decimal { result.1 ≡ true → is_decimal (word bytes.now) ≡ true }
+    ensures shape { HasShape (word bytes.now) result.1 }
 {
     match plain_number(bytes) {
         Some(found) => found,
-        None => (word_len(bytes), false),
+        None => (word_len(bytes), Shape::Other),
     }
 }
 
-/// The word that begins at `skip`, whether it is known to be a decimal literal, and the input behind it.
+/// The word that begins at `skip`, its shape, and the input behind it.
 #[inline(always)]
-pub(crate) fn take_word<'i>(skip: usize, rest: &'i mut [u8]) -> (&'i [u8], bool, &'i mut [u8])
+pub(crate) fn take_word<'i>(skip: usize, rest: &'i mut [u8]) -> (&'i [u8], Shape, &'i mut [u8])
     requires { skip ≤ length rest.old }
     ensures word { result.0.now ≡ word (drop skip rest.entry.now) }
-    ensures decimal { result.1 ≡ true → is_decimal (word (drop skip rest.entry.now)) ≡ true }
+    ensures shape { HasShape (word (drop skip rest.entry.now)) result.1 }
     ensures rest { result.2.now ≡ drop (skip + length (word (drop skip rest.entry.now))) rest.entry.now }
 {
-    let (len, known_decimal) = find_word(&rest[skip..]);
+    let (len, shape) = find_word(&rest[skip..]);
     let (_, from_word) = rest.split_at_mut(skip);
     let (word, behind) = from_word.split_at_mut(len);
-    (word, known_decimal, behind)
+    (word, shape, behind)
 }

@@ -2,8 +2,8 @@
 ghost use Rattle.std.specs.Prelude.{◌≡◌, ◌≢◌, ℕ, List, [], ◌∷◌, ◌++◌, ◌+◌, ◌<◌, ◌≤◌, ◌^◌, ◌⊎◌, IfOk, IfErr, OnOk, MatchResult, Some, None, Ok, Err, true, false, if◌then◌else◌, min, length, drop, slice_index, IsUtf8, vec_len, vec_capacity};
 ghost use Rattle.sj_tape.specs.Nodes.{entries};
 ghost use Rattle.sj_parse.specs.Escapes.{stop};
-ghost use Rattle.sj_base.specs.NumberTests.{is_decimal, is_number};
-ghost use Rattle.sj_parse.specs.inside.NumberNode.{IsNumberNode};
+ghost use Rattle.sj_base.specs.NumberTests.{is_number};
+ghost use Rattle.sj_parse.specs.inside.NumberNode.{IsNumberNode, HasShape};
 ghost use Rattle.sj_parse.specs.Token.{Token};
 ghost use Rattle.sj_parse.specs.Descent.{scalar_stop};
 ghost use Rattle.sj_parse.specs.Nodes.{HaveCarriers};
@@ -21,10 +21,10 @@ ghost use Rattle.sj_parse.specs.inside.Step.{string_body, token_of, left_kind_of
 
 use crate::atoms::{is_valid_false_atom, is_valid_null_atom, is_valid_true_atom};
 use crate::containers::{Frame, add_scalar, close, open};
-use crate::numbers::number;
+use crate::numbers::{Shape, number};
 use crate::scalars::{take_string, take_word};
 use crate::stop::Stop;
-use sj_base::{Decimal, Error, ErrorType, StaticNode};
+use sj_base::{Error, ErrorType, StaticNode};
 use sj_tape::Node;
 
 /// What may come next.
@@ -179,15 +179,12 @@ fn node_if(
 
 /// The node of the number that the word is.
 #[inline(always)]
-fn number_node<'i>(place: usize, word: &'i [u8], known_decimal: bool) -> Result<Node<'i>, Stop>
-    requires { known_decimal ≡ true → is_decimal word.now ≡ true }
+fn number_node<'i>(place: usize, word: &'i [u8], shape: Shape) -> Result<Node<'i>, Stop>
+    requires { HasShape word.now shape }
     ensures { MatchResult result (IsNumberNode word.now)
         (λ s. (is_number word.now ≡ false) × (s ≡ stop ErrorType.InvalidNumber place)) }
 {
-    if known_decimal {
-        return Ok(Node::Decimal(Decimal::from_bytes_unchecked(word)));
-    }
-    number(word).ok_or(Stop {
+    number(word, shape).ok_or(Stop {
         kind: ErrorType::InvalidNumber,
         place,
     })
@@ -230,8 +227,8 @@ fn read_value<'i>(
             Ok((add_scalar(Node::Static(node), nodes, stack), rest))
         }
         Opening::Number => {
-            let (word, known_decimal, behind) = take_word(skip, rest);
-            let node = number_node(place, word, known_decimal)?;
+            let (word, shape, behind) = take_word(skip, rest);
+            let node = number_node(place, word, shape)?;
             Ok((add_scalar(node, nodes, stack), behind))
         }
         Opening::Nothing => Err(Stop {

@@ -42,7 +42,7 @@ returns-in_err-node-in-Number-clause-steps c = λ ws before es st.
     let p = err_from_is_err_and c.from_residual-in_err-node-in-Number.result c.from_residual-in_err-node-in-Number.ensures.1 in
     let b = c.in-Number.ensures in
     let none = c.in_err-node-in-Number.ensures in
-    let bad = word_fault c.args.place c.args.skip before c.args.rest.now c.requires.within _ b.2 c.take_word-known_decimal.ensures.word none.0 in
+    let bad = word_fault c.args.place c.args.skip before c.args.rest.now c.requires.within _ b.2 c.take_word-shape.ensures.word none.0 in
     rw (p.1, p.2, none.1) (scalar_stops c.args.place c.args.skip before c.args.rest.now c.requires.within c.args.limit c.args.unexpected ws _ b.0 b.1 (number_begins _ b.2) bad)
 
 pub returns-in_ok-open-in-Array-clause-steps : goal.returns-in_ok-open-in-Array-clause-steps
@@ -85,7 +85,7 @@ pub returns-in_ok-node-in-Number-clause-steps : goal.returns-in_ok-node-in-Numbe
 returns-in_ok-node-in-Number-clause-steps c = λ ws before es st.
     let b = c.in-Number.ensures in
     let t = the_token c.args.place c.args.skip before c.args.rest.now c.requires.within in
-    let node = word_node c.args.place c.args.skip before c.args.rest.now c.requires.within _ c.in_ok-node-in-Number.node b.2 c.take_word-known_decimal.ensures.word c.in_ok-node-in-Number.ensures in (
+    let node = word_node c.args.place c.args.skip before c.args.rest.now c.requires.within _ c.in_ok-node-in-Number.node b.2 c.take_word-shape.ensures.word c.in_ok-node-in-Number.ensures in (
       after_value ws (token_tree t),
       c.add_scalar-in-Number.ensures.at ws (token_tree t) es st node.lists,
       scalar_reads c.args.place c.args.skip before c.args.rest.now c.requires.within c.args.limit c.args.unexpected ws c.in_ok-node-in-Number.node b.0 b.1 (number_begins _ b.2) node,
@@ -99,6 +99,6 @@ returns-in-Nothing-clause-steps c = λ ws before es st.
 pub returns-in_ok-node-in-Number-clause-rest : goal.returns-in_ok-node-in-Number-clause-rest
 returns-in_ok-node-in-Number-clause-rest c = λ before. (
   c.args.skip + length (word (drop c.args.skip c.args.rest.now)),
-  c.take_word-known_decimal.ensures.rest,
-  word_reach c.args.place c.args.skip before c.args.rest.now c.requires.within _ c.in_ok-node-in-Number.node c.in-Number.ensures.2 c.take_word-known_decimal.ensures.word c.in_ok-node-in-Number.ensures,
+  c.take_word-shape.ensures.rest,
+  word_reach c.args.place c.args.skip before c.args.rest.now c.requires.within _ c.in_ok-node-in-Number.node c.in-Number.ensures.2 c.take_word-shape.ensures.word c.in_ok-node-in-Number.ensures,
 )

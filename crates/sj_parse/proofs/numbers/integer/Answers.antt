@@ -1,0 +1,17 @@
+use Rattle.std.specs.Prelude.{◌≡◌, true}
+use Rattle.std.proofs.Common.{sym, ◌∙◌, arith}
+use Rattle.sj_base.specs.NumberTests.{is_negative}
+use Rattle.sj_parse.proofs.NumberLemmas.{is_number-below, is_number-above}
+use Rattle.sj_parse.proofs.numbers.integer.Goals as goal
+
+pub returns-in_err-value : goal.returns-in_err-value
+returns-in_err-value c =
+    let large = rw c.split_minus-negative.ensures.magnitude at c.in_err-value.ensures in
+    rw c.from_residual.ensures (is_number-above c.args.text.now c.requires large)
+
+pub returns-in_err-negated : goal.returns-in_err-negated
+returns-in_err-negated c =
+    let parts = c.split_minus-negative.ensures in
+    let found = rw parts.magnitude at c.in_ok-value.ensures in
+    let negative : is_negative c.args.text.now ≡ true = sym parts.negative ∙ c.if-negative.true in
+    rw c.from_residual-in_err-negated.ensures (is_number-below c.args.text.now negative c.requires (λ le. c.in_err-negated.ensures (omega (arith, found, le))))
