@@ -8,11 +8,11 @@ ghost use Rattle.sj_owned.specs.Views.{value_tree};
 
 use sj_base::{TryCopy, ValueType};
 use sj_keys::{KnownKey, KnownKeyError, KnownKeyTarget, KnownKeyTargetMut};
-use sj_object::Object;
+use sj_object::{Object, ObjectKey};
 use sj_owned::{FromString, Literal, OwnedValue, Value as Document};
 use sj_reads::{ValueAsScalar, ValueGetScalar};
 use sj_values::{BorrowedValue, to_borrowed_value};
-use std::alloc::Global;
+use std::alloc::{AllocError, Global};
 use std::borrow::CowStr;
 use std::fmt::Debug;
 use std::process::Abort;
@@ -59,35 +59,65 @@ fn number_at<'v>(
     Ok(found.as_u64())
 }
 
-#[test]
-fn lookup_or_insert(rt: HostRuntime) -> Result<(), Fail> {
-    let alloc = rt.alloc();
-    let mut text = br#"{"key":1}"#.to_vec(alloc)?;
-    let mut document = to_borrowed_value(alloc, &mut text)?;
-    for (key, value, wanted) in [("key", 2u64, 1), ("cake", 3, 3), ("cake", 4, 3)] {
-        let found = number_at(alloc, &mut document, key, BorrowedValue::from(value))?;
-        expect_eq(&rt, found, Some(wanted));
-    }
+// Fails unless this is the compact text of the document.
+fn expect_text<K: ObjectKey, D: Literal>(
+    rt: &impl Abort,
+    alloc: Global,
+    document: &Document<K, D>,
+    text: &str,
+) -> Result<(), AllocError> {
     let mut out = Vec::new(alloc);
     document.encode(&mut out)?;
-    expect_eq(&rt, out.as_slice(), br#"{"key":1,"cake":3}"#.as_slice());
+    assert_eq!(rt; out.as_slice(), text.as_bytes());
+    Ok(())
+}
+
+// Looks up a key of {"key":1}, and one that is new.
+fn expect_numbers(
+    rt: &impl Abort,
+    alloc: Global,
+    document: &mut BorrowedValue<'_>,
+) -> Result<(), Fail> {
+    for (key, value, wanted) in [("key", 2u64, 1), ("cake", 3, 3), ("cake", 4, 3)] {
+        let found = number_at(alloc, document, key, BorrowedValue::from(value))?;
+        expect_eq(rt, found, Some(wanted));
+    }
+    expect_text(rt, alloc, document, r#"{"key":1,"cake":3}"#)?;
+    Ok(())
+}
+
+#[test]
+fn lookup_or_insert(rt: HostRuntime) -> Result<(), Fail> {
+    let mut text = *br#"{"key":1}"#;
+    expect_numbers(
+        &rt,
+        rt.alloc(),
+        &mut to_borrowed_value(rt.alloc(), &mut text)?,
+    )
+}
+
+#[test]
+fn lookup_of_no_object(rt: HostRuntime) {
     let mut null = BorrowedValue::null();
-    let refused = number_at(alloc, &mut null, "key", BorrowedValue::from(true));
+    let refused = number_at(rt.alloc(), &mut null, "key", BorrowedValue::from(true));
     expect_eq(
         &rt,
         refused.err(),
         Some(KnownKeyError::NotAnObject(ValueType::Null)),
     );
-    Ok(())
+}
+
+// Whether a copy of the one key equals the other.
+fn is_copy_equal(key: &KnownKey<'_>, other: &KnownKey<'_>) -> Result<bool, AllocError> {
+    Ok(key.try_clone()? == *other)
 }
 
 #[test]
 fn keys(rt: HostRuntime) -> Result<(), Fail> {
-    let alloc = rt.alloc();
     let key = KnownKey::from("Aa");
-    let owned = KnownKey::from(String::from_str(alloc, "Aa")?);
+    let owned = KnownKey::from(String::from_str(rt.alloc(), "Aa")?);
     assert!(rt; key == owned && KnownKey::from(CowStr::Borrowed("Aa")) == owned);
-    assert!(rt; key.try_clone()? == key && owned.try_clone()? == key);
+    assert!(rt; is_copy_equal(&key, &key)? && is_copy_equal(&owned, &key)?);
     // "Aa" and "BB" have the same hash.
     assert!(rt; key != KnownKey::from("BB") && key != KnownKey::from(""));
     let (CowStr::Borrowed("Aa"), CowStr::Owned(text)) = (key.key(), owned.key()) else {
@@ -97,57 +127,81 @@ fn keys(rt: HostRuntime) -> Result<(), Fail> {
     Ok(())
 }
 
-#[test]
-fn written_members(rt: HostRuntime) -> Result<(), Fail> {
-    let alloc = rt.alloc();
-    let mut text = br#"{"a":1,"b":2}"#.to_vec(alloc)?;
-    let mut document = to_borrowed_value(alloc, &mut text)?;
-    let key = KnownKey::from("b");
-    key.lookup(&document).ok_or("no member")?;
-    write_document(&mut document, &key, BorrowedValue::from(3u8));
-    expect_eq(&rt, document.get_u64("b"), Some(3));
-    *key.lookup_mut(&mut document).ok_or("no member")? = BorrowedValue::from(4u8);
-    expect_eq(&rt, document.get_u64("b"), Some(4));
+// Writes to the member "b" of {"a":1,"b":2}.
+fn expect_written(
+    rt: &impl Abort,
+    document: &mut BorrowedValue<'_>,
+    key: &KnownKey<'_>,
+) -> Result<(), Fail> {
+    key.lookup(document).ok_or("no member")?;
+    write_document(document, key, BorrowedValue::from(3u8));
+    expect_eq(rt, document.get_u64("b"), Some(3));
+    *key.lookup_mut(document).ok_or("no member")? = BorrowedValue::from(4u8);
+    expect_eq(rt, document.get_u64("b"), Some(4));
     let members = document.as_object_mut().ok_or("no object")?;
     *key.map_lookup_mut(members).ok_or("no member")? = BorrowedValue::from(5u8);
     assert!(rt; KnownKey::from("c").map_lookup_mut(members).is_none());
-    expect_eq(&rt, document.get_u64("b"), Some(5));
+    expect_eq(rt, document.get_u64("b"), Some(5));
+    Ok(())
+}
+
+#[test]
+fn written_members(rt: HostRuntime) -> Result<(), Fail> {
+    let mut text = *br#"{"a":1,"b":2}"#;
+    let mut document = to_borrowed_value(rt.alloc(), &mut text)?;
+    expect_written(&rt, &mut document, &KnownKey::from("b"))
+}
+
+#[test]
+fn look_up_in_no_object(rt: HostRuntime) {
+    let key = KnownKey::from("b");
     assert!(rt; key.lookup_mut(&mut BorrowedValue::from(true)).is_none());
+}
+
+// The number that a call hands out.
+fn number_in(old: Option<OwnedValue>) -> Option<u64> {
+    old?.as_u64()
+}
+
+// Inserts the members "b" and "a" into an empty object, and replaces the first twice.
+fn expect_inserted(
+    rt: &impl Abort,
+    alloc: Global,
+    document: &mut OwnedValue,
+    key: &KnownKey<'_>,
+) -> Result<(), Fail> {
+    assert!(rt;
+        key.insert(alloc, document, OwnedValue::from(1u8))?
+            .is_none()
+    );
+    let first = KnownKey::from("a");
+    assert!(rt; first.insert(alloc, document, OwnedValue::null())?.is_none());
+    let old = key.insert(alloc, document, OwnedValue::from(2u8))?;
+    expect_eq(rt, number_in(old), Some(1));
+    let members = document.as_object_mut().ok_or("no object")?;
+    let old = key.map_insert(alloc, members, OwnedValue::from(3u8))?;
+    expect_eq(rt, number_in(old), Some(2));
+    expect_text(rt, alloc, document, r#"{"b":3,"a":null}"#)?;
     Ok(())
 }
 
 #[test]
 fn inserted_members(rt: HostRuntime) -> Result<(), Fail> {
-    let alloc = rt.alloc();
-    let mut document = OwnedValue::object(alloc);
-    let key = KnownKey::from("b");
-    assert!(rt;
-        key.insert(alloc, &mut document, OwnedValue::from(1u8))?
-            .is_none()
-    );
-    let first = KnownKey::from("a");
-    assert!(rt;
-        first
-            .insert(alloc, &mut document, OwnedValue::null())?
-            .is_none()
-    );
-    let old = key.insert(alloc, &mut document, OwnedValue::from(2u8))?;
-    expect_eq(&rt, old.ok_or("no old value")?.as_u64(), Some(1));
-    let members = document.as_object_mut().ok_or("no object")?;
-    let old = key.map_insert(alloc, members, OwnedValue::from(3u8))?;
-    expect_eq(&rt, old.ok_or("no old value")?.as_u64(), Some(2));
-    let mut out = Vec::new(alloc);
-    document.encode(&mut out)?;
-    expect_eq(&rt, out.as_slice(), br#"{"b":3,"a":null}"#.as_slice());
+    let mut document = OwnedValue::object(rt.alloc());
+    expect_inserted(&rt, rt.alloc(), &mut document, &KnownKey::from("b"))
+}
+
+#[test]
+fn insert_into_no_object(rt: HostRuntime) {
     let mut number = OwnedValue::from(7u8);
-    let refused = key.insert(alloc, &mut number, OwnedValue::null());
+    let key = KnownKey::from("b");
+    let refused = key.insert(rt.alloc(), &mut number, OwnedValue::null());
     expect_eq(
         &rt,
         refused.err(),
         Some(KnownKeyError::NotAnObject(ValueType::U64)),
     );
     expect_eq(&rt, number.as_u64(), Some(7));
-    Ok(())
 }
 
 // A closure is called for a new key alone, and not where there is no memory.

@@ -1,84 +1,137 @@
 //! Of `sj_owned` and `sj_values`: documents that are read from bytes, with ample memory.
-use super::{expect_eq, expect_text};
+use super::{expect_eq, expect_text, on_borrowed, owned_of};
 use sj_base::{DecimalCow, ErrorType, ValueType};
 use sj_owned::{
-    OwnedDeserializer, OwnedValue, Value, deserialize, deserialize_with_buffers, to_owned_value,
+    OwnedDeserializer, OwnedValue, Value, deserialize, deserialize_with_buffers,
     to_owned_value_with_buffers,
 };
 use sj_parse::{Buffers, Deserializer};
-use sj_values::{BorrowDeserializer, to_borrowed_value, to_borrowed_value_with_buffers};
+use sj_values::{BorrowDeserializer, BorrowedValue, to_borrowed_value_with_buffers};
+use std::alloc::Global;
 use std::borrow::CowStr;
+use std::process::Abort;
 use std::test::Fail;
 
 #[test]
 fn read_by_their_own_buffers(rt: HostRuntime) -> Result<(), Fail> {
     let alloc = rt.alloc();
-    let mut text = br#"{"a":1,"a":2}"#.to_vec(alloc)?;
-    expect_text(&rt, alloc, &to_owned_value(alloc, &mut text)?, r#"{"a":1}"#)?;
-    let mut text = br#"{"some": ["key", "value", 2]}"#.to_vec(alloc)?;
-    let value = to_borrowed_value(alloc, &mut text)?;
-    expect_text(&rt, alloc, &value, r#"{"some":["key","value",2]}"#)?;
-    let mut text = b"[1.50]".to_vec(alloc)?;
+    let value = owned_of(alloc, r#"{"a":1,"a":2}"#)?;
+    expect_text(&rt, alloc, &value, r#"{"a":1}"#)?;
+    Ok(())
+}
+
+#[test]
+fn borrowed_by_their_own_buffers(rt: HostRuntime) -> Result<(), Fail> {
+    let alloc = rt.alloc();
+    on_borrowed(alloc, r#"{"some": ["key", "value", 2]}"#, |value| {
+        expect_text(&rt, alloc, value, r#"{"some":["key","value",2]}"#)?;
+        Ok(())
+    })
+}
+
+#[test]
+fn built_by_their_own_buffers(rt: HostRuntime) -> Result<(), Fail> {
+    let alloc = rt.alloc();
+    let mut text = *b"[1.50]";
     let value = deserialize::<OwnedValue, String>(alloc, &mut text)?;
     expect_text(&rt, alloc, &value, "[1.50]")?;
     Ok(())
 }
 
+fn expect_owned(rt: &impl Abort, alloc: Global, buffers: &mut Buffers) -> Result<(), Fail> {
+    let mut text = *br#"["a"]"#;
+    let value = to_owned_value_with_buffers(alloc, &mut text, buffers)?;
+    expect_text(rt, alloc, &value, r#"["a"]"#)?;
+    Ok(())
+}
+
+fn expect_borrowed(rt: &impl Abort, alloc: Global, buffers: &mut Buffers) -> Result<(), Fail> {
+    let mut text = *br#"["\u0061"]"#;
+    let value = to_borrowed_value_with_buffers(alloc, &mut text, buffers)?;
+    expect_text(rt, alloc, &value, r#"["a"]"#)?;
+    Ok(())
+}
+
+fn expect_built(rt: &impl Abort, alloc: Global, buffers: &mut Buffers) -> Result<(), Fail> {
+    let mut text = *b"7";
+    let value = deserialize_with_buffers::<OwnedValue, String>(alloc, &mut text, buffers)?;
+    expect_text(rt, alloc, &value, "7")?;
+    Ok(())
+}
+
+fn expect_refused(rt: &impl Abort, alloc: Global, buffers: &mut Buffers) -> Result<(), Fail> {
+    let mut text = *b"[[]]";
+    let error = to_owned_value_with_buffers(alloc, &mut text, buffers).err();
+    expect_eq(rt, error.ok_or("no error")?.error(), ErrorType::Syntax);
+    Ok(())
+}
+
+// One after the other in the same buffers, of one level.
 #[test]
 fn read_by_buffers(rt: HostRuntime) -> Result<(), Fail> {
     let alloc = rt.alloc();
     let mut buffers = Buffers::with_max_depth(alloc, 0, 1)?;
-    let mut text = br#"["a"]"#.to_vec(alloc)?;
-    let value = to_owned_value_with_buffers(alloc, &mut text, &mut buffers)?;
-    expect_text(&rt, alloc, &value, r#"["a"]"#)?;
-    let mut text = br#"["\u0061"]"#.to_vec(alloc)?;
-    let value = to_borrowed_value_with_buffers(alloc, &mut text, &mut buffers)?;
-    expect_text(&rt, alloc, &value, r#"["a"]"#)?;
-    let mut text = b"7".to_vec(alloc)?;
-    let value = deserialize_with_buffers::<OwnedValue, String>(alloc, &mut text, &mut buffers)?;
-    expect_text(&rt, alloc, &value, "7")?;
-    let mut text = b"[[]]".to_vec(alloc)?;
-    let error = to_owned_value_with_buffers(alloc, &mut text, &mut buffers).err();
-    expect_eq(&rt, error.ok_or("no error")?.error(), ErrorType::Syntax);
+    expect_owned(&rt, alloc, &mut buffers)?;
+    expect_borrowed(&rt, alloc, &mut buffers)?;
+    expect_built(&rt, alloc, &mut buffers)?;
+    expect_refused(&rt, alloc, &mut buffers)
+}
+
+// Looks for the documents that are left, one after the other.
+fn expect_parts(
+    rt: &impl Abort,
+    alloc: Global,
+    values: &mut OwnedDeserializer<'_>,
+    parts: &[&str],
+) -> Result<(), Fail> {
+    for part in parts {
+        assert!(rt; !values.is_at_end());
+        expect_text(rt, alloc, &values.parse(alloc)?, part)?;
+    }
+    assert!(rt; values.is_at_end());
     Ok(())
 }
 
+// Behind the object and its first key.
 #[test]
 fn taken_from_a_tape(rt: HostRuntime) -> Result<(), Fail> {
     let alloc = rt.alloc();
-    let mut text = br#"{"a":[1,{}],"b":2}"#.to_vec(alloc)?;
+    let mut text = *br#"{"a":[1,{}],"b":2}"#;
     let mut nodes = Deserializer::from_slice(alloc, &mut text)?;
     assert!(rt; !nodes.is_at_end());
     nodes.next_();
     assert!(rt; !nodes.is_at_end());
     nodes.next_();
     let mut values = OwnedDeserializer::from_deserializer(nodes);
-    for part in ["[1,{}]", r#""b""#, "2"] {
-        assert!(rt; !values.is_at_end());
-        expect_text(&rt, alloc, &values.parse(alloc)?, part)?;
-    }
-    assert!(rt; values.is_at_end());
-    let mut text = br#"{"a":1,"a":2}"#.to_vec(alloc)?;
-    let nodes = Deserializer::from_slice(alloc, &mut text)?;
-    let mut values = BorrowDeserializer::from_deserializer(nodes);
+    expect_parts(&rt, alloc, &mut values, &["[1,{}]", r#""b""#, "2"])
+}
+
+// The same of the only document of a tape, as it is borrowed.
+fn expect_part(
+    rt: &impl Abort,
+    alloc: Global,
+    values: &mut BorrowDeserializer<'_>,
+    part: &str,
+) -> Result<(), Fail> {
     assert!(rt; !values.is_at_end());
-    expect_text(&rt, alloc, &values.parse(alloc)?, r#"{"a":1}"#)?;
+    expect_text(rt, alloc, &values.parse(alloc)?, part)?;
     assert!(rt; values.is_at_end());
     Ok(())
 }
 
-// Each integer has the carrier of its token, and a borrowed text is a part of the input.
 #[test]
-fn read_as_they_stand(rt: HostRuntime) -> Result<(), Fail> {
-    let alloc = rt.alloc();
-    let mut text = br#"[5,-5,"a","\u0061",1.5]"#.to_vec(alloc)?;
-    let value = to_borrowed_value(alloc, &mut text)?;
+fn borrowed_from_a_tape(rt: HostRuntime) -> Result<(), Fail> {
+    let mut text = *br#"{"a":1,"a":2}"#;
+    let nodes = Deserializer::from_slice(rt.alloc(), &mut text)?;
+    let mut values = BorrowDeserializer::from_deserializer(nodes);
+    expect_part(&rt, rt.alloc(), &mut values, r#"{"a":1}"#)
+}
+
+// The integers of [5,-5,"a","\u0061",1.5] have the carriers of their tokens, and each text is a part of the input.
+fn expect_as_they_stand(rt: &impl Abort, value: &BorrowedValue<'_>) -> Result<(), Fail> {
     for (place, kind) in [(0, ValueType::U64), (1, ValueType::I64)] {
-        expect_eq(
-            &rt,
-            value.get_idx(place).ok_or("no item")?.value_type(),
-            kind,
-        );
+        let item = value.get_idx(place).ok_or("no item")?;
+        expect_eq(rt, item.value_type(), kind);
     }
     for place in [2, 3] {
         let Some(Value::String(CowStr::Borrowed("a"))) = value.get_idx(place) else {
@@ -89,4 +142,11 @@ fn read_as_they_stand(rt: HostRuntime) -> Result<(), Fail> {
         return Err(Fail::new("no borrowed literal"));
     };
     Ok(())
+}
+
+#[test]
+fn read_as_they_stand(rt: HostRuntime) -> Result<(), Fail> {
+    on_borrowed(rt.alloc(), r#"[5,-5,"a","\u0061",1.5]"#, |value| {
+        expect_as_they_stand(&rt, value)
+    })
 }

@@ -7,6 +7,7 @@ use sj_object::{
 use std::alloc::{AllocError, Global};
 use std::borrow::CowStr;
 use std::fmt::Debug;
+use std::process::Abort;
 use std::test::Fail;
 
 fn object_of<'de, K: MakeKey<'de> + Debug + Drop>(
@@ -26,33 +27,70 @@ fn copy_of<K: CopyKey + Drop, V: TryCopy + Drop>(
     object.try_clone()
 }
 
-#[test]
-fn replaced_in_place(rt: HostRuntime) -> Result<(), Fail> {
-    let mut object: Object<String, u64> = Object::with_capacity(rt.alloc(), 2)?;
+// Inserts three values into the empty object, of which the last replaces the first.
+fn expect_replaced(
+    rt: &impl Abort,
+    alloc: Global,
+    object: &mut Object<String, u64>,
+) -> Result<(), Fail> {
     assert!(rt; object.is_empty());
     for (text, value, old) in [("a", 1, None), ("b", 2, None), ("a", 3, Some(1))] {
-        expect_eq(
-            &rt,
-            object.insert(String::from_str(rt.alloc(), text)?, value)?,
-            old,
-        );
+        let found = object.insert(String::from_str(alloc, text)?, value)?;
+        expect_eq(rt, found, old);
     }
+    Ok(())
+}
+
+// What is in that object, before and after a removal.
+fn expect_removed(rt: &impl Abort, object: &mut Object<String, u64>) {
     expect_eq(
-        &rt,
+        rt,
         (object.len(), object.get("a"), object.get("b")),
         (2, Some(&3), Some(&2)),
     );
     assert!(rt; object.contains_key("a") && !object.contains_key(""));
     expect_eq(
-        &rt,
+        rt,
         (object.remove("a"), object.remove("a")),
         (Some(3), None),
     );
     expect_eq(
-        &rt,
+        rt,
         (object.len(), object.get("a"), object.get("b")),
         (1, None, Some(&2)),
     );
+}
+
+#[test]
+fn replaced_in_place(rt: HostRuntime) -> Result<(), Fail> {
+    let mut object: Object<String, u64> = Object::with_capacity(rt.alloc(), 2)?;
+    expect_replaced(&rt, rt.alloc(), &mut object)?;
+    expect_removed(&rt, &mut object);
+    Ok(())
+}
+
+// Appends what the iterators by reference give.
+fn show_pairs(object: &Object<String, u64>, shown: &mut String) -> Result<(), Fail> {
+    for (key, value) in object.iter() {
+        write!(shown, "{key}{value} ")?;
+    }
+    for (key, value) in object {
+        write!(shown, "{key}{value} ")?;
+    }
+    for key in object.keys() {
+        write!(shown, "{key} ")?;
+    }
+    for value in object.values() {
+        write!(shown, "{value} ")?;
+    }
+    Ok(())
+}
+
+// Appends the pairs as they are handed out.
+fn show_taken(object: Object<String, u64>, shown: &mut String) -> Result<(), Fail> {
+    for (key, value) in object {
+        write!(shown, "{key}{value} ")?;
+    }
     Ok(())
 }
 
@@ -64,43 +102,45 @@ fn pairs_in_order(rt: HostRuntime) -> Result<(), Fail> {
     }
     expect_eq(&rt, object.get_mut("d"), None);
     let mut shown = String::new(rt.alloc());
-    for (key, value) in object.iter() {
-        write!(shown, "{key}{value} ")?;
-    }
-    for (key, value) in &object {
-        write!(shown, "{key}{value} ")?;
-    }
-    for key in object.keys() {
-        write!(shown, "{key} ")?;
-    }
-    for value in object.values() {
-        write!(shown, "{value} ")?;
-    }
-    for (key, value) in object {
-        write!(shown, "{key}{value} ")?;
-    }
+    show_pairs(&object, &mut shown)?;
+    show_taken(object, &mut shown)?;
     expect_eq(&rt, shown.as_str(), "b2 a5 b2 a5 b a 2 5 b2 a5 ");
     Ok(())
 }
 
-// Of an object with the keys k0 to k32, each with its number as its value.
-#[test]
-fn places(rt: HostRuntime) -> Result<(), Fail> {
-    let alloc = rt.alloc();
-    let mut object: Object<String, u64> = Object::new(alloc);
+// The keys k0 to k32, each with its number as its value.
+fn put_numbered(alloc: Global, object: &mut Object<String, u64>) -> Result<(), Fail> {
     for i in 0..33u64 {
         object.insert(format!(in alloc; "k{i}")?, i)?;
     }
-    expect_eq(&rt, object.remove("k0"), Some(0));
-    expect_eq(&rt, (object.get("k32"), object.len()), (Some(&32), 32));
-    expect_eq(&rt, object.insert(String::from_str(alloc, "k0")?, 7)?, None);
+    Ok(())
+}
+
+// The places of these keys, where one is removed and put back behind the others.
+fn expect_at_the_end(
+    rt: &impl Abort,
+    alloc: Global,
+    object: &mut Object<String, u64>,
+) -> Result<(), Fail> {
+    expect_eq(rt, object.remove("k0"), Some(0));
+    expect_eq(rt, (object.get("k32"), object.len()), (Some(&32), 32));
+    expect_eq(rt, object.insert(String::from_str(alloc, "k0")?, 7)?, None);
     expect_eq(
-        &rt,
+        rt,
         (object.place("k1"), object.place("k0")),
         (Some(0), Some(32)),
     );
+    Ok(())
+}
+
+// The next one is removed and put back before them.
+fn expect_at_the_front(
+    rt: &impl Abort,
+    alloc: Global,
+    object: &mut Object<String, u64>,
+) -> Result<(), Fail> {
     expect_eq(
-        &rt,
+        rt,
         (object.remove("k1"), object.place("k1")),
         (Some(1), None),
     );
@@ -110,10 +150,19 @@ fn places(rt: HostRuntime) -> Result<(), Fail> {
     }
     object.insert_at(0, key, 9)?;
     expect_eq(
-        &rt,
+        rt,
         (object.get("k0"), object.place("k1")),
         (Some(&7), Some(0)),
     );
+    Ok(())
+}
+
+#[test]
+fn places(rt: HostRuntime) -> Result<(), Fail> {
+    let mut object: Object<String, u64> = Object::new(rt.alloc());
+    put_numbered(rt.alloc(), &mut object)?;
+    expect_at_the_end(&rt, rt.alloc(), &mut object)?;
+    expect_at_the_front(&rt, rt.alloc(), &mut object)?;
     for (key, value) in [("k1", 9), ("k2", 2), ("k3", 3), ("k4", 4)] {
         expect_eq(&rt, object.remove(key), Some(value));
     }
@@ -128,14 +177,19 @@ fn refused(rt: HostRuntime) -> Result<(), Fail> {
     Ok(())
 }
 
+// The iterators over one pair by reference.
+fn expect_one_pair(rt: &impl Abort, object: &Object<String, u64>) {
+    let mut pairs = object.iter();
+    expect_eq(rt, (pairs.len(), pairs.size_hint()), (1, (1, Some(1))));
+    assert!(rt; pairs.next().is_some());
+    assert!(rt; pairs.next().is_none() && pairs.next().is_none());
+    expect_eq(rt, (object.keys().len(), object.values().len()), (1, 1));
+}
+
 #[test]
 fn ended_iterators(rt: HostRuntime) -> Result<(), Fail> {
     let object: Object<String, u64> = object_of(rt.alloc(), &[("a", 1)])?;
-    let mut pairs = object.iter();
-    expect_eq(&rt, (pairs.len(), pairs.size_hint()), (1, (1, Some(1))));
-    assert!(rt; pairs.next().is_some());
-    assert!(rt; pairs.next().is_none() && pairs.next().is_none());
-    expect_eq(&rt, (object.keys().len(), object.values().len()), (1, 1));
+    expect_one_pair(&rt, &object);
     let mut pairs = object.into_iter();
     expect_eq(&rt, (pairs.len(), pairs.size_hint()), (1, (1, Some(1))));
     assert!(rt; pairs.next().is_some());
@@ -159,6 +213,16 @@ fn equal_as_maps(rt: HostRuntime) -> Result<(), Fail> {
     Ok(())
 }
 
+// The first pair of the copy of an object, of which one pair is then removed.
+fn expect_copy(rt: &impl Abort, copy: &mut Object<CowStr<'_>, StaticNode>) -> Result<(), Fail> {
+    let Some((CowStr::Borrowed("b"), StaticNode::Null)) = copy.iter().next() else {
+        return Err(Fail::new("another first pair"));
+    };
+    expect_eq(rt, copy.remove("a"), Some(StaticNode::I64(-1)));
+    expect_eq(rt, copy.len(), 1);
+    Ok(())
+}
+
 #[test]
 fn copies(rt: HostRuntime) -> Result<(), Fail> {
     let mut object: Object<CowStr, StaticNode> = Object::new(rt.alloc());
@@ -167,11 +231,8 @@ fn copies(rt: HostRuntime) -> Result<(), Fail> {
     }
     let mut copy = copy_of(&object)?;
     assert!(rt; copy == object);
-    let Some((CowStr::Borrowed("b"), StaticNode::Null)) = copy.iter().next() else {
-        return Err(Fail::new("another first pair"));
-    };
-    expect_eq(&rt, copy.remove("a"), Some(StaticNode::I64(-1)));
-    expect_eq(&rt, (copy.len(), object.len()), (1, 2));
+    expect_copy(&rt, &mut copy)?;
+    expect_eq(&rt, object.len(), 2);
     Ok(())
 }
 
@@ -196,16 +257,22 @@ fn colliding_key(alloc: Global, number: u64) -> Result<String, AllocError> {
     Ok(key)
 }
 
+// Puts forty keys of one hash into the empty object, each with its number.
+fn put_forty(rt: &impl Abort, alloc: Global, object: &mut Object<String, u64>) -> Result<(), Fail> {
+    let hash = hash_key("AaAaAaAaAaAa");
+    for number in 0..40 {
+        let key = colliding_key(alloc, number)?;
+        expect_eq(rt, hash_key(key.as_str()), hash);
+        let hash = hash_key(key.as_str());
+        expect_eq(rt, object.insert_hashed(hash, key, number)?, None);
+    }
+    Ok(())
+}
+
 #[test]
 fn forty_equal_hashes(rt: HostRuntime) -> Result<(), Fail> {
     let mut object = Object::new(rt.alloc());
-    let hash = hash_key("AaAaAaAaAaAa");
-    for number in 0..40 {
-        let key = colliding_key(rt.alloc(), number)?;
-        expect_eq(&rt, hash_key(key.as_str()), hash);
-        let hash = hash_key(key.as_str());
-        expect_eq(&rt, object.insert_hashed(hash, key, number)?, None);
-    }
+    put_forty(&rt, rt.alloc(), &mut object)?;
     let key = "BBAaAaBBBBBB";
     expect_eq(&rt, object.get_hashed(hash_key(key), key), Some(&39));
     expect_eq(&rt, object.remove("AaAaAaAaAaAa"), Some(0));

@@ -11,6 +11,7 @@ use std::alloc::AllocError;
 use std::borrow::CowStr;
 use std::marker::Brand;
 use std::mem::size_of;
+use std::process::Abort;
 use std::test::Fail;
 
 #[test]
@@ -127,14 +128,19 @@ fn integers_and_types(rt: HostRuntime) -> Result<(), Fail> {
     Ok(())
 }
 
+// The text of a copy of a literal of its own, and of a copy of what holds that.
+fn expect_copies(rt: &impl Abort, owned: DecimalBuf, text: &str) -> Result<(), AllocError> {
+    expect_eq(rt, copy_of(&owned)?.as_decimal().as_str(), text);
+    let cow = DecimalCow::Owned(owned);
+    expect_eq(rt, copy_of(&cow)?.as_decimal().as_str(), text);
+    Ok(())
+}
+
 #[test]
 fn decimals(rt: HostRuntime) -> Result<(), Fail> {
     for text in ["1.50", "-0e0", "1E+5"] {
         let literal = Decimal::new(text).ok_or("refused")?;
-        let owned = DecimalBuf::new(rt.alloc(), literal)?;
-        expect_eq(&rt, copy_of(&owned)?.as_decimal().as_str(), text);
-        let cow = DecimalCow::Owned(owned);
-        expect_eq(&rt, copy_of(&cow)?.as_decimal().as_str(), text);
+        expect_copies(&rt, DecimalBuf::new(rt.alloc(), literal)?, text)?;
     }
     for text in ["1", "01.5", "1.", ".5", "1e", "+1.5", ""] {
         assert!(rt; Decimal::new(text).is_none(), "at {text}");

@@ -6,13 +6,9 @@ use sj_parse::{
     to_tape_with_buffers,
 };
 use sj_tape::{Tape, Value};
-use std::alloc::Global;
+use std::alloc::{AllocError, Global};
+use std::process::Abort;
 use std::test::Fail;
-
-// The bytes of a text, with what a call may do to them.
-fn input(alloc: Global, text: &str) -> Result<Vec<u8>, Fail> {
-    Ok(text.as_bytes().to_vec(alloc)?)
-}
 
 // The compact text of a value.
 fn printed(alloc: Global, value: Value<'_, '_>) -> Result<Vec<u8>, Fail> {
@@ -29,6 +25,28 @@ fn document(alloc: Global, tape: &Tape<'_>) -> Result<Vec<u8>, Fail> {
     printed(alloc, tape.as_value())
 }
 
+// Fails unless this is the compact text of the value.
+fn expect_text(
+    rt: &impl Abort,
+    alloc: Global,
+    value: Value<'_, '_>,
+    text: &str,
+) -> Result<(), Fail> {
+    assert_eq!(rt; printed(alloc, value)?.as_slice(), text.as_bytes());
+    Ok(())
+}
+
+// Fails unless this is the compact text of the tape's document.
+fn expect_document(
+    rt: &impl Abort,
+    alloc: Global,
+    tape: &Tape<'_>,
+    text: &str,
+) -> Result<(), Fail> {
+    assert_eq!(rt; document(alloc, tape)?.as_slice(), text.as_bytes());
+    Ok(())
+}
+
 #[test]
 fn member_of_a_text(rt: HostRuntime) -> Result<(), Fail> {
     let mut text = br#"{"name": "passwd", "size": 3044}"#.to_vec(rt.alloc())?;
@@ -40,35 +58,49 @@ fn member_of_a_text(rt: HostRuntime) -> Result<(), Fail> {
     Ok(())
 }
 
-#[test]
-fn items_of_a_tape(rt: HostRuntime) -> Result<(), Fail> {
-    let mut text = input(rt.alloc(), "[1,[2,3],4]")?;
-    let tape = to_tape(rt.alloc(), &mut text)?;
-    let array = tape.as_value().as_array().ok_or("no array")?;
-    for (index, text) in ["1", "[2,3]", "4"].iter().enumerate() {
+// The items of [1,[2,3],4].
+fn expect_items(rt: &impl Abort, alloc: Global, value: Value<'_, '_>) -> Result<(), Fail> {
+    let array = value.as_array().ok_or("no array")?;
+    for (index, text) in [(0, "1"), (1, "[2,3]"), (2, "4")] {
         let item = array.get(index).ok_or("no item")?;
-        assert!(rt; printed(rt.alloc(), item)?.as_slice() == text.as_bytes());
+        expect_text(rt, alloc, item, text)?;
     }
     assert!(rt; array.get(3).is_none());
     Ok(())
 }
 
 #[test]
-fn by_key(rt: HostRuntime) -> Result<(), Fail> {
-    let mut text = input(rt.alloc(), r#"{"the_answer": 42}"#)?;
+fn items_of_a_tape(rt: HostRuntime) -> Result<(), Fail> {
+    let mut text = *b"[1,[2,3],4]";
     let tape = to_tape(rt.alloc(), &mut text)?;
-    let value = tape.as_value();
+    expect_items(&rt, rt.alloc(), tape.as_value())
+}
+
+// The members of {"the_answer": 42}.
+fn expect_answer(rt: &impl Abort, alloc: Global, value: Value<'_, '_>) -> Result<(), Fail> {
     let found = value.try_get("the_answer").ok().ok_or("no object")?;
-    let answer = printed(rt.alloc(), found.ok_or("no member")?)?;
-    assert!(rt; answer.as_slice() == b"42".as_slice());
+    expect_text(rt, alloc, found.ok_or("no member")?, "42")?;
     let absent = value.try_get("does_not_exist").ok().ok_or("no object")?;
     assert!(rt; absent.is_none());
     let no_array = TryTypeError {
         expected: ValueType::Array,
         got: ValueType::Object,
     };
-    expect_eq(&rt, value.try_get_idx(0).err(), Some(no_array));
+    expect_eq(rt, value.try_get_idx(0).err(), Some(no_array));
     Ok(())
+}
+
+#[test]
+fn by_key(rt: HostRuntime) -> Result<(), Fail> {
+    let mut text = *br#"{"the_answer": 42}"#;
+    let tape = to_tape(rt.alloc(), &mut text)?;
+    expect_answer(&rt, rt.alloc(), tape.as_value())
+}
+
+// The fault of a text, if it has one.
+fn fault_of(alloc: Global, text: &str) -> Result<Option<Error>, AllocError> {
+    let mut bytes = text.as_bytes().to_vec(alloc)?;
+    Ok(to_tape(alloc, &mut bytes).err())
 }
 
 #[test]
@@ -77,57 +109,50 @@ fn first_faults(rt: HostRuntime) -> Result<(), Fail> {
         (r#"{"1":time}"#, ErrorType::ExpectedTrue, 5, b't'),
         ("[null, new]", ErrorType::ExpectedNull, 7, b'n'),
     ] {
-        let mut bytes = input(rt.alloc(), text)?;
-        let error = to_tape(rt.alloc(), &mut bytes).err();
-        assert_eq!(rt; error, Some(Error::at(kind, index, byte)), "{text}");
+        let found = fault_of(rt.alloc(), text)?;
+        assert_eq!(rt; found, Some(Error::at(kind, index, byte)), "{text}");
     }
     Ok(())
 }
 
 #[test]
 fn nodes_of_a_text(rt: HostRuntime) -> Result<(), Fail> {
-    let mut text = input(rt.alloc(), "[1]")?;
+    let mut text = *b"[1]";
     let nodes = Deserializer::from_slice(rt.alloc(), &mut text)?;
-    let printed = document(rt.alloc(), &nodes.into_tape())?;
-    assert!(rt; printed.as_slice() == b"[1]".as_slice());
-    Ok(())
+    expect_document(&rt, rt.alloc(), &nodes.into_tape(), "[1]")
 }
 
 #[test]
 fn nodes_with_buffers(rt: HostRuntime) -> Result<(), Fail> {
-    let mut text = input(rt.alloc(), "[1]")?;
+    let mut text = *b"[1]";
     let mut buffers = Buffers::with_max_depth(rt.alloc(), 3, 1)?;
     let nodes = Deserializer::from_slice_with_buffers(rt.alloc(), &mut text, &mut buffers)?;
-    let printed = document(rt.alloc(), &nodes.into_tape())?;
-    assert!(rt; printed.as_slice() == b"[1]".as_slice());
-    Ok(())
+    expect_document(&rt, rt.alloc(), &nodes.into_tape(), "[1]")
 }
 
 #[test]
 fn tape_with_buffers(rt: HostRuntime) -> Result<(), Fail> {
-    let mut text = input(rt.alloc(), "[1]")?;
+    let mut text = *b"[1]";
     let mut buffers = Buffers::new(rt.alloc(), 3)?;
     let tape = to_tape_with_buffers(rt.alloc(), &mut text, &mut buffers)?;
-    assert!(rt; document(rt.alloc(), &tape)?.as_slice() == b"[1]".as_slice());
-    Ok(())
+    expect_document(&rt, rt.alloc(), &tape, "[1]")
 }
 
 #[test]
 fn filled_tape(rt: HostRuntime) -> Result<(), Fail> {
-    let mut text = input(rt.alloc(), "[1]")?;
+    let mut text = *b"[1]";
     let mut buffers = Buffers::new(rt.alloc(), 3)?;
     let mut tape = Tape::empty(rt.alloc());
     fill_tape(&mut text, &mut buffers, &mut tape)?;
-    assert!(rt; document(rt.alloc(), &tape)?.as_slice() == b"[1]".as_slice());
-    Ok(())
+    expect_document(&rt, rt.alloc(), &tape, "[1]")
 }
 
 #[test]
 fn room_of_a_tape_is_used_again(rt: HostRuntime) -> Result<(), Fail> {
-    let mut first = input(rt.alloc(), "[1,2]")?;
-    let mut second = input(rt.alloc(), "[3")?;
-    let mut third = input(rt.alloc(), r#""a"#)?;
-    let mut fourth = input(rt.alloc(), r#"{"a":4}"#)?;
+    let mut first = *b"[1,2]";
+    let mut second = *b"[3";
+    let mut third = *br#""a"#;
+    let mut fourth = *br#"{"a":4}"#;
     let mut buffers = Buffers::new(rt.alloc(), 10)?;
     let mut tape = Tape::from_listing(Vec::with_capacity(rt.alloc(), 100)?);
     fill_tape(&mut first, &mut buffers, &mut tape)?;
@@ -138,18 +163,39 @@ fn room_of_a_tape_is_used_again(rt: HostRuntime) -> Result<(), Fail> {
     Ok(())
 }
 
+// [] with bytes behind it, each of which is `byte`, `size` bytes in all.
+fn padded(alloc: Global, size: usize, byte: u8) -> Result<Vec<u8>, AllocError> {
+    let mut text = b"[]".to_vec(alloc)?;
+    text.resize(size, byte)?;
+    Ok(text)
+}
+
+// The compact text of the document in the first two bytes.
+fn read_padded(alloc: Global, text: &mut [u8], buffers: &mut Buffers) -> Result<Vec<u8>, Fail> {
+    let mut tape = Tape::empty(alloc);
+    fill_tape_padded(text, 2, buffers, &mut tape)?;
+    document(alloc, &tape)
+}
+
 #[test]
 fn padding_of_any_bytes(rt: HostRuntime) -> Result<(), Fail> {
     let mut buffers = Buffers::new(rt.alloc(), 2)?;
     for byte in [0, b' ', b'"', b'\\', b']', b'x', 0xff] {
-        let mut text = input(rt.alloc(), "[]")?;
-        text.resize(66, byte)?;
-        let mut tape = Tape::empty(rt.alloc());
-        fill_tape_padded(&mut text, 2, &mut buffers, &mut tape)?;
-        let printed = document(rt.alloc(), &tape)?;
+        let mut text = padded(rt.alloc(), 66, byte)?;
+        let printed = read_padded(rt.alloc(), &mut text, &mut buffers)?;
         assert!(rt; printed.as_slice() == b"[]".as_slice(), "before {byte}");
     }
     Ok(())
+}
+
+// What a reading of the first `len` bytes answers.
+fn padded_fault(
+    alloc: Global,
+    text: &mut [u8],
+    len: usize,
+    buffers: &mut Buffers,
+) -> Option<Error> {
+    fill_tape_padded(text, len, buffers, &mut Tape::empty(alloc)).err()
 }
 
 #[test]
@@ -157,11 +203,9 @@ fn padding_that_is_missing(rt: HostRuntime) -> Result<(), Fail> {
     let missing = Error::generic(ErrorType::InsufficientPadding);
     let mut buffers = Buffers::new(rt.alloc(), 2)?;
     for (size, len) in [(65, 2), (66, 70)] {
-        let mut text = input(rt.alloc(), "[]")?;
-        text.resize(size, b' ')?;
-        let mut tape = Tape::empty(rt.alloc());
-        let read = fill_tape_padded(&mut text, len, &mut buffers, &mut tape);
-        assert_eq!(rt; read.err(), Some(missing), "on {len} of {size} bytes");
+        let mut text = padded(rt.alloc(), size, b' ')?;
+        let fault = padded_fault(rt.alloc(), &mut text, len, &mut buffers);
+        assert_eq!(rt; fault, Some(missing), "on {len} of {size} bytes");
     }
     Ok(())
 }
