@@ -1,5 +1,5 @@
 use Rattle.std.specs.Prelude.{◌≡◌, true}
-use Rattle.std.proofs.Common.{sym, ◌∙◌, arith}
+use Rattle.std.proofs.Common.{sym, ◌∙◌, arith, rules}
 use Rattle.sj_base.specs.NumberTests.{is_negative}
 use Rattle.sj_parse.proofs.NumberLemmas.{is_number-below, is_number-above}
 use Rattle.sj_parse.proofs.numbers.integer.Goals as goal
@@ -15,3 +15,6 @@ returns-in_err-negated c =
     let found = rw parts.magnitude at c.in_ok-value.ensures in
     let negative : is_negative c.args.text.now ≡ true = sym parts.negative ∙ c.if-negative.true in
     rw c.from_residual-in_err-negated.ensures (is_number-below c.args.text.now negative c.requires (λ le. c.in_err-negated.ensures (omega (arith, found, le))))
+
+pub returns-else-negative : goal.returns-else-negative
+returns-else-negative c = search rules

@@ -1,5 +1,6 @@
+use Rattle.std.proofs.lemmas.Grind.{common_steps}
 -- What the role of the token's first byte says of each place where the code may be.
-use Rattle.std.proofs.Common.{◌+◌, List, [], ◌∷◌, ◌++◌, length, drop, ap, sym, ◌∙◌, refl, subst}
+use Rattle.std.proofs.Common.{◌+◌, List, [], ◌∷◌, ◌++◌, length, drop, ap, sym, ◌∙◌, refl, subst, arith, rules}
 use Rattle.std.proofs.lemmas.Result.{err_from_is_err_and}
 use Rattle.sj_tape.specs.Nodes.{entries}
 use Rattle.sj_tape.specs.declared.node.Node.{Node}
@@ -66,3 +67,9 @@ returns-in-Value-clause-steps c = λ now before at.
     let w = step_value c.args.limit c.args.place c.args.skip before c.args.rest.now c.requires.within now c.args.state _ _ at (sym c.role.ensures ∙ c.in-Value.is) in
     let reads = c.read_value.ensures.steps w.0 before w.1 w.2 in
     steps_as c.args.limit c.args.place _ _ c.read_value.result _ _ (λ last ts. w.3 last ts ∙ ap (λ k. value_from c.args.limit k w.0 (the_token c.args.place c.args.skip before c.args.rest.now c.requires.within) last ts) (sym c.unexpected.ensures)) reads
+
+pub returns-in-Unexpected-clause-steps : goal.returns-in-Unexpected-clause-steps
+returns-in-Unexpected-clause-steps c = grind (arith, common_steps)
+
+pub returns-in-Unexpected-clause-stops : goal.returns-in-Unexpected-clause-stops
+returns-in-Unexpected-clause-stops c = search rules

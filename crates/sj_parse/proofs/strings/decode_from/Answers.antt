@@ -1,3 +1,4 @@
+use Rattle.std.proofs.lemmas.Grind.{common_steps}
 use borrow.Rule.Slice.PartMut.{put_mid}
 use Rattle.std.specs.Prelude.{◌≡◌, ℕ, ◌+◌, ◌-◌, List, [], ◌++◌, take, drop, length}
 use Rattle.std.proofs.Common.{◌∙◌, ap, arith, append-nil, length-drop}
@@ -55,3 +56,6 @@ loop-read-preserved-then-body-read-eq92 c =
     let written = rw left at c.write_character-written.ensures.written in
     rw (written_rest c.loop-read.written c.loop-read.body c.write_character-written.new.out, written, c.write_character-written.ensures.len)
     (decoding_escape c.args.place c.loop-read.read c.loop-read.written c.args.body.now c.loop-read.body c.loop-read.invariant c.loop-read-test.true c.if-body-read-eq92.true c.in-Ok.escaped.len c.in-Ok.escaped.character read.0 read.1)
+
+pub returns-in-Err : goal.returns-in-Err
+returns-in-Err c = grind (arith, common_steps)

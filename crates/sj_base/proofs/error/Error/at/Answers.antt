@@ -1,0 +1,4 @@
+use Rattle.sj_base.proofs.error.Error.at.Goals as goal
+
+pub returns : goal.returns
+returns c = cc
