@@ -12,6 +12,7 @@ mod writes;
 use sj_base::{Counted, Error, ErrorType};
 use sj_records::{CommandFault, Form, RunError, Script, ScriptFault, run};
 use std::alloc::{AllocError, Global};
+use std::fmt::Display;
 use std::io;
 use std::io::{ErrorKind, Read, Write};
 use std::marker::Brand;
@@ -350,9 +351,28 @@ fn command_fault(fault: CommandFault) -> ScriptFault {
     ScriptFault::Command { place: 0, fault }
 }
 
+// The fault of a script, if it has one.
+fn fault_of(alloc: Global, script: &str) -> Option<ScriptFault> {
+    script_of(alloc, script).err()
+}
+
+// Looks for the fault of a script, and for its report behind what is there.
+fn expect_refused(
+    rt: &impl Abort,
+    alloc: Global,
+    script: &str,
+    fault: ScriptFault,
+    text: &str,
+) -> Result<(), AllocError> {
+    assert_eq!(rt; fault_of(alloc, script), Some(fault), "{script}");
+    let mut out = Vec::from_slice(alloc, b"is ")?;
+    fault.put_fault(&mut out)?;
+    assert_eq!(rt; &out[3..], text.as_bytes(), "{script}");
+    Ok(())
+}
+
 #[test]
 fn refused_scripts(rt: HostRuntime) -> Result<(), Fail> {
-    let alloc = rt.alloc();
     let second = ScriptFault::Command {
         place: 1,
         fault: CommandFault::UnknownName,
@@ -488,25 +508,32 @@ fn refused_scripts(rt: HostRuntime) -> Result<(), Fail> {
             "command 0: BadKey",
         ),
     ] {
-        let found = script_of(alloc, script).err();
-        assert_eq!(rt; found, Some(fault), "{script}");
-        let mut out = Vec::from_slice(alloc, b"is ")?;
-        fault.put_fault(&mut out)?;
-        assert_eq!(rt; &out[3..], text.as_bytes(), "{script}");
+        expect_refused(&rt, rt.alloc(), script, fault, text)?;
     }
+    Ok(())
+}
+
+// Fails unless this is how the error is displayed.
+fn expect_display<E: Display>(
+    rt: &impl Abort,
+    alloc: Global,
+    error: &E,
+    text: &str,
+) -> Result<(), AllocError> {
+    let shown = format!(in alloc; "{error}")?;
+    assert_eq!(rt; shown.as_str(), text);
     Ok(())
 }
 
 #[test]
 fn display_texts(rt: HostRuntime) -> Result<(), Fail> {
-    let alloc = rt.alloc();
     for (error, text) in [
         (RunError::Memory, "Memory"),
         (RunError::Write, "Write"),
         (RunError::Read, "Read"),
         (RunError::TooManyReads, "TooManyReads"),
     ] {
-        assert_eq!(rt; format!(in alloc; "{error}")?.as_str(), text);
+        expect_display(&rt, rt.alloc(), &error, text)?;
     }
     for (fault, text) in [
         (ScriptFault::Json(Error::generic(ErrorType::Eof)), "Json"),
@@ -514,7 +541,7 @@ fn display_texts(rt: HostRuntime) -> Result<(), Fail> {
         (command_fault(CommandFault::NoName), "Command"),
         (ScriptFault::Memory, "Memory"),
     ] {
-        assert_eq!(rt; format!(in alloc; "{fault}")?.as_str(), text);
+        expect_display(&rt, rt.alloc(), &fault, text)?;
     }
     for (fault, text) in [
         (CommandFault::NotAnArray, "NotAnArray"),
@@ -524,7 +551,7 @@ fn display_texts(rt: HostRuntime) -> Result<(), Fail> {
         (CommandFault::BadPath, "BadPath"),
         (CommandFault::BadKey, "BadKey"),
     ] {
-        assert_eq!(rt; format!(in alloc; "{fault}")?.as_str(), text);
+        expect_display(&rt, rt.alloc(), &fault, text)?;
     }
     Ok(())
 }
@@ -533,14 +560,24 @@ const BOTH: &str = r#"{"replies":[],"document":1}
 {"replies":[],"document":2}
 "#;
 
+// Runs the empty script on owned documents.
+fn run_empty<I: Read + Drop, O: Write + Drop>(
+    rt: &impl Abort,
+    alloc: Global,
+    input: I,
+    output: &mut O,
+) -> Result<(), RunError> {
+    let script = script_of(alloc, "[]").expect(rt, "a script");
+    run_on(alloc, input, output, &script, LIMIT, Form::Owned)
+}
+
 #[test]
 fn failing_reader(rt: HostRuntime) {
-    let script = script_of(rt.alloc(), "[]").expect(&rt, "a script");
     for step in [1, 65536] {
         let mut input = Pieces::new(b"1\n2\n3", step);
         input.failure = Some(ErrorKind::Other);
         let mut output = Vec::new(rt.alloc());
-        let result = run_on(rt.alloc(), input, &mut output, &script, LIMIT, Form::Owned);
+        let result = run_empty(&rt, rt.alloc(), input, &mut output);
         assert_eq!(rt; result, Err(RunError::Read));
         assert_eq!(rt; output.as_slice(), BOTH.as_bytes());
     }
@@ -548,36 +585,39 @@ fn failing_reader(rt: HostRuntime) {
 
 #[test]
 fn interrupted_reader(rt: HostRuntime) {
-    let script = script_of(rt.alloc(), "[]").expect(&rt, "a script");
     let mut input = Pieces::new(b"1\n2", 1);
     input.is_cut = true;
     let mut output = Vec::new(rt.alloc());
-    let result = run_on(rt.alloc(), input, &mut output, &script, LIMIT, Form::Owned);
+    let result = run_empty(&rt, rt.alloc(), input, &mut output);
     assert_eq!(rt; result, Ok(()));
     assert_eq!(rt; output.as_slice(), BOTH.as_bytes());
 }
 
+// A run whose writer has room for the first bytes alone, which are written.
+fn run_narrow(rt: &impl Abort, alloc: Global, refusal: Refusal, room: usize) {
+    let mut output = Narrow {
+        taken: Vec::new(alloc),
+        step: 7,
+        room,
+        refusal,
+    };
+    let input: &[u8] = b"1\r\n2";
+    let result = run_empty(rt, alloc, input, &mut output);
+    let is_whole = room == BOTH.len();
+    assert_eq!(rt; result.is_ok(), is_whole, "{refusal:?} at {room}");
+    assert!(rt; is_whole || result == Err(RunError::Write));
+    assert_eq!(rt;
+        Some(output.taken.as_slice()),
+        BOTH.as_bytes().get(..room),
+        "{refusal:?} at {room}"
+    );
+}
+
 #[test]
 fn narrow_writer(rt: HostRuntime) {
-    let script = script_of(rt.alloc(), "[]").expect(&rt, "a script");
     for refusal in [Refusal::Fails, Refusal::Interrupts, Refusal::TakesNothing] {
         for room in 0..BOTH.len() + 1 {
-            let mut output = Narrow {
-                taken: Vec::new(rt.alloc()),
-                step: 7,
-                room,
-                refusal,
-            };
-            let input: &[u8] = b"1\r\n2";
-            let result = run_on(rt.alloc(), input, &mut output, &script, LIMIT, Form::Owned);
-            let is_whole = room == BOTH.len();
-            assert_eq!(rt; result.is_ok(), is_whole, "{refusal:?} at {room}");
-            assert!(rt; is_whole || result == Err(RunError::Write));
-            assert_eq!(rt;
-                output.taken.as_slice(),
-                &BOTH.as_bytes()[..room],
-                "{refusal:?} at {room}"
-            );
+            run_narrow(&rt, rt.alloc(), refusal, room);
         }
     }
 }

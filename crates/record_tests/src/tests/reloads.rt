@@ -1,6 +1,6 @@
 //! Reloads: worked rows, and what stays the same with a reload at each place of a script.
-use super::writes::{LIMITS, REPEATED_KEYS, WORKED, check};
-use super::{LIMIT, expect, expect_in};
+use super::writes::{LIMITS, REPEATED_KEYS, WORKED, check, check_in};
+use super::{LIMIT, expect};
 use sj_owned::{OwnedValue, to_owned_value};
 use sj_records::Form;
 use std::alloc::{AllocError, Global};
@@ -46,7 +46,6 @@ fn worked_reloads(rt: HostRuntime) -> Result<(), Fail> {
 // A reload of repeated keys leaves them as the form has them.
 #[test]
 fn reloaded_repeats(rt: HostRuntime) -> Result<(), Fail> {
-    let alloc = rt.alloc();
     for (form, record) in [
         (Form::Owned, r#"{"replies":[true,1],"document":{"a":1}}"#),
         (Form::Borrowed, r#"{"replies":[true,1],"document":{"a":1}}"#),
@@ -56,17 +55,7 @@ fn reloaded_repeats(rt: HostRuntime) -> Result<(), Fail> {
         ),
     ] {
         let script = r#"[["reload"],["len",[]]]"#;
-        let records = format!(in alloc; "{record}\n")?;
-        expect_in(
-            form,
-            &rt,
-            alloc,
-            script,
-            "{\"a\":1,\"a\":2}\n",
-            LIMIT,
-            65536,
-            &records,
-        );
+        check_in(form, &rt, rt.alloc(), script, r#"{"a":1,"a":2}"#, record)?;
     }
     Ok(())
 }
@@ -92,22 +81,40 @@ fn put_item(text: &mut String, item: &str) -> Result<(), AllocError> {
     text.push_str(item)
 }
 
-// The text of an array with one more item, at this place.
-fn with_item(alloc: Global, array: &OwnedValue, place: usize, item: &str) -> Result<String, Fail> {
-    let mut text = String::from_str(alloc, "[")?;
+// Appends an item that is printed.
+fn put_value(alloc: Global, text: &mut String, item: &OwnedValue) -> Result<(), Fail> {
+    let mut shown = Vec::new(alloc);
+    item.encode(&mut shown)?;
+    put_item(text, str::from_utf8(&shown).ok().ok_or("no text")?)?;
+    Ok(())
+}
+
+// Appends the items, and one more at this place.
+fn put_items(
+    alloc: Global,
+    text: &mut String,
+    array: &OwnedValue,
+    place: usize,
+    item: &str,
+) -> Result<(), Fail> {
     let mut is_put = false;
     for (at, other) in array.as_array().ok_or("no array")?.iter().enumerate() {
         if at == place {
-            put_item(&mut text, item)?;
+            put_item(text, item)?;
             is_put = true;
         }
-        let mut shown = Vec::new(alloc);
-        other.encode(&mut shown)?;
-        put_item(&mut text, str::from_utf8(&shown).ok().ok_or("no text")?)?;
+        put_value(alloc, text, other)?;
     }
     if !is_put {
-        put_item(&mut text, item)?;
+        put_item(text, item)?;
     }
+    Ok(())
+}
+
+// The text of an array with one more item, at this place.
+fn with_item(alloc: Global, array: &OwnedValue, place: usize, item: &str) -> Result<String, Fail> {
+    let mut text = String::from_str(alloc, "[")?;
+    put_items(alloc, &mut text, array, place, item)?;
     text.push(']')?;
     Ok(text)
 }
@@ -129,6 +136,22 @@ fn len(array: &OwnedValue) -> Result<usize, Fail> {
     Ok(array.as_array().ok_or("no array")?.len())
 }
 
+// Looks for the record with a reload at this place of the commands.
+fn check_reload(
+    rt: &impl Abort,
+    alloc: Global,
+    commands: &OwnedValue,
+    reload: &str,
+    place: usize,
+    line: &str,
+    depth: usize,
+    record: &str,
+) -> Result<(), Fail> {
+    let script = with_item(alloc, commands, place, reload)?;
+    let record = with_reply(alloc, record, place)?;
+    check(rt, alloc, &script, line, depth, &record)
+}
+
 // Looks for the record with a reload of each kind at each place of the script.
 pub(super) fn check_reloads(
     rt: &impl Abort,
@@ -141,9 +164,7 @@ pub(super) fn check_reloads(
     let commands = read(alloc, script)?;
     for reload in RELOADS {
         for place in 0..len(&commands)?.saturating_add(1) {
-            let script = with_item(alloc, &commands, place, reload)?;
-            let record = with_reply(alloc, record, place)?;
-            check(rt, alloc, &script, line, depth, &record)?;
+            check_reload(rt, alloc, &commands, reload, place, line, depth, record)?;
         }
     }
     Ok(())
@@ -160,26 +181,50 @@ fn reloads_change_nothing(rt: HostRuntime) -> Result<(), Fail> {
     Ok(())
 }
 
+// The same in one form.
+fn check_reload_in(
+    form: Form,
+    rt: &impl Abort,
+    alloc: Global,
+    commands: &OwnedValue,
+    reload: &str,
+    place: usize,
+    line: &str,
+    record: &str,
+) -> Result<(), Fail> {
+    let script = with_item(alloc, commands, place, reload)?;
+    let record = with_reply(alloc, record, place)?;
+    check_in(form, rt, alloc, &script, line, &record)?;
+    Ok(())
+}
+
+fn check_reloads_in(
+    form: Form,
+    rt: &impl Abort,
+    alloc: Global,
+    script: &str,
+    line: &str,
+    record: &str,
+) -> Result<(), Fail> {
+    let commands = read(alloc, script)?;
+    for reload in RELOADS {
+        for place in 0..len(&commands)?.saturating_add(1) {
+            check_reload_in(form, rt, alloc, &commands, reload, place, line, record)?;
+        }
+    }
+    Ok(())
+}
+
 // Where a key stands twice, in each form.
 #[test]
 fn reloads_keep_repeats(rt: HostRuntime) -> Result<(), Fail> {
-    let alloc = rt.alloc();
     for (script, line, kept, lazy) in &REPEATED_KEYS {
-        let commands = read(alloc, script)?;
-        let stream = format!(in alloc; "{line}\n")?;
-        for reload in RELOADS {
-            for place in 0..len(&commands)?.saturating_add(1) {
-                let script = with_item(alloc, &commands, place, reload)?;
-                for (form, record) in [
-                    (Form::Owned, *kept),
-                    (Form::Borrowed, *kept),
-                    (Form::Lazy, *lazy),
-                ] {
-                    let record = with_reply(alloc, record, place)?;
-                    let records = format!(in alloc; "{record}\n")?;
-                    expect_in(form, &rt, alloc, &script, &stream, LIMIT, 65536, &records);
-                }
-            }
+        for (form, record) in [
+            (Form::Owned, *kept),
+            (Form::Borrowed, *kept),
+            (Form::Lazy, *lazy),
+        ] {
+            check_reloads_in(form, &rt, rt.alloc(), script, line, record)?;
         }
     }
     Ok(())

@@ -1,7 +1,7 @@
 //! Writes that are taken back: worked rows.
 use super::reloads::check_reloads;
-use super::writes::check;
-use super::{LIMIT, expect, expect_in};
+use super::writes::{check, check_in};
+use super::{LIMIT, expect};
 use sj_records::Form;
 use std::test::Fail;
 
@@ -64,7 +64,7 @@ fn undone_without_change(rt: HostRuntime) -> Result<(), Fail> {
 
 // A document of the form `Lazy` drops repeated keys at its first write, and keeps none of them when that is taken back.
 #[test]
-fn undone_repeats(rt: HostRuntime) {
+fn undone_repeats(rt: HostRuntime) -> Result<(), Fail> {
     for (form, record) in [
         (
             Form::Owned,
@@ -80,19 +80,9 @@ fn undone_repeats(rt: HostRuntime) {
         ),
     ] {
         let script = r#"[["undo"],["len",[]],["remove",[],"a"],["undo"]]"#;
-        let stream = "{\"a\":1,\"a\":2}\n";
-        let records = format!(in rt.alloc(); "{record}\n").expect(&rt, "memory");
-        expect_in(
-            form,
-            &rt,
-            rt.alloc(),
-            script,
-            stream,
-            LIMIT,
-            65536,
-            &records,
-        );
+        check_in(form, &rt, rt.alloc(), script, r#"{"a":1,"a":2}"#, record)?;
     }
+    Ok(())
 }
 
 // Thirteen commands, of which four are writes that aren't refused, and thirteen times `undo`.

@@ -1,7 +1,7 @@
 //! Worked rows of scripts that read and write, in each form.
 use super::reloads::check_reloads;
 use super::{LIMIT, expect, expect_in, script_of};
-use sj_owned::to_owned_value;
+use sj_owned::{OwnedValue, to_owned_value};
 use sj_records::{Command, Document, Form};
 use std::alloc::{AllocError, Global};
 use std::process::Abort;
@@ -21,6 +21,21 @@ pub(super) fn check(
     for step in [1, 65536] {
         expect(rt, alloc, script, &stream, depth, step, &records);
     }
+    Ok(())
+}
+
+// The same in one form, read at once.
+pub(super) fn check_in(
+    form: Form,
+    rt: &impl Abort,
+    alloc: Global,
+    script: &str,
+    line: &str,
+    record: &str,
+) -> Result<(), AllocError> {
+    let stream = format!(in alloc; "{line}\n")?;
+    let records = format!(in alloc; "{record}\n")?;
+    expect_in(form, rt, alloc, script, &stream, LIMIT, 65536, &records);
     Ok(())
 }
 
@@ -118,16 +133,13 @@ pub(super) const REPEATED_KEYS: [(&str, &str, &str, &str); 6] = [
 
 #[test]
 fn repeated_keys(rt: HostRuntime) -> Result<(), Fail> {
-    let alloc = rt.alloc();
     for (script, line, kept, lazy) in &REPEATED_KEYS {
-        let stream = format!(in alloc; "{line}\n")?;
         for (form, record) in [
             (Form::Owned, *kept),
             (Form::Borrowed, *kept),
             (Form::Lazy, *lazy),
         ] {
-            let records = format!(in alloc; "{record}\n")?;
-            expect_in(form, &rt, alloc, script, &stream, LIMIT, 65536, &records);
+            check_in(form, &rt, rt.alloc(), script, line, record)?;
         }
     }
     Ok(())
@@ -205,6 +217,43 @@ fn forty_equal_hashes(rt: HostRuntime) -> Result<(), Fail> {
     check_reloads(&rt, alloc, script, &line, LIMIT, &record)
 }
 
+// Looks at what the call left of the document {"a":{"k":"old"}}, and at what it appended.
+fn expect_written(
+    rt: &impl Abort,
+    alloc: Global,
+    document: &OwnedValue,
+    hands_out: Option<bool>,
+    out: &[u8],
+) -> Result<(), AllocError> {
+    let mut shown = Vec::new(alloc);
+    Document::text(document, &mut shown)?;
+    let is_new = shown.as_slice() == br#"{"a":{"k":["new"]}}"#.as_slice();
+    match hands_out {
+        Some(has_inverse) => {
+            assert!(rt; is_new && has_inverse);
+            assert_eq!(rt; out, br#"> ["old"]"#.as_slice());
+        }
+        None => {
+            assert!(rt; is_new || shown.as_slice() == br#"{"a":{"k":"old"}}"#.as_slice());
+            assert_eq!(rt; out, b"> ".as_slice());
+        }
+    }
+    Ok(())
+}
+
+// Makes the call, and returns whether it hands out an inverse, or nothing on want of memory.
+fn call_insert(
+    command: &Command,
+    document: &mut OwnedValue,
+    out: &mut Vec<u8>,
+) -> Result<Option<bool>, Fail> {
+    let Command::Insert(path, key, value) = command else {
+        return Err(Fail::new("another command"));
+    };
+    let done = Document::insert(document, path, key, value, LIMIT, out);
+    Ok(done.ok().map(|inverse| inverse.is_some()))
+}
+
 // A write call appends its reply and hands out an inverse, or on want of memory appends nothing. Then the document is as it was or as the write leaves it.
 #[test]
 fn write_call(rt: HostRuntime) -> Result<(), Fail> {
@@ -213,25 +262,10 @@ fn write_call(rt: HostRuntime) -> Result<(), Fail> {
         .ok()
         .ok_or("no script")?;
     assert_eq!(rt; script.len(), 1);
-    let Command::Insert(path, key, value) = script.command(0) else {
-        return Err(Fail::new("another command"));
-    };
-    let mut text = br#"{"a":{"k":"old"}}"#.to_vec(alloc)?;
+    let mut text = *br#"{"a":{"k":"old"}}"#;
     let mut document = to_owned_value(alloc, &mut text)?;
     let mut out = b"> ".to_vec(alloc)?;
-    let done = Document::insert(&mut document, path, key, value, LIMIT, &mut out);
-    let mut shown = Vec::new(alloc);
-    Document::text(&document, &mut shown)?;
-    let is_new = shown.as_slice() == br#"{"a":{"k":["new"]}}"#.as_slice();
-    match done {
-        Ok(inverse) => {
-            assert!(rt; is_new && inverse.is_some());
-            assert_eq!(rt; out.as_slice(), br#"> ["old"]"#.as_slice());
-        }
-        Err(AllocError) => {
-            assert!(rt; is_new || shown.as_slice() == br#"{"a":{"k":"old"}}"#.as_slice());
-            assert_eq!(rt; out.as_slice(), b"> ".as_slice());
-        }
-    }
+    let hands_out = call_insert(script.command(0), &mut document, &mut out)?;
+    expect_written(&rt, alloc, &document, hands_out, &out)?;
     Ok(())
 }
