@@ -9,7 +9,7 @@ use crate::array::Array;
 use crate::object::Object;
 use crate::value::Value;
 use sj_base::{Scalar, TryTypeError, ValueType};
-use sj_reads::{Member, TypedValue, ValueAsScalar, ValueGetScalar};
+use sj_reads::{HasMembers, HasScalar, Member, TypedValue};
 
 impl<'t, 'i> Value<'_, 't, 'i> {
     ghost use Rattle.sj_lazy.specs.ByName.{read_found};
@@ -234,30 +234,30 @@ impl TypedValue for Value<'_, '_, '_> {
     }
 }
 
-impl ValueAsScalar for Value<'_, '_, '_> {
+impl HasScalar for Value<'_, '_, '_> {
     ghost use Rattle.sj_lazy.specs.Views.{lazy_tree};
 
     ghost scalar = { λ v. scalar_in (lazy_tree v) };
 
-    fn as_scalar(&self) -> Option<Scalar<'_>> {
+    fn scalar(&self) -> Option<Scalar<'_>> {
         match self {
-            Value::Tape(view) => view.as_scalar(),
-            Value::Value(held) => held.as_document().as_scalar(),
+            Value::Tape(view) => view.scalar(),
+            Value::Value(held) => held.as_document().scalar(),
         }
     }
 }
 
-impl ValueGetScalar for Value<'_, '_, '_> {
+impl HasMembers for Value<'_, '_, '_> {
     ghost use Rattle.sj_lazy.specs.ByName.{member_seen};
 
     ghost member = { λ v k. member_seen (contents v) k };
 
     ghost use Rattle.sj_lazy.specs.Contents.{contents};
 
-    fn try_get_member(&self, key: &str) -> Result<Option<Member<'_>>, TryTypeError> {
+    fn try_member(&self, key: &str) -> Result<Option<Member<'_>>, TryTypeError> {
         match self {
-            Value::Tape(view) => view.try_get_member(key),
-            Value::Value(held) => held.as_document().try_get_member(key),
+            Value::Tape(view) => view.try_member(key),
+            Value::Value(held) => held.as_document().try_member(key),
         }
     }
 }

@@ -10,7 +10,7 @@ use crate::literal::Literal;
 use crate::value::Value;
 use sj_base::{Scalar, TryTypeError, ValueType};
 use sj_object::{Object, ObjectKey};
-use sj_reads::{Member, TypedValue, ValueAsScalar, ValueGetScalar};
+use sj_reads::{HasMembers, HasScalar, Member, TypedValue};
 
 impl<K: ObjectKey, D: Literal> Value<K, D> {
     ghost use Rattle.sj_owned.specs.Views.{value_tree, value_kind, items_inside, members_inside};
@@ -237,12 +237,12 @@ impl<K: ObjectKey, D: Literal> TypedValue for Value<K, D> {
     }
 }
 
-impl<K: ObjectKey, D: Literal> ValueAsScalar for Value<K, D> {
+impl<K: ObjectKey, D: Literal> HasScalar for Value<K, D> {
     ghost use Rattle.sj_owned.specs.Views.{value_tree};
 
     ghost scalar = { λ v. scalar_in (value_tree K.text D.literal v) };
 
-    fn as_scalar(&self) -> Option<Scalar<'_>> {
+    fn scalar(&self) -> Option<Scalar<'_>> {
         match self {
             Value::Static(scalar) => Some(Scalar::Static(*scalar)),
             Value::Decimal(literal) => Some(Scalar::Literal(literal.as_decimal())),
@@ -252,16 +252,16 @@ impl<K: ObjectKey, D: Literal> ValueAsScalar for Value<K, D> {
     }
 }
 
-impl<K: ObjectKey, D: Literal> ValueGetScalar for Value<K, D> {
+impl<K: ObjectKey, D: Literal> HasMembers for Value<K, D> {
     ghost use Rattle.sj_owned.specs.Parts.{member_seen};
 
     ghost member = { member_seen K.text D.literal };
 
-    fn try_get_member(&self, key: &str) -> Result<Option<Member<'_>>, TryTypeError> {
+    fn try_member(&self, key: &str) -> Result<Option<Member<'_>>, TryTypeError> {
         match self.try_get(key)? {
             Some(member) => Ok(Some(Member {
                 kind: member.value_type(),
-                scalar: member.as_scalar(),
+                scalar: member.scalar(),
             })),
             None => Ok(None),
         }

@@ -19,10 +19,24 @@ fn found_scalar(found: Result<Option<Member<'_>>, TryTypeError>) -> Option<Scala
     }
 }
 
+/// A value that may be an object. It has the reads of [`ValueGetScalar`].
+pub trait HasMembers: TypedValue {
+    // The member with a key, where the value is an object.
+    ghost member: { Self → List ℕ → Option Seen };
+
+    /// Returns the first member with this key, or `None` if the object has none.
+    ///
+    /// # Errors
+    ///
+    /// `TryTypeError` if the value isn't an object. The expected type is `Object`.
+    fn try_member(&self, key: &str) -> Result<Option<Member<'_>>, TryTypeError>
+        ensures { seen_result result ≡ looked_up (Self.kind self.now) (member self.now key.now) };
+}
+
 /// Reads of an object's members by key as one type (`value_trait::ValueObjectAccessAsScalar` and
 /// `ValueObjectAccessTryAsScalar`).
 ///
-/// If several members have the key, the first one is read.
+/// Each type that is [`HasMembers`] has them. If several members have the key, the first one is read.
 pub trait ValueGetScalar: TypedValue {
     // The member with a key, where the value is an object.
     ghost member: { Self → List ℕ → Option Seen };
@@ -397,5 +411,13 @@ pub trait ValueGetScalar: TypedValue {
             return Ok(None);
         };
         or_mismatch(read_decimal(member.scalar), ValueType::Decimal, member.kind).map(Some)
+    }
+}
+
+impl<T: HasMembers> ValueGetScalar for T {
+    ghost member = { T.member };
+
+    fn try_get_member(&self, key: &str) -> Result<Option<Member<'_>>, TryTypeError> {
+        self.try_member(key)
     }
 }

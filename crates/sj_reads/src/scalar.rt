@@ -19,9 +19,20 @@ pub trait TypedValue {
         ensures { result ≡ kind self.now };
 }
 
+/// A value that may be a scalar. It has the reads of [`ValueAsScalar`].
+pub trait HasScalar: TypedValue {
+    // The tree of the value, where it is a scalar.
+    ghost scalar: { Self → Option Tree };
+
+    /// Returns the value as a scalar, or `None` if it is an array or an object.
+    fn scalar(&self) -> Option<Scalar<'_>>
+        ensures tree { option_map scalar_tree result ≡ scalar self.now }
+        ensures kind { IfSome result (λ s. scalar_type s ≡ Self.kind self.now) };
+}
+
 /// Reads of a value as one type (`value_trait::ValueAsScalar`).
 ///
-/// A read gives the value if it is of that type. An integer can be read as every type that it fits, whichever carrier
+/// Each type that is [`HasScalar`] has them. A read gives the value if it is of that type. An integer can be read as every type that it fits, whichever carrier
 /// holds it.
 pub trait ValueAsScalar: TypedValue {
     // The tree of the value, where it is a scalar.
@@ -431,10 +442,19 @@ impl TypedValue for StaticNode {
     }
 }
 
-impl ValueAsScalar for StaticNode {
+impl HasScalar for StaticNode {
     ghost scalar = { λ node. Some (static_tree node) };
 
-    fn as_scalar(&self) -> Option<Scalar<'_>> {
+    fn scalar(&self) -> Option<Scalar<'_>> {
         Some(Scalar::Static(*self))
+    }
+}
+
+impl<T: HasScalar> ValueAsScalar for T {
+    ghost scalar = { T.scalar };
+
+    #[inline(always)]
+    fn as_scalar(&self) -> Option<Scalar<'_>> {
+        self.scalar()
     }
 }

@@ -13,7 +13,7 @@ use crate::array::Array;
 use crate::node::{Node, take_node};
 use crate::object::Object;
 use sj_base::{Scalar, StaticNode, TryTypeError, ValueType};
-use sj_reads::{Member, TypedValue, ValueAsScalar, ValueGetScalar};
+use sj_reads::{HasMembers, HasScalar, Member, TypedValue};
 
 /// A view of a value of a tape, or a null that is in no tape. Port of `simd_json::tape::Value` and of its methods from
 /// the traits of `value_trait`.
@@ -332,23 +332,23 @@ impl TypedValue for Value<'_, '_> {
     }
 }
 
-impl ValueAsScalar for Value<'_, '_> {
+impl HasScalar for Value<'_, '_> {
     ghost use Rattle.sj_tape.specs.Views.{value_tree};
 
     ghost scalar = { λ v. scalar_in (value_tree v) };
 
     #[inline(always)]
-    fn as_scalar(&self) -> Option<Scalar<'_>> {
+    fn scalar(&self) -> Option<Scalar<'_>> {
         self.into_scalar()
     }
 }
 
-impl ValueGetScalar for Value<'_, '_> {
+impl HasMembers for Value<'_, '_> {
     ghost use Rattle.sj_tape.specs.ByName.{member_seen};
 
     ghost member = { member_seen };
 
-    fn try_get_member(&self, key: &str) -> Result<Option<Member<'_>>, TryTypeError> {
+    fn try_member(&self, key: &str) -> Result<Option<Member<'_>>, TryTypeError> {
         match self.try_get(key)? {
             Some(member) => Ok(Some(Member {
                 kind: member.value_type(),

@@ -1,4 +1,4 @@
-use Rattle.sj_tape.proofs.value.ValueValueAsScalar.as_scalar.Goals as goal
+use Rattle.sj_tape.proofs.value.ValueHasScalar.scalar.Goals as goal
 
 pub returns-clause-tree : goal.returns-clause-tree
 returns-clause-tree c = c.into_scalar.ensures.tree

@@ -1,5 +1,5 @@
 use Rattle.std.proofs.Common.{refl}
-use Rattle.sj_reads.proofs.scalar.StaticNodeValueAsScalar.as_scalar.Goals as goal
+use Rattle.sj_reads.proofs.scalar.StaticNodeHasScalar.scalar.Goals as goal
 
 pub returns-clause-tree : goal.returns-clause-tree
 returns-clause-tree c = refl
