@@ -1,4 +1,5 @@
-use Rattle.std.proofs.Common.{◌∙◌, ap, sym}
+use Rattle.std.proofs.Common.{◌∙◌, ap, sym, rules, arith}
+use Rattle.std.proofs.lemmas.Grind.{common_steps}
 use Rattle.std.proofs.lemmas.List.{length-map}
 use Rattle.std.proofs.lemmas.Simd.{map-map}
 use Rattle.std.specs.Cow.{cow_str_bytes}
@@ -26,3 +27,9 @@ returns-in-Value-clause-count c =
     ∙ members_count document_tree cow_str_bytes _
     ∙ ap (λ es. members_len (members_view cow_str_bytes decimal_cow_text es)) c.iter-in-Value.ensures
     ∙ sym (ap (λ o. members_len (object_members o)) c.in-Value.is)
+
+pub returns-in-Tape-clause-parts : goal.returns-in-Tape-clause-parts
+returns-in-Tape-clause-parts c = search rules
+
+pub returns-in-Tape-clause-count : goal.returns-in-Tape-clause-count
+returns-in-Tape-clause-count c = grind (arith, common_steps)

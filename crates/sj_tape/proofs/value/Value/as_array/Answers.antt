@@ -1,4 +1,4 @@
-use Rattle.std.proofs.Common.{Some, ap, sym, subst, ◌∙◌}
+use Rattle.std.proofs.Common.{Some, ap, sym, subst, ◌∙◌, rules}
 use Rattle.sj_base.specs.Tree.{Tree, IsValidTree, AreValidItems}
 use Rattle.sj_tape.specs.Nodes.{entries}
 use Rattle.sj_base.specs.Containers.{items_in}
@@ -25,3 +25,6 @@ returns-in-Array-clause-tree c =
     let front = c.in_ok-first.ensures in
     let w = array_inside v.nodes.now rest c.in_ok-first.first c.in-Array.len c.in-Array.count (listed_front v.nodes.now rest c.in_ok-first.first v.listed front) front c.in-Array.is in
     ap Some (items_from (entries rest) w.0 c.in-Array.len w.3 w.2) ∙ sym (ap (λ (t : Tree). items_in t) w.1)
+
+pub returns-in_default-clause-nodes : goal.returns-in_default-clause-nodes
+returns-in_default-clause-nodes c = search rules

@@ -1,0 +1,8 @@
+use Rattle.std.proofs.Common.{rules}
+use Rattle.sj_owned.proofs.owned.to_value_with_buffers.Goals as goal
+
+pub returns-clause-answers : goal.returns-clause-answers
+returns-clause-answers c = search rules
+
+pub returns-clause-scanned : goal.returns-clause-scanned
+returns-clause-scanned c = search rules

@@ -1,0 +1,5 @@
+use Rattle.std.proofs.Common.{rules}
+use Rattle.sj_tape.proofs.object.Object.get.Goals as goal
+
+pub loop-key-preserved : goal.loop-key-preserved
+loop-key-preserved c = search rules
