@@ -1,7 +1,7 @@
 //! Typed reads of a JSON value, and of an object's members by key.
 //!
-//! A form of document implements one call of each of [`TypedValue`], [`HasScalar`] and [`HasMembers`], and gets the reads as
-//! every type from them.
+//! A form of document implements [`TypedValue`], [`HasScalar`] and [`HasMembers`], one call each, and so has the reads of
+//! [`ValueAsScalar`] and [`ValueGetScalar`].
 #![tactic(auto)]
 
 mod found;

@@ -19,7 +19,8 @@ fn found_scalar(found: Result<Option<Member<'_>>, TryTypeError>) -> Option<Scala
     }
 }
 
-/// A value that may be an object. It has the reads of [`ValueGetScalar`].
+/// A type whose values may be objects. A type that implements it has the reads of [`ValueGetScalar`]. It isn't in
+/// `value_trait`.
 pub trait HasMembers: TypedValue {
     // The member with a key, where the value is an object.
     ghost member: { Self → List ℕ → Option Seen };
@@ -36,12 +37,13 @@ pub trait HasMembers: TypedValue {
 /// Reads of an object's members by key as one type (`value_trait::ValueObjectAccessAsScalar` and
 /// `ValueObjectAccessTryAsScalar`).
 ///
-/// Each type that is [`HasMembers`] has them. If several members have the key, the first one is read.
+/// Every type that implements [`HasMembers`] has them; implement that trait and not this one. If several members have the
+/// key, the first one is read.
 pub trait ValueGetScalar: TypedValue {
     // The member with a key, where the value is an object.
     ghost member: { Self → List ℕ → Option Seen };
 
-    /// Returns the first member with this key, or `None` if the object has none.
+    /// Returns the first member with this key, or `None` if the object has none: [`HasMembers::try_member`].
     ///
     /// # Errors
     ///

@@ -19,7 +19,8 @@ pub trait TypedValue {
         ensures { result ≡ kind self.now };
 }
 
-/// A value that may be a scalar. It has the reads of [`ValueAsScalar`].
+/// A type whose values may be scalars. A type that implements it has the reads of [`ValueAsScalar`]. It isn't in
+/// `value_trait`.
 pub trait HasScalar: TypedValue {
     // The tree of the value, where it is a scalar.
     ghost scalar: { Self → Option Tree };
@@ -32,13 +33,13 @@ pub trait HasScalar: TypedValue {
 
 /// Reads of a value as one type (`value_trait::ValueAsScalar`).
 ///
-/// Each type that is [`HasScalar`] has them. A read gives the value if it is of that type. An integer can be read as every type that it fits, whichever carrier
-/// holds it.
+/// Every type that implements [`HasScalar`] has them; implement that trait and not this one. A read gives the value if it
+/// is of that type. An integer can be read as every type that it fits, whichever carrier holds it.
 pub trait ValueAsScalar: TypedValue {
     // The tree of the value, where it is a scalar.
     ghost scalar: { Self → Option Tree };
 
-    /// Returns the value as a scalar, or `None` if it is an array or an object.
+    /// Returns the value as a scalar, or `None` if it is an array or an object: [`HasScalar::scalar`].
     fn as_scalar(&self) -> Option<Scalar<'_>>
         ensures tree { option_map scalar_tree result ≡ scalar self.now }
         ensures kind { IfSome result (λ s. scalar_type s ≡ Self.kind self.now) };

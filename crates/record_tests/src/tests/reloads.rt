@@ -181,7 +181,7 @@ fn reloads_change_nothing(rt: HostRuntime) -> Result<(), Fail> {
     Ok(())
 }
 
-// The same in one form.
+// Looks for the record in one form, with a reload at this place of the commands.
 fn check_reload_in(
     form: Form,
     rt: &impl Abort,
@@ -198,6 +198,7 @@ fn check_reload_in(
     Ok(())
 }
 
+// Looks for the record in one form, with a reload of each kind at each place of the script.
 fn check_reloads_in(
     form: Form,
     rt: &impl Abort,
