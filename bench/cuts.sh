@@ -4,8 +4,8 @@
 #     bench/cuts.sh FOLDER
 #
 # `read_bench compare` cuts each document of a file at each of its first 300 bytes and at about 200 further places. It scans
-# what stands before each cut by `BlockScan` and by `PlainScan`, and its third number is that of the cuts at which their
-# faults or their positions differ. The program is made as `rt run` makes it.
+# what stands before each cut by `BlockScan` and by `PlainScan`, and it prints at how many cuts their faults or their
+# positions differ. The program is made as `rt run` makes it.
 set -eu
 
 top=$(cd "$(dirname "$0")/.." && pwd)
@@ -19,7 +19,7 @@ fi
 differ=0
 for file in "$folder"/*.json "$folder"/*.jsonl; do
     if [ ! -e "$file" ]; then continue; fi
-    read -r _ _ count < <("$top/crates/read_bench/out/read_bench" compare "$file" 0)
+    read -r count < <("$top/crates/read_bench/out/read_bench" compare "$file" 0)
     echo "$(basename "$file"): the scans differ at $count cuts"
     if [ "$count" != 0 ]; then differ=1; fi
 done

@@ -1,6 +1,7 @@
 //! Documents: read, edited, copied, converted, compared and shown.
 mod copies;
 mod depths;
+mod members;
 mod owned;
 mod slices;
 mod values;

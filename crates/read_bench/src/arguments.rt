@@ -15,8 +15,8 @@ const KINDS: [&str; 7] = [
 ];
 
 /// What a pass does with each document.
-#[derive(Clone, Copy, Debug, PartialEq, Eq)]
-pub enum Kind {
+#[derive(Clone, Copy, PartialEq, Eq)]
+pub(crate) enum Kind {
     /// Reads it into a tape, with the scan that `sj_parse` uses.
     Tape,
     /// Reads it into a tape, with the scan byte by byte.
@@ -34,8 +34,8 @@ pub enum Kind {
 }
 
 /// A word that names no kind.
-#[derive(Clone, Copy, Debug, PartialEq, Eq)]
-pub struct UnknownKind;
+#[derive(Clone, Copy)]
+pub(crate) struct UnknownKind;
 
 impl FromStr for Kind {
     type Err = UnknownKind;
@@ -59,13 +59,13 @@ impl FromStr for Kind {
 }
 
 /// What the arguments ask for.
-#[derive(Debug, Drop)]
-pub struct Arguments<'a> {
-    pub kind: Kind,
+#[derive(Drop)]
+pub(crate) struct Arguments<'a> {
+    pub(crate) kind: Kind,
     /// The name of the file.
-    pub file: &'a str,
+    pub(crate) file: &'a str,
     /// For how long passes begin.
-    pub duration: Duration,
+    pub(crate) duration: Duration,
 }
 
 /// Parses the words of the command line, of which the first is the program's name.
@@ -73,7 +73,7 @@ pub struct Arguments<'a> {
 /// # Errors
 ///
 /// The error of `clap` if the words are refused or ask for the help, or if an allocation failed.
-pub fn parse_arguments<'a, S: AsStr>(
+pub(crate) fn parse_arguments<'a, S: AsStr>(
     alloc: Global,
     words: &'a [S],
 ) -> Result<Arguments<'a>, Error> {
@@ -103,7 +103,7 @@ fn command<'a>(alloc: Global) -> Result<Command<'a>, AllocError> {
         .action(ArgAction::Set)
         .value_parser(KINDS.as_slice())
         .help(
-            "What a pass does with each document. For compare the third number is that of the cuts at which the two scans differ",
+            "What a pass does with each document. compare prints one number, that of the cuts at which the two scans differ",
         );
     let file = Arg::new(alloc, "FILE")
         .required(true)

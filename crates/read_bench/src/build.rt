@@ -20,8 +20,8 @@ use std::io;
 use std::time::{Clock, Instant};
 
 /// Whether a document owns its texts or borrows them.
-#[derive(Clone, Copy, Debug)]
-pub enum Form {
+#[derive(Clone, Copy)]
+pub(crate) enum Form {
     Owned,
     Borrowed,
 }
@@ -29,7 +29,7 @@ pub enum Form {
 /// Reads each document into one tape, builds a document of it, and drops that. The room for positions is kept from pass to
 /// pass, and that of the tape from document to document.
 #[derive(Drop)]
-pub struct DocumentPass {
+pub(crate) struct DocumentPass {
     alloc: Global,
     documents: Vec<Vec<u8>>,
     form: Form,
@@ -38,7 +38,7 @@ pub struct DocumentPass {
 }
 
 impl DocumentPass {
-    pub fn new(
+    pub(crate) fn new(
         alloc: Global,
         documents: Vec<Vec<u8>>,
         form: Form,

@@ -20,14 +20,14 @@ const CUTS: usize = 200;
 /// Cuts each document at each of its first 300 bytes and at about 200 further places, and compares the two scans of what
 /// stands before each cut.
 #[derive(Drop)]
-pub struct ComparePass {
+pub(crate) struct ComparePass {
     documents: Vec<Vec<u8>>,
     plain: Vec<u32>,
     block: Vec<u32>,
 }
 
 impl ComparePass {
-    pub fn new(alloc: Global, documents: Vec<Vec<u8>>) -> ComparePass
+    pub(crate) fn new(alloc: Global, documents: Vec<Vec<u8>>) -> ComparePass
         ensures { result.documents ≡ documents }
     {
         ComparePass {

@@ -11,12 +11,10 @@ mod documents;
 mod measure;
 mod passes;
 mod stats;
-#[cfg(test)]
-mod tests;
 
-use crate::arguments::{Arguments, parse_arguments};
+use crate::arguments::{Arguments, Kind, parse_arguments};
 use crate::documents::split;
-use crate::measure::measure;
+use crate::measure::{Measured, measure};
 use anyhow::{Context, Result};
 use std::process::ExitCode;
 use std::{env, fs};
@@ -36,13 +34,18 @@ fn main(rt: HostRuntime) -> Result<ExitCode> {
 }
 
 /// Times what the arguments ask for, and prints the median and the least time of a pass, in nanoseconds, and the number
-/// of documents that are refused, or of cuts at which the two scans differ.
+/// of documents that are refused. Where they ask for a comparison, it prints the number of cuts at which the two scans
+/// differ, and no time.
 fn bench(rt: &HostRuntime, arguments: &Arguments<'_>) -> Result<()> {
     let alloc = rt.alloc();
     let bytes = fs::read(rt, arguments.file).context(format_args!("reading {}", arguments.file))?;
     let documents = split(alloc, bytes, arguments.file)?;
     let measured = measure(rt, alloc, arguments.kind, documents, arguments.duration)?;
-    let figures = measured.figures;
-    println!(rt; "{} {} {}", figures.median, figures.least, measured.refused)?;
+    let Measured { figures, refused } = measured;
+    if arguments.kind == Kind::Compare {
+        println!(rt; "{refused}")?;
+    } else {
+        println!(rt; "{} {} {refused}", figures.median, figures.least)?;
+    }
     Ok(())
 }

@@ -16,12 +16,12 @@ use std::time::{Clock, Duration, Instant};
 const MAX_PASSES: u64 = 1 << 32;
 
 /// What was measured.
-#[derive(Clone, Copy, Debug, PartialEq, Eq)]
-pub struct Measured {
+#[derive(Clone, Copy)]
+pub(crate) struct Measured {
     /// The figures of the passes, in nanoseconds.
-    pub figures: Stats,
+    pub(crate) figures: Stats,
     /// The number of documents refused, or of cuts at which the two scans differ.
-    pub refused: usize,
+    pub(crate) refused: usize,
 }
 
 /// Makes passes of this kind over the documents until the duration has gone by, at least one.
@@ -29,7 +29,7 @@ pub struct Measured {
 /// # Errors
 ///
 /// The clock's error, or one of the kind `OutOfMemory`.
-pub fn measure<R: Clock>(
+pub(crate) fn measure<R: Clock>(
     rt: &R,
     alloc: Global,
     kind: Kind,

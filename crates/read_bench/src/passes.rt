@@ -15,14 +15,14 @@ use std::io;
 use std::time::{Clock, Duration, Instant};
 
 /// The time of a pass, and the number of documents that it refused, or of cuts at which the two scans differ.
-#[derive(Clone, Copy, Debug, PartialEq, Eq)]
-pub struct Timed {
-    pub duration: Duration,
-    pub refused: usize,
+#[derive(Clone, Copy)]
+pub(crate) struct Timed {
+    pub(crate) duration: Duration,
+    pub(crate) refused: usize,
 }
 
 /// A pass over documents, which can be made again and again.
-pub trait Pass {
+pub(crate) trait Pass {
     ghost refusals: { Self → ℕ };
 
     /// Makes the pass, and reads the clock before and after it.
@@ -38,7 +38,7 @@ pub trait Pass {
 /// Reads each document into one tape, with its positions from the scanner. The room for positions is kept from pass to
 /// pass, and that of the tape from document to document.
 #[derive(Drop)]
-pub struct TapePass<S: Stage1 + Drop> {
+pub(crate) struct TapePass<S: Stage1 + Drop> {
     alloc: Global,
     documents: Vec<Vec<u8>>,
     scanner: S,
@@ -47,7 +47,7 @@ pub struct TapePass<S: Stage1 + Drop> {
 }
 
 impl<S: Stage1 + Drop> TapePass<S> {
-    pub fn new(
+    pub(crate) fn new(
         alloc: Global,
         documents: Vec<Vec<u8>>,
         scanner: S,
@@ -84,13 +84,13 @@ impl<S: Stage1 + Drop> Pass for TapePass<S> {
 
 /// Finds the positions of each document by the scan of `sj_parse`. Their room is kept.
 #[derive(Drop)]
-pub struct ScanPass {
+pub(crate) struct ScanPass {
     documents: Vec<Vec<u8>>,
     positions: Vec<u32>,
 }
 
 impl ScanPass {
-    pub fn new(alloc: Global, documents: Vec<Vec<u8>>) -> ScanPass
+    pub(crate) fn new(alloc: Global, documents: Vec<Vec<u8>>) -> ScanPass
         ensures { result.documents ≡ documents }
     {
         let positions = Vec::new(alloc);
@@ -114,7 +114,7 @@ impl Pass for ScanPass {
 
 /// Prints the tape of each document that isn't refused, without whitespace, into one vector, whose room is kept.
 #[derive(Drop)]
-pub struct PrintPass<'t> {
+pub(crate) struct PrintPass<'t> {
     tapes: Vec<Tape<'t>>,
     refused: usize,
     out: Vec<u8>,
@@ -122,7 +122,7 @@ pub struct PrintPass<'t> {
 
 impl<'t> PrintPass<'t> {
     /// Reads the documents.
-    pub fn read(alloc: Global, documents: &'t mut [Vec<u8>]) -> Result<PrintPass<'t>, AllocError>
+    pub(crate) fn read(alloc: Global, documents: &'t mut [Vec<u8>]) -> Result<PrintPass<'t>, AllocError>
         ensures { IfOk result (λ pass. pass.refused ≡ tapes_refused documents.entry.now) }
     {
         let mut buffers = Buffers::new(alloc, 0)?;

@@ -49,7 +49,7 @@ found_first false u o = refl
 has_key-member : (n : List ℕ) (u : Tree) (ms : Members) (k : List ℕ) → has_key (member n u ms) k ≡ (bytes_eq n k || has_key ms k)
 has_key-member n u ms k = found_first (bytes_eq n k) u (member_at ms k)
 
-has_key-with_last : (ks : Members) (k : List ℕ) (t : Tree) (n : List ℕ) → has_key (with_last ks k t) n ≡ (has_key ks n || bytes_eq k n)
+pub has_key-with_last : (ks : Members) (k : List ℕ) (t : Tree) (n : List ℕ) → has_key (with_last ks k t) n ≡ (has_key ks n || bytes_eq k n)
 has_key-with_last no_members k t n = has_key-member k t no_members n ∙ or-false (bytes_eq k n)
 has_key-with_last (member m u ks) k t n =
     has_key-member m u (with_last ks k t) n
@@ -62,7 +62,7 @@ same_tests true q there back = sym (there refl)
 same_tests false true there back = back refl
 same_tests false false there back = refl
 
-bytes_eq_comm : (a b : List ℕ) → bytes_eq a b ≡ bytes_eq b a
+pub bytes_eq_comm : (a b : List ℕ) → bytes_eq a b ≡ bytes_eq b a
 bytes_eq_comm a b =
     same_tests (bytes_eq a b) (bytes_eq b a) (λ same. (bytes_eq-Decides b a).1 (sym ((bytes_eq-Decides a b).0 same))) (λ same. (bytes_eq-Decides a b).1 (sym ((bytes_eq-Decides b a).0 same)))
 

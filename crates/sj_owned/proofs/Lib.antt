@@ -3,6 +3,7 @@ pub mod Edits
 pub mod Writes
 pub mod Pieces
 pub mod Kept
+pub mod MetKeys
 pub mod Placed
 pub mod Stacks
 pub mod Members

@@ -3,18 +3,20 @@
 //! A document is built from the last node of its tape to the first, so that a container finds its parts on a stack. So a
 //! deep text needs no recursion.
 ghost use Rattle.std.specs.Prelude.{◌≡◌, ◌∷◌, IfOk, OnOk, map, take, drop, ◌++◌};
+ghost use Rattle.sj_base.specs.Tree.{Tree, no_members};
 ghost use Rattle.sj_base.specs.Keep.{keep};
 ghost use Rattle.sj_tape.specs.Nodes.{node_entry};
 ghost use Rattle.sj_tape.specs.Views.{tape_nodes, nodes_tree, value_tree as view_tree};
 ghost use Rattle.sj_owned.specs.Trees.{members_of, on_values};
 ghost use Rattle.sj_owned.specs.inside.Building.{part_shown, shown_tree, first_part, stack, place, list_from, object_from, drop_pairs, add_pair};
-ghost use Rattle.sj_owned.specs.inside.Kept.{add_member};
+ghost use Rattle.sj_owned.specs.inside.Kept.{add_member, has_key, Knows};
 
 use crate::built::BuildValue;
 use sj_base::StaticNode;
 use sj_object::{MakeKey, Object};
 use sj_tape::{Node, Tape, Value as TapeValue};
 use std::alloc::{AllocError, Global};
+use std::collections::BTreeSet;
 
 // What is built of the nodes behind. A text is a string or a key, as the container before it decides.
 #[derive(Drop)]
@@ -69,17 +71,51 @@ fn take_list<'de, V: BuildValue<'de, K> + Drop, K: MakeKey<'de> + Drop>(
     V::from_array(alloc, items)
 }
 
+/// The most members of an object whose keys are compared with one another.
+const FEW_MEMBERS: usize = 64;
+
+// The keys that were met, where an object is to have so many members: looked up in a set, they take no time that grows
+// with the square of their number.
+fn no_keys<'de>(alloc: Global, len: usize) -> Option<BTreeSet<&'de str>>
+    ensures { Knows result no_members }
+{
+    if len > FEW_MEMBERS {
+        Some(BTreeSet::new(alloc))
+    } else {
+        None
+    }
+}
+
+// Whether a member has the key, which counts as met from now on.
+fn meet<'de, V: BuildValue<'de, K> + Drop, K: MakeKey<'de> + Drop>(
+    key: &'de str,
+    met: &mut Option<BTreeSet<&'de str>>,
+    members: &Object<K, V>,
+) -> Result<bool, AllocError>
+    requires { Knows met.old (members_of K.text (on_values V.tree members.now)) }
+    ensures found { IfOk result (λ found. found ≡ has_key (members_of K.text (on_values V.tree members.now)) key.now) }
+    ensures knows { (t : Tree) → OnOk result (Knows met.new (add_member (members_of K.text (on_values V.tree members.now)) key.now t)) }
+{
+    match met {
+        Some(keys) => Ok(!keys.insert(key)?),
+        None => Ok(members.contains_key(key)),
+    }
+}
+
 // Adds a member, unless there is one with its key.
 fn add_member<'de, V: BuildValue<'de, K> + Drop, K: MakeKey<'de> + Drop>(
     alloc: Global,
     key: &'de str,
     value: Part<'de, V>,
+    met: &mut Option<BTreeSet<&'de str>>,
     members: &mut Object<K, V>,
 ) -> Result<(), AllocError>
-    ensures { OnOk result (members_of K.text (on_values V.tree members.new)
+    requires { Knows met.old (members_of K.text (on_values V.tree members.old)) }
+    ensures members { OnOk result (members_of K.text (on_values V.tree members.new)
         ≡ add_member (members_of K.text (on_values V.tree members.old)) key.now (shown_tree (part_shown V.tree value.entry))) }
+    ensures knows { OnOk result (Knows met.new (members_of K.text (on_values V.tree members.new))) }
 {
-    if members.contains_key(key) {
+    if meet(key, met, members)? {
         return Ok(());
     }
     let value = into_value(alloc, value)?;
@@ -94,16 +130,19 @@ fn add_member<'de, V: BuildValue<'de, K> + Drop, K: MakeKey<'de> + Drop>(
 fn take_member<'de, V: BuildValue<'de, K> + Drop, K: MakeKey<'de> + Drop>(
     alloc: Global,
     parts: &mut Vec<Part<'de, V>>,
+    met: &mut Option<BTreeSet<&'de str>>,
     members: &mut Object<K, V>,
 ) -> Result<(), AllocError>
+    requires { Knows met.old (members_of K.text (on_values V.tree members.old)) }
     ensures members { OnOk result (members_of K.text (on_values V.tree members.new)
         ≡ add_pair (members_of K.text (on_values V.tree members.old)) (stack V.tree parts.old.items)) }
+    ensures knows { OnOk result (Knows met.new (members_of K.text (on_values V.tree members.new))) }
     ensures rest { OnOk result (stack V.tree parts.new.items ≡ drop_pairs 1 (stack V.tree parts.old.items)) }
 {
     let key = parts.pop();
     let value = parts.pop();
     match (key, value) {
-        (Some(Part::Text(key)), Some(value)) => add_member(alloc, key, value, members),
+        (Some(Part::Text(key)), Some(value)) => add_member(alloc, key, value, met, members),
         _ => Ok(()),
     }
 }
@@ -118,9 +157,10 @@ fn take_object<'de, V: BuildValue<'de, K> + Drop, K: MakeKey<'de> + Drop>(
     ensures rest { OnOk result (stack V.tree parts.new.items ≡ drop_pairs len (stack V.tree parts.old.items)) }
 {
     let mut members = Object::with_capacity(alloc, len)?;
+    let mut met = no_keys(alloc, len);
     let mut left = len;
     while left > 0 {
-        take_member(alloc, parts, &mut members)?;
+        take_member(alloc, parts, &mut met, &mut members)?;
         left -= 1;
     }
     V::from_object(alloc, members.into_entries())

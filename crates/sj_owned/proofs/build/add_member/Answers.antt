@@ -1,30 +1,49 @@
-use Rattle.std.proofs.Common.{◌≡◌, List, false, is_some, ap, ap₂, sym, ◌∙◌}
+use Rattle.std.proofs.Common.{◌≡◌, List, true, false, is_some, ap, ap₂, sym, subst, ◌∙◌}
 use Rattle.sj_base.specs.Tree.{Members}
 use Rattle.sj_object.specs.Pairs.{value_at}
 use Rattle.sj_object.specs.declared.entry.Entry.{Entry}
 use Rattle.sj_owned.specs.Trees.{members_of, on_values}
 use Rattle.sj_owned.specs.inside.Building.{part_shown, shown_tree}
-use Rattle.sj_owned.specs.inside.Kept.{add_member}
-use Rattle.sj_owned.proofs.Members.{not_there, not_added, added}
+use Rattle.sj_owned.specs.inside.Kept.{add_member, Knows}
+use Rattle.sj_owned.proofs.Members.{not_there, not_added, added, has_member}
 use Rattle.sj_owned.proofs.build.add_member.Goals as goal
 
-pub returns-then-contains_key : goal.returns-then-contains_key
-returns-then-contains_key g c =
+pub returns-then-branch-clause-members : goal.returns-then-branch-clause-members
+returns-then-branch-clause-members g c =
+    let text = g.K.ObjectKey.text in
     let tree = g.V.BuildValue.tree in
-    not_added g.K.ObjectKey.text tree c.args.members.now c.args.key.now (shown_tree (part_shown tree c.args.value)) (sym c.contains_key.ensures ∙ c.if-contains_key.true)
+    let old = c.args.members.now in
+    let there : is_some (value_at text old c.args.key.now) ≡ true = has_member text tree old c.args.key.now ∙ sym c.in_ok-meet.ensures.found ∙ c.if-branch.true in
+    not_added text tree old c.args.key.now (shown_tree (part_shown tree c.args.value)) there
+
+pub returns-then-branch-clause-knows : goal.returns-then-branch-clause-knows
+returns-then-branch-clause-knows g c =
+    let t = shown_tree (part_shown g.V.BuildValue.tree c.args.value) in
+    subst (Knows c.meet.new.met) (sym (returns-then-branch-clause-members g c)) (c.in_ok-meet.ensures.knows t)
 
 pub push_new-requires : goal.push_new-requires
 push_new-requires g c =
     let text = g.K.ObjectKey.text in
-    not_there (value_at text c.args.members.now (text c.in_ok-key.key)) (ap (λ k. is_some (value_at text c.args.members.now k)) c.in_ok-key.ensures ∙ sym c.contains_key.ensures ∙ c.if-contains_key.false)
+    let old = c.args.members.now in
+    not_there (value_at text old (text c.in_ok-key.key))
+      (ap (λ k. is_some (value_at text old k)) c.in_ok-key.ensures
+          ∙ has_member text g.V.BuildValue.tree old c.args.key.now
+          ∙ sym c.in_ok-meet.ensures.found
+          ∙ c.if-branch.false)
 
-pub returns : goal.returns
-returns g c =
+pub returns-clause-members : goal.returns-clause-members
+returns-clause-members g c =
     let text = g.K.ObjectKey.text in
     let tree = g.V.BuildValue.tree in
     let old = c.args.members.now in
     let view : List (Entry g.row.K.Denot g.row.V.Denot) → Members = λ es. members_of text (on_values tree es) in
-    let new : is_some (value_at text old (text c.in_ok-key.key)) ≡ false = ap (λ k. is_some (value_at text old k)) c.in_ok-key.ensures ∙ sym c.contains_key.ensures ∙ c.if-contains_key.false in
+    let new : is_some (value_at text old (text c.in_ok-key.key)) ≡ false =
+      ap (λ k. is_some (value_at text old k)) c.in_ok-key.ensures ∙ has_member text tree old c.args.key.now ∙ sym c.in_ok-meet.ensures.found ∙ c.if-branch.false in
     ap view c.in-Ok.ensures.ok
     ∙ added text tree old c.in_ok-key.key c.in_ok-value.value new
     ∙ ap₂ (add_member (view old)) c.in_ok-key.ensures c.in_ok-value.ensures
+
+pub returns-clause-knows : goal.returns-clause-knows
+returns-clause-knows g c =
+    let t = shown_tree (part_shown g.V.BuildValue.tree c.args.value) in
+    subst (Knows c.meet.new.met) (sym (returns-clause-members g c)) (c.in_ok-meet.ensures.knows t)

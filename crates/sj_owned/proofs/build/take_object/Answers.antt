@@ -17,4 +17,5 @@ loop-left-preserved g c =
           ∙ members_then left old ps (omega (arith, c.loop-left-test.true))
           ∙ c.loop-left.invariant.0,
       ap (drop_pairs (left - 1)) c.in_ok-take_member.ensures.rest ∙ pairs_then left ps (omega (arith, c.loop-left-test.true)) ∙ c.loop-left.invariant.1,
+      c.in_ok-take_member.ensures.knows,
     )
