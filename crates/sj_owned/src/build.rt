@@ -71,11 +71,11 @@ fn take_list<'de, V: BuildValue<'de, K> + Drop, K: MakeKey<'de> + Drop>(
     V::from_array(alloc, items)
 }
 
-/// The most members of an object whose keys are compared with one another.
-const FEW_MEMBERS: usize = 64;
+/// The most members of an object whose keys are compared with one another. With so many a set takes as long.
+const FEW_MEMBERS: usize = 192;
 
-// The keys that were met, where an object is to have so many members: looked up in a set, they take no time that grows
-// with the square of their number.
+// The keys that were met, none yet, where an object is to have more members. In a set they take no time that grows with the
+// square of their number.
 fn no_keys<'de>(alloc: Global, len: usize) -> Option<BTreeSet<&'de str>>
     ensures { Knows result no_members }
 {
