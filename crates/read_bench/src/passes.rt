@@ -122,7 +122,10 @@ pub(crate) struct PrintPass<'t> {
 
 impl<'t> PrintPass<'t> {
     /// Reads the documents.
-    pub(crate) fn read(alloc: Global, documents: &'t mut [Vec<u8>]) -> Result<PrintPass<'t>, AllocError>
+    pub(crate) fn read(
+        alloc: Global,
+        documents: &'t mut [Vec<u8>],
+    ) -> Result<PrintPass<'t>, AllocError>
         ensures { IfOk result (λ pass. pass.refused ≡ tapes_refused documents.entry.now) }
     {
         let mut buffers = Buffers::new(alloc, 0)?;

@@ -26,10 +26,10 @@ push_new-requires g c =
     let text = g.K.ObjectKey.text in
     let old = c.args.members.now in
     not_there (value_at text old (text c.in_ok-key.key))
-      (ap (λ k. is_some (value_at text old k)) c.in_ok-key.ensures
-          ∙ has_member text g.V.BuildValue.tree old c.args.key.now
-          ∙ sym c.in_ok-meet.ensures.found
-          ∙ c.if-branch.false)
+    (ap (λ k. is_some (value_at text old k)) c.in_ok-key.ensures
+    ∙ has_member text g.V.BuildValue.tree old c.args.key.now
+    ∙ sym c.in_ok-meet.ensures.found
+    ∙ c.if-branch.false)
 
 pub returns-clause-members : goal.returns-clause-members
 returns-clause-members g c =
@@ -38,7 +38,7 @@ returns-clause-members g c =
     let old = c.args.members.now in
     let view : List (Entry g.row.K.Denot g.row.V.Denot) → Members = λ es. members_of text (on_values tree es) in
     let new : is_some (value_at text old (text c.in_ok-key.key)) ≡ false =
-      ap (λ k. is_some (value_at text old k)) c.in_ok-key.ensures ∙ has_member text tree old c.args.key.now ∙ sym c.in_ok-meet.ensures.found ∙ c.if-branch.false in
+    ap (λ k. is_some (value_at text old k)) c.in_ok-key.ensures ∙ has_member text tree old c.args.key.now ∙ sym c.in_ok-meet.ensures.found ∙ c.if-branch.false in
     ap view c.in-Ok.ensures.ok
     ∙ added text tree old c.in_ok-key.key c.in_ok-value.value new
     ∙ ap₂ (add_member (view old)) c.in_ok-key.ensures c.in_ok-value.ensures
