@@ -2,7 +2,6 @@
 use clap::error::ErrorKind;
 use clap::{Arg, ArgAction, Command, Error, value_parser};
 use std::alloc::{AllocError, Global};
-use std::convert::AsStr;
 use std::str::FromStr;
 use std::time::Duration;
 
@@ -15,7 +14,7 @@ const KINDS: [&str; 7] = [
 ];
 
 /// What a pass does with each document.
-#[derive(Clone, Copy, PartialEq, Eq)]
+#[derive(Clone, Copy)]
 pub(crate) enum Kind {
     /// Reads it into a tape, with the scan that `sj_parse` uses.
     Tape,
@@ -73,9 +72,9 @@ pub(crate) struct Arguments<'a> {
 /// # Errors
 ///
 /// The error of `clap` if the words are refused or ask for the help, or if an allocation failed.
-pub(crate) fn parse_arguments<'a, S: AsStr>(
+pub(crate) fn parse_arguments<'a>(
     alloc: Global,
-    words: &'a [S],
+    words: &'a [String],
 ) -> Result<Arguments<'a>, Error> {
     let matches = command(alloc)?.try_get_matches_from(words)?;
     let kind = matches.get_one::<Kind>("KIND");

@@ -40,9 +40,14 @@ fn bench(rt: &HostRuntime, arguments: &Arguments<'_>) -> Result<()> {
     let alloc = rt.alloc();
     let bytes = fs::read(rt, arguments.file).context(format_args!("reading {}", arguments.file))?;
     let documents = split(alloc, bytes, arguments.file)?;
-    let measured = measure(rt, alloc, arguments.kind, documents, arguments.duration)?;
-    let Measured { figures, refused } = measured;
-    if arguments.kind == Kind::Compare {
+    let Measured { figures, refused } = measure(
+        rt,
+        alloc,
+        arguments.kind,
+        documents,
+        arguments.duration,
+    )?;
+    if matches!(arguments.kind, Kind::Compare) {
         println!(rt; "{refused}")?;
     } else {
         println!(rt; "{} {} {refused}", figures.median, figures.least)?;

@@ -27,6 +27,7 @@ Commands of a script:
   [\"push\", PATH, VALUE]         appends an item; []
   [\"pop\", PATH]                 removes the last item; [item], or []
   [\"set\", PATH, VALUE]          replaces the value; [old value]
+  [\"undo\"]                      takes back the newest write; true, or false if there is none
   [\"reload\"]                    prints the document and reads that text in its place; true
   [\"reload_pp\"]                 the same with the indented text
 
