@@ -3,25 +3,27 @@
 #
 #     oracle/compare.sh [SEEDS] [LINES]
 #
-# For each seed from 1 to SEEDS (20 if not given) it makes LINES lines (5000) and a script, runs both, and compares the
-# output, the text on standard error and the status. What differs is kept, and its folder is named. Settings are taken from
-# the environment:
+# For each of SEEDS seeds (300 if not given) it makes LINES lines (500) and a script, runs both, and compares the output, the text
+# on standard error and the status. What differs is kept, and its folder is named. It needs Python 3.9 or later. The program is
+# made by `rt run`, which proves it first. Settings are taken from the environment:
 #
-#     FIRST=1    the first seed
+#     FIRST=1          the first seed
+#     RECORDS=FILE     the program; if not set, `rt run` makes it
 set -eu
 
 top=$(cd "$(dirname "$0")/.." && pwd)
-seeds=${1:-20}
-lines=${2:-5000}
+seeds=${1:-300}
+lines=${2:-500}
 first=${FIRST:-1}
+differ=0
 work=$(mktemp -d)
-program=$top/crates/records_cli/out/records_cli
-if ! (cd "$top/crates/records_cli" && rt run -- --help > "$work/log" 2>&1); then
+trap 'if [ "$differ" = 0 ]; then rm -rf "$work"; fi' EXIT
+program=${RECORDS:-$top/crates/records_cli/out/records_cli}
+if [ -z "${RECORDS:-}" ] && ! (cd "$top/crates/records_cli" && rt run -- --help > "$work/log" 2>&1); then
     echo "records can't be made: $(tail -n 1 "$work/log")" >&2
     exit 1
 fi
 
-differ=0
 for ((seed = first; seed < first + seeds; seed++)); do
     folder=$work/$seed
     mkdir "$folder"
@@ -41,8 +43,5 @@ for ((seed = first; seed < first + seeds; seed++)); do
         differ=1
     fi
 done
-if [ "$differ" = 0 ]; then
-    rm -r "$work"
-    echo "$seeds seeds of $lines lines: no difference"
-fi
+if [ "$differ" = 0 ]; then echo "$seeds seeds of $lines lines: no difference"; fi
 exit "$differ"

@@ -4,7 +4,8 @@
     oracle/lines.py SEED LINES FOLDER
 
 It writes FOLDER/lines.jsonl, FOLDER/script.json, and FOLDER/arguments with a form and a depth. About half of the lines are
-documents. The others are documents with a few bytes changed, so that every fault comes up; one script of eight is refused.
+documents. The others are documents with a few bytes changed, so that every fault but `InputTooLarge` comes up. A sixth of the
+scripts has a fault, too.
 """
 
 import json
@@ -13,7 +14,7 @@ import random
 import sys
 
 KEYS = ["a", "b", "", "k", "é", "Aa", "BB"]
-CHARACTERS = list('ab"\\/\b\n\téz 😀{[,:') + ["\x00", "\x1f", "\x7f"]
+CHARACTERS = list('ab"\\/\b\f\n\r\téz 😀{[,:') + list("\x00\x1f\x7f\x80\u07ff\u0800\ud7ff\ue000\ufeff\uffff\U0010ffff")
 INTEGERS = ["0", "-0", "1", "-1", "12345678", "123456789", "1234567890123456", "18446744073709551615", "-9223372036854775808"]
 DECIMALS = ["1.5", "1.50", "-0.0", "1e5", "1E+5", "2e-10", "0.1e1", "1234567890123456789012345678901234567890.5e10"]
 WRONG = ["18446744073709551616", "-9223372036854775809", "01", "-", "1.", "1.e5", ".5", "1e", "+1", "-01", "1.5.5", "12a", "0x1"]
@@ -21,6 +22,8 @@ FRAGMENTS = [b"{", b"}", b"[", b"]", b":", b",", b'"', b"\\", b"\\u12", b"\\ud80
 FRAGMENTS += [b"\xff", b"\xc3", b"\xe2\x82", b"\xed\xa0\x80", b"\xf4\x90\x80\x80", b"\x01", b"\x0c", b"0", b"-", b"e", b".", b" ", b"\r"]
 PATH_ALONE = ["get", "type", "len", "keys", "pop"]
 BARE = ["undo", "undo", "reload", "reload_pp"]
+REFUSED = ["{}", "7", "[]", "[7]", "[[]]", '["frob"]', '["Get",[]]', '["get"]', '["undo",[]]', '["pop",[],1]', '["get",7]', '["len",[-1]]']
+REFUSED += ['["type",[1.5]]', '["keys",[[]]]', '["get",{}]', '["insert",[],1,2]', '["remove",[],null]', '["contains",[true],1]']
 
 
 class Lines:
@@ -41,7 +44,7 @@ class Lines:
         if character == "/" and self.chance(0.3):
             return "\\/"
         if self.chance(0.1):
-            return self.choice([spelled, spelled.upper().replace("\\U", "\\u")])
+            return "".join(self.choice([it, it.upper()]) if it != "u" else it for it in spelled)
         return json.dumps(character, ensure_ascii=False)[1:-1]
 
     def string(self, text):
@@ -76,7 +79,7 @@ class Lines:
             start = self.random.randrange(len(line) + 1)
             end = self.choice([start, start + 1, start + 1, len(line)])
             line[start:end] = b"" if self.chance(0.4) else self.choice(FRAGMENTS)
-        return bytes(line).replace(b"\n", b" ")
+        return bytes(line)
 
     def nested(self):
         count = self.random.randrange(1, 8)
@@ -87,8 +90,17 @@ class Lines:
         keys = self.choice([count, count, count - 1, 30])
         return ("{" + ",".join(f'"k{i % keys}":{i}' for i in range(count)) + "}").encode()
 
+    def long(self):
+        """A line that comes in several pieces, or that nests up to a level too deep."""
+        if self.chance(0.5):
+            count = self.choice([1023, 1024, 1025])
+            return b"[" * count + b"]" * count
+        return ("[" + ",".join(self.document(3) for _ in range(self.choice([500, 3000]))) + "]").encode()
+
     def line(self):
         kind = self.random.random()
+        if kind < 0.001:
+            return self.long()
         if kind < 0.02:
             return self.choice([b"", b" ", b"\r", b"\t \r", b"\x0c"])
         if kind < 0.05:
@@ -98,9 +110,12 @@ class Lines:
         line = b" " * self.choice([0, 0, 0, 1, 61, 62, 63, 64, 65, 130]) + self.document(self.random.randrange(5)).encode()
         return self.changed(line) if self.chance(0.45) else line
 
+    def key(self):
+        return self.choice(["k1", "k29", "k200"]) if self.chance(0.1) else self.choice(KEYS[: self.choice([4, len(KEYS)])])
+
     def path(self):
-        steps = (self.choice(KEYS[:4]) if self.chance(0.6) else self.random.randrange(3) for _ in range(self.choice([0, 0, 1, 1, 2, 3])))
-        return json.dumps(list(steps))
+        steps = self.choice([0, 0, 1, 1, 2, 3])
+        return json.dumps([self.key() if self.chance(0.6) else self.random.randrange(3) for _ in range(steps)])
 
     def command(self):
         name = self.choice(PATH_ALONE + BARE + ["contains", "insert", "insert", "remove", "push", "push", "set", "set"])
@@ -108,14 +123,19 @@ class Lines:
         if name not in BARE:
             items.append(self.path())
         if name in ("contains", "insert", "remove"):
-            items.append(json.dumps(self.choice(KEYS[:4])))
+            items.append(json.dumps(self.key()))
         if name in ("insert", "push", "set"):
             items.append(self.document(2))
         return "[" + ",".join(items) + "]"
 
     def script(self):
-        script = "[" + ",".join(self.command() for _ in range(self.random.randrange(1, 9))) + "]"
-        return self.changed(script.encode()) if self.chance(0.12) else script.encode()
+        if self.chance(0.03):
+            return self.choice([b"{}", b"7", b'"get"', b" ", b"[]"])
+        commands = [self.command() for _ in range(self.random.randrange(1, 9))]
+        if self.chance(0.1):
+            commands[-1] = self.choice(REFUSED)
+        script = ("[" + ",".join(commands) + "]").encode()
+        return self.changed(script) if self.chance(0.08) else script
 
 
 def main():

@@ -3,7 +3,9 @@
 
     oracle/records.py [--form FORM] [--depth LEVELS] SCRIPT < lines.jsonl
 
-It was written from the tables of README.md and RFC 8259, and shares nothing with the crates. It is short and slow.
+It was written from RFC 8259, the tables of README.md and the rules of docs/DECISIONS.md, and shares nothing with the crates. It
+is short and slow. It leaves out what needs more than 4294967295 bytes, what is refused before the script is read, and streams
+and memory that fail.
 
 A document is None, a bool, an int, a str, a Decimal, a list or an Object.
 """
@@ -233,7 +235,7 @@ class Reader:
             raise self.fault("InvalidNumber", start)
         if found[2] or found[3]:
             return Decimal(word.decode())
-        if not -(2**63) <= int(word) < 2**64:
+        if len(word) > len(str(2**64)) or not -(2**63) <= int(word) < 2**64:
             raise self.fault("InvalidNumber", start)
         return int(word)
 
@@ -322,9 +324,12 @@ ITEMS |= {"undo": 1, "reload": 1, "reload_pp": 1}
 WRITES = {"insert", "remove", "push", "pop", "set"}
 
 
+def is_step(tree):
+    return type(tree) is str or (type(tree) is int and tree >= 0)
+
+
 def is_path(tree):
-    steps = tree if isinstance(tree, list) else [None]
-    return all(type(step) is str or type(step) is int and step >= 0 for step in steps)
+    return isinstance(tree, list) and all(map(is_step, tree))
 
 
 def command_fault(command):
