@@ -1,12 +1,12 @@
 -- What copies and conversions keep of arrays and objects, part by part.
-use Rattle.std.proofs.Common.{◌≡◌, ℕ, false, List, [], ◌∷◌, ◌++◌, map, refl, sym, ap, ap₂, ◌∙◌, Vec, rules, bytes_eq}
+use Rattle.std.proofs.Common.{◌≡◌, ℕ, false, List, [], ◌∷◌, ◌++◌, None, map, refl, sym, ap, ap₂, ◌∙◌, Vec, rules, bytes_eq}
 use Rattle.std.proofs.lemmas.Bool.{or_parts}
 use Rattle.std.specs.Cmp.Lexicographic.{nat_list_eq_equiv}
 use Rattle.std.specs.List.{flat_map}
 use Rattle.std.specs.declared.alloc.Global.{Global}
 use Rattle.sj_base.specs.Tree.{list, object, Members, no_members, member}
 use Rattle.sj_object.specs.Copies.{copied_pairs}
-use Rattle.sj_object.specs.Pairs.{keys_of, put_key, has_text, AreDistinct}
+use Rattle.sj_object.specs.Pairs.{keys_of, value_at, put_key, has_text, AreDistinct}
 use Rattle.sj_object.specs.declared.entry.Entry.{Entry}
 use Rattle.sj_owned.specs.Copies.{text_leaf, on_leaf, leaves}
 use Rattle.sj_owned.specs.Trees.{items_of, members_of, on_values}
@@ -160,3 +160,16 @@ module _ {K V J W T C : Type 0} (text : K → List ℕ) (key : K → T) (value :
       ∙ nat_list_eq_equiv.symm (text d.key) (text e.key)
       ∙ other_key done left e (text d.key) distinct.0 in
       rw apart (ap₂ (λ p ps. p ∷ ps) first (next_copied copies done left e k v distinct.1 rest name now))
+
+  -- The next key is not there yet.
+  pub next_is_new : (copies : List (Entry J W)) (done left : List (Entry K V)) (e : Entry K V) (k : J) → AreDistinct (keys_of text (done ++ e ∷ left))
+      → copied_pairs (kept_key text' key') value' copies ≡ copied_pairs (kept_key text key) value done
+      → text' k ≡ text e.key → value_at text' copies (text' k) ≡ None
+  next_is_new [] done left e k distinct same name = refl
+  next_is_new (c ∷ copies) [] left e k distinct same name = cc
+  next_is_new (c ∷ copies) (d ∷ done) left e k distinct same name =
+      let first = same_first (kept_key text' key' c.key, value' c.value) (kept_key text key d.key, value d.value) (copied_pairs (kept_key text' key') value' copies) (copied_pairs (kept_key text key) value done) same in
+      let rest = same_rest (kept_key text' key' c.key, value' c.value) (kept_key text key d.key, value d.value) (copied_pairs (kept_key text' key') value' copies) (copied_pairs (kept_key text key) value done) same in
+      let apart : bytes_eq (text' c.key) (text' k) ≡ false =
+      ap₂ bytes_eq (ap (λ p. p.0.0) first) name ∙ nat_list_eq_equiv.symm (text d.key) (text e.key) ∙ other_key done left e (text d.key) distinct.0 in
+      rw apart (next_is_new copies done left e k distinct.1 rest name)

@@ -1,6 +1,7 @@
 -- Members that are added one by one are those that `keep_members` keeps.
 use Rattle.std.proofs.Common.{◌≡◌, ℕ, Bool, true, false, cond, ◌||◌, List, Option, Some, is_some, refl, sym, ap, ◌∙◌}
 use Rattle.std.proofs.lemmas.Slice.Eq.{bytes_eq-Decides}
+use Rattle.std.specs.Cmp.Lexicographic.{nat_list_eq_equiv}
 use Rattle.std.specs.Str.{bytes_eq}
 use Rattle.sj_base.specs.Tree.{Tree, Members, no_members, member}
 use Rattle.sj_base.specs.Path.{member_at}
@@ -57,15 +58,6 @@ has_key-with_last (member m u ks) k t n =
     ∙ or_assoc (bytes_eq m n) (has_key ks n) (bytes_eq k n)
     ∙ ap (λ b. b || bytes_eq k n) (sym (has_key-member m u ks n))
 
-same_tests : (p q : Bool) → (p ≡ true → q ≡ true) → (q ≡ true → p ≡ true) → p ≡ q
-same_tests true q there back = sym (there refl)
-same_tests false true there back = back refl
-same_tests false false there back = refl
-
-pub bytes_eq_comm : (a b : List ℕ) → bytes_eq a b ≡ bytes_eq b a
-bytes_eq_comm a b =
-    same_tests (bytes_eq a b) (bytes_eq b a) (λ same. (bytes_eq-Decides b a).1 (sym ((bytes_eq-Decides a b).0 same))) (λ same. (bytes_eq-Decides a b).1 (sym ((bytes_eq-Decides b a).0 same)))
-
 beside-without_at : (ks : Members) (k : List ℕ) → has_key ks k ≡ true → (n : List ℕ) (u : Tree) (ms : Members) → beside ks (without k ms) ≡ beside ks ms → (b : Bool) → bytes_eq n k ≡ b
     → beside ks (cond b (without k ms) (member n u (without k ms))) ≡ beside ks (member n u ms)
 beside-without_at ks k had n u ms ind true same =
@@ -92,7 +84,7 @@ beside-cond ks false n u ms = refl
 beside-with_last : (ks : Members) (k : List ℕ) (t : Tree) (ms : Members) → beside (with_last ks k t) ms ≡ beside ks (without k ms)
 beside-with_last ks k t no_members = refl
 beside-with_last ks k t (member n u ms) =
-    ap (λ b. cond b (beside (with_last ks k t) ms) (member n u (beside (with_last ks k t) ms))) (has_key-with_last ks k t n ∙ ap (λ b. has_key ks n || b) (bytes_eq_comm k n))
+    ap (λ b. cond b (beside (with_last ks k t) ms) (member n u (beside (with_last ks k t) ms))) (has_key-with_last ks k t n ∙ ap (λ b. has_key ks n || b) (nat_list_eq_equiv.symm k n))
     ∙ ap (λ r. cond (has_key ks n || bytes_eq n k) r (member n u r)) (beside-with_last ks k t ms)
     ∙ one_of_two (has_key ks n) (bytes_eq n k) n u (beside ks (without k ms))
     ∙ beside-cond ks (bytes_eq n k) n u (without k ms)

@@ -1,6 +1,6 @@
 -- The members that the pairs of an object stand for.
 use Rattle.std.proofs.Common.{◌≡◌, ℕ, Bool, true, false, cond, List, [], ◌∷◌, Option, Some, None, is_some, option_map, if◌then◌else◌, bytes_eq, refl, sym, ap, ◌∙◌}
-use Rattle.sj_base.specs.Tree.{Tree, member}
+use Rattle.sj_base.specs.Tree.{Tree, Members, member}
 use Rattle.sj_base.specs.Path.{member_at}
 use Rattle.sj_object.specs.Pairs.{value_at, put_key}
 use Rattle.sj_object.specs.declared.entry.Entry.{Entry}
@@ -11,9 +11,13 @@ is_some-map : {A B : Type 0} (f : A → B) (o : Option A) → is_some (option_ma
 is_some-map f None = refl
 is_some-map f (Some x) = refl
 
-pub not_there : {A : Type 0} (o : Option A) → is_some o ≡ false → o ≡ None
+not_there : {A : Type 0} (o : Option A) → is_some o ≡ false → o ≡ None
 not_there None h = refl
 not_there (Some x) h = cc
+
+-- a member that is there is not added
+pub not_added : (ms : Members) (k : List ℕ) (t : Tree) → has_key ms k ≡ true → ms ≡ add_member ms k t
+not_added ms k t there = sym (ap (λ b. cond b ms (with_last ms k t)) there)
 
 module _ {K V : Type 0} (text : K → List ℕ) (tree : V → Tree) where
   found_first : (b : Bool) (v : V) (o : Option V) → option_map tree (if b then Some v else o) ≡ (if b then Some (tree v) else option_map tree o)
@@ -44,16 +48,13 @@ module _ {K V : Type 0} (text : K → List ℕ) (tree : V → Tree) where
   put_last [] k v new = refl
   put_last (e ∷ es) k v new = put_at e es k v (bytes_eq (text e.key) (text k)) new (put_last es k v)
 
-  -- a member that is there is not added
-  pub not_added : (es : List (Entry K V)) (k : List ℕ) (t : Tree) → is_some (value_at text es k) ≡ true
-      → members_of text (on_values tree es) ≡ add_member (members_of text (on_values tree es)) k t
-  not_added es k t there =
-      let ms = members_of text (on_values tree es) in
-      sym (ap (λ b. cond b ms (with_last ms k t)) (sym (has_member es k) ∙ there))
+  -- a key that no member has is not found
+  pub not_found : (es : List (Entry K V)) (k : List ℕ) → has_key (members_of text (on_values tree es)) k ≡ false → value_at text es k ≡ None
+  not_found es k new = not_there (value_at text es k) (has_member es k ∙ new)
 
   -- a new member is added
-  pub added : (es : List (Entry K V)) (k : K) (v : V) → is_some (value_at text es (text k)) ≡ false
+  pub added : (es : List (Entry K V)) (k : K) (v : V) → has_key (members_of text (on_values tree es)) (text k) ≡ false
       → members_of text (on_values tree (put_key text es k v)) ≡ add_member (members_of text (on_values tree es)) (text k) (tree v)
   added es k v new =
       let ms = members_of text (on_values tree es) in
-      put_last es k v new ∙ sym (ap (λ b. cond b ms (with_last ms (text k) (tree v))) (sym (has_member es (text k)) ∙ new))
+      put_last es k v (has_member es (text k) ∙ new) ∙ sym (ap (λ b. cond b ms (with_last ms (text k) (tree v))) new)

@@ -2,7 +2,7 @@
 //!
 //! A document is built from the last node of its tape to the first, so that a container finds its parts on a stack. So a
 //! deep text needs no recursion.
-ghost use Rattle.std.specs.Prelude.{◌≡◌, ◌∷◌, IfOk, OnOk, map, take, drop, ◌++◌};
+ghost use Rattle.std.specs.Prelude.{◌≡◌, ◌∷◌, ◌<◌, ◌↔◌, IsSome, IfOk, OnOk, map, take, drop, ◌++◌};
 ghost use Rattle.sj_base.specs.Tree.{Tree, no_members};
 ghost use Rattle.sj_base.specs.Keep.{keep};
 ghost use Rattle.sj_tape.specs.Nodes.{node_entry};
@@ -74,10 +74,14 @@ fn take_list<'de, V: BuildValue<'de, K> + Drop, K: MakeKey<'de> + Drop>(
 /// The most members of an object whose keys are compared with one another. With so many a set takes as long.
 const FEW_MEMBERS: usize = 192;
 
-// The keys that were met, none yet, where an object is to have more members. In a set they take no time that grows with the
-// square of their number.
-fn no_keys<'de>(alloc: Global, len: usize) -> Option<BTreeSet<&'de str>>
-    ensures { Knows result no_members }
+// The keys that were met, where a set lists them.
+type MetKeys<'de> = Option<BTreeSet<&'de str>>;
+
+// No keys met yet. An object of more than `FEW_MEMBERS` members has them in a set, since to compare each with all others takes
+// time that grows with the square of their number.
+fn no_keys<'de>(alloc: Global, len: usize) -> MetKeys<'de>
+    ensures knows { Knows result no_members }
+    ensures listed { IsSome result ↔ (FEW_MEMBERS < len) }
 {
     if len > FEW_MEMBERS {
         Some(BTreeSet::new(alloc))
@@ -89,7 +93,7 @@ fn no_keys<'de>(alloc: Global, len: usize) -> Option<BTreeSet<&'de str>>
 // Whether a member has the key, which counts as met from now on.
 fn meet<'de, V: BuildValue<'de, K> + Drop, K: MakeKey<'de> + Drop>(
     key: &'de str,
-    met: &mut Option<BTreeSet<&'de str>>,
+    met: &mut MetKeys<'de>,
     members: &Object<K, V>,
 ) -> Result<bool, AllocError>
     requires { Knows met.old (members_of K.text (on_values V.tree members.now)) }
@@ -102,12 +106,12 @@ fn meet<'de, V: BuildValue<'de, K> + Drop, K: MakeKey<'de> + Drop>(
     }
 }
 
-// Adds a member, unless there is one with its key.
+// Adds a member, unless there is one with its key. After an error the key may count as met, though no member has it.
 fn add_member<'de, V: BuildValue<'de, K> + Drop, K: MakeKey<'de> + Drop>(
     alloc: Global,
     key: &'de str,
     value: Part<'de, V>,
-    met: &mut Option<BTreeSet<&'de str>>,
+    met: &mut MetKeys<'de>,
     members: &mut Object<K, V>,
 ) -> Result<(), AllocError>
     requires { Knows met.old (members_of K.text (on_values V.tree members.old)) }
@@ -130,7 +134,7 @@ fn add_member<'de, V: BuildValue<'de, K> + Drop, K: MakeKey<'de> + Drop>(
 fn take_member<'de, V: BuildValue<'de, K> + Drop, K: MakeKey<'de> + Drop>(
     alloc: Global,
     parts: &mut Vec<Part<'de, V>>,
-    met: &mut Option<BTreeSet<&'de str>>,
+    met: &mut MetKeys<'de>,
     members: &mut Object<K, V>,
 ) -> Result<(), AllocError>
     requires { Knows met.old (members_of K.text (on_values V.tree members.old)) }
@@ -163,6 +167,7 @@ fn take_object<'de, V: BuildValue<'de, K> + Drop, K: MakeKey<'de> + Drop>(
         take_member(alloc, parts, &mut met, &mut members)?;
         left -= 1;
     }
+    drop(met);
     V::from_object(alloc, members.into_entries())
 }
 
@@ -221,7 +226,8 @@ const FIRST_PARTS: usize = 1 << 8;
 ///
 /// # Errors
 ///
-/// `AllocError` if there is no memory for the value. What was built is dropped.
+/// `AllocError` if there is no memory for the value, or meanwhile for the keys of an object with many members. What was built is
+/// dropped.
 pub fn build_value<'de, V: BuildValue<'de, K> + Drop, K: MakeKey<'de> + Drop>(
     alloc: Global,
     view: TapeValue<'_, 'de>,
@@ -256,7 +262,8 @@ fn release(nodes: &mut Vec<Node<'_>>)
 ///
 /// # Errors
 ///
-/// `AllocError` if there is no memory for the value. What was built is dropped.
+/// `AllocError` if there is no memory for the value, or meanwhile for the keys of an object with many members. What was built is
+/// dropped.
 pub fn build_tape<'de, V: BuildValue<'de, K> + Drop, K: MakeKey<'de> + Drop>(
     alloc: Global,
     tape: Tape<'de>,

@@ -7,7 +7,7 @@ ghost use Rattle.sj_owned.specs.Copies.{leaves, on_leaf, held_text, held_literal
 ghost use Rattle.sj_owned.specs.Views.{value_tree};
 ghost use Rattle.sj_owned.specs.inside.Copying.{kept_key, kept_value, converted};
 
-use crate::copy::insert;
+use crate::copy::append;
 use crate::literal::Literal;
 use crate::owned::Value as OwnedValue;
 use crate::value::Value;
@@ -209,7 +209,7 @@ fn convert_members<
     for (key, member) in members {
         let name = key.into_key(alloc)?;
         let value = convert(alloc, member)?;
-        insert(&mut converted, name, value)?;
+        append(&mut converted, name, value)?;
     }
     Ok(converted)
 }

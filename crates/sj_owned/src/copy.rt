@@ -1,9 +1,9 @@
 //! Copies of documents.
-ghost use Rattle.std.specs.Prelude.{◌≡◌, List, map, IfOk, OnOk};
+ghost use Rattle.std.specs.Prelude.{◌≡◌, List, None, map, IfOk, OnOk};
 ghost use Rattle.std.proofs.Common.{ap};
 ghost use Rattle.sj_base.specs.Tree.{Tree};
 ghost use Rattle.sj_object.specs.Copies.{copied_pairs};
-ghost use Rattle.sj_object.specs.Pairs.{put_key};
+ghost use Rattle.sj_object.specs.Pairs.{value_at, put_key};
 ghost use Rattle.sj_owned.specs.Copies.{Leaf, leaves};
 ghost use Rattle.sj_owned.specs.Views.{value_tree};
 ghost use Rattle.sj_owned.specs.inside.Copying.{kept_key, kept_value};
@@ -81,9 +81,24 @@ fn copy_members<K: CopyKey + Drop, D: CopyLiteral + Drop>(
     for (key, member) in members.iter() {
         let name = key.try_clone()?;
         let value = copy(member)?;
-        insert(&mut copies, name, value)?;
+        append(&mut copies, name, value)?;
     }
     Ok(copies)
+}
+
+// Adds a member whose key is new. For lack of memory it is dropped.
+pub(crate) fn append<K: ObjectKey + Drop, V: Drop>(
+    members: &mut Object<K, V>,
+    key: K,
+    value: V,
+) -> Result<(), AllocError>
+    requires { value_at K.text members.old (K.text key) ≡ None }
+    ensures { OnOk result (members.new ≡ put_key K.text members.old key value) }
+{
+    match members.push_new(key, value) {
+        Ok(()) => Ok(()),
+        Err(_) => Err(AllocError),
+    }
 }
 
 // Inserts a member. For lack of memory it is dropped.

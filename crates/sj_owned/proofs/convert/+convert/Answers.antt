@@ -7,7 +7,7 @@ use Rattle.sj_object.specs.Pairs.{keys_of, AreDistinct}
 use Rattle.sj_object.specs.declared.entry.Entry.{Entry}
 use Rattle.sj_owned.specs.declared.value.Value.{Value, the_lemmas}
 use Rattle.sj_owned.specs.inside.Copying.{Kept, kept_key, kept_value, converted}
-use Rattle.sj_owned.proofs.Copies.{array_converted, object_converted, next_copied}
+use Rattle.sj_owned.proofs.Copies.{array_converted, object_converted, next_copied, next_is_new}
 use Rattle.sj_owned.proofs.convert.+convert.Goals as goal
 
 pub convert-returns-in-Static : goal.convert-returns-in-Static
@@ -74,6 +74,24 @@ convert_members-loop-key-preserved g t c =
       tt,
       done ++ e ∷ [],
       all ∙ sym (append_assoc done (e ∷ []) left),
-      ap (copied_pairs (kept_key new_text new_key) new) c.in_ok-insert.ensures
+      ap (copied_pairs (kept_key new_text new_key) new) c.in_ok-append.ensures
           ∙ next_copied text key old new_text new_key new at.converted done left e c.in_ok-name.name c.in_ok-value.value distinct at.invariant.4 name c.in_ok-value.ensures,
     )
+
+pub convert_members-append-requires : goal.convert_members-append-requires
+convert_members-append-requires g t c =
+    let text = g.K.ObjectKey.text in
+    let new_text = g.L.ObjectKey.text in
+    let new_key = g.K.IntoKey.after in
+    let new = kept_value new_text g.E.Literal.literal new_key g.D.IntoLiteral.after in
+    let key : g.row.K.Denot → g.K.IntoKey.After = λ k. g.K.IntoKey.change (g.K.IntoKey.before k) in
+    let old : Value g.row.K.Denot g.row.D.Denot → Kept g.K.IntoKey.After g.D.IntoLiteral.After =
+    λ v. converted g.K.IntoKey.change g.D.IntoLiteral.change (kept_value text g.D.Literal.literal g.K.IntoKey.before g.D.IntoLiteral.before v) in
+    let at = c.loop-key in
+    let done = at.invariant.2 in
+    let e : Entry g.row.K.Denot (Value g.row.K.Denot g.row.D.Denot) = record { key = c.in-Some.key; value = c.in-Some.member } in
+    let left = owned_left c.next.new.self in
+    let first : owned_left at.key-iterator ≡ e ∷ left = search rules in
+    let all : c.args.members ≡ done ++ e ∷ left = at.invariant.3 ∙ ap (λ es. done ++ es) first in
+    let distinct = subst (λ es. AreDistinct (keys_of text es)) all c.len.ensures.distinct in
+    next_is_new text key old new_text new_key new at.converted done left e c.in_ok-name.name distinct at.invariant.4 c.in_ok-name.ensures.text
