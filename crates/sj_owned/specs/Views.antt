@@ -1,5 +1,6 @@
 -- What documents stand for.
-use Rattle.std.specs.Prelude.{ℕ, List, Option, Some, None, map}
+use Rattle.std.specs.Prelude.{ℕ, List, Option, Some, None, Vec, map}
+use Rattle.std.specs.declared.alloc.Global.{Global}
 use Rattle.sj_base.specs.Tree.{Tree, decimal, string, list, object, Items, Members}
 use Rattle.sj_base.specs.Scalar.{static_tree, static_type}
 use Rattle.sj_base.specs.declared.static_node.ValueType.{ValueType}
@@ -47,6 +48,14 @@ members_layer _ = None
 -- The type tells an I64 from a U64.
 abbrev pub value_kind : {K D : Type 0} → Value K D → ValueType
 value_kind {K} {D} v = kind_layer (out-Value K D v)
+
+abbrev pub array_layer : {K D A : Type 0} → Value-F K D A → Option (Vec A Global)
+array_layer (Value-F.Array v) = Some v
+array_layer _ = None
+
+-- the vector of the items, if the document is an array
+abbrev pub array_inside : {K D : Type 0} → Value K D → Option (Vec (Value K D) Global)
+array_inside {K} {D} v = array_layer (out-Value K D v)
 
 -- the items, if the document is an array
 abbrev pub items_inside : {K D : Type 0} → Value K D → Option (List (Value K D))

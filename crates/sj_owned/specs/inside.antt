@@ -1,4 +1,5 @@
 pub mod Building
+pub mod Lending
 pub mod Refusals
 pub mod Kept
 pub mod Copying

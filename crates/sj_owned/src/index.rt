@@ -1,6 +1,7 @@
 //! Parts of a document by `[]`, and the document that is made without arguments.
 ghost use Rattle.std.specs.Prelude.{◌≡◌, Some, IsSome};
 
+use crate::lend::MutableValue;
 use crate::literal::Literal;
 use crate::value::Value;
 use sj_object::ObjectKey;

@@ -32,6 +32,7 @@ pub use copy::CopyLiteral;
 pub use deserializer::ValueDeserializer;
 pub use display::FormatterOutput;
 pub use from::FromString;
+pub use lend::{LendsMembers, LendsParts, MutableValue};
 pub use literal::{Literal, MakeLiteral};
 pub use owned::{
     OwnedDeserializer, Value as OwnedValue, to_value as to_owned_value,
