@@ -1,4 +1,7 @@
 //! Of `sj_lazy`: worked rows, and each call with ample memory.
+ghost use Rattle.std.specs.Prelude.{◌≡◌, Some, OnOk, OnErr};
+ghost use Rattle.sj_lazy.specs.Contents.{own_document};
+
 use sj_base::{AccessError, StaticNode, TryCopy, TryTypeError, ValueType};
 use sj_lazy::{Held, LazyComparand, Value};
 use sj_owned::{OwnedValue, SameAs};
@@ -283,8 +286,16 @@ fn writes_to_items(rt: HostRuntime) -> Result<(), Fail> {
     })
 }
 
-fn make_object(alloc: Global, value: &mut Value<'_, '_, '_>) -> Result<(), AllocError> {
-    *value.value_mut(alloc)? = BorrowedValue::object(alloc);
+// A write through the document, of which the caller knows what it leaves.
+fn put_document<'i>(
+    alloc: Global,
+    value: &mut Value<'_, '_, 'i>,
+    document: BorrowedValue<'i>,
+) -> Result<(), AllocError>
+    ensures written { OnOk result (own_document value.new ≡ Some document) }
+    ensures refused { OnErr result (value.new ≡ value.old) }
+{
+    *value.value_mut(alloc)? = document;
     Ok(())
 }
 
@@ -306,7 +317,7 @@ fn write_members(
     alloc: Global,
     value: &mut Value<'_, '_, '_>,
 ) -> Result<(), Fail> {
-    make_object(alloc, value)?;
+    put_document(alloc, value, BorrowedValue::object(alloc))?;
     assert!(rt; inserts_null(alloc, value)?);
     write_true(alloc, value)
 }

@@ -4,12 +4,11 @@ use Rattle.std.specs.Option.{unwrap_or}
 use Rattle.sj_base.specs.Keep.{keep, IsKept}
 use Rattle.sj_base.specs.Path.{Part}
 use Rattle.sj_base.specs.Tree.{Tree}
-use Rattle.sj_lazy.specs.Contents.{Document}
+use Rattle.sj_lazy.specs.Contents.{Document, Value}
 use Rattle.sj_lazy.specs.Upgrade.{OwnsSuch, Upgrades}
 use Rattle.sj_lazy.specs.Views.{document_tree, lazy_tree}
 use Rattle.sj_lazy.specs.declared.held.Held.TheVariants.{Borrowed, Owned}
-use Rattle.sj_lazy.specs.declared.value.Value.{Value}
-use Rattle.sj_lazy.specs.declared.value.Value.TheVariants as lazy
+use Rattle.sj_lazy.specs.declared.value.TapeOrDocument.TheVariants as lazy
 use Rattle.sj_base.proofs.Keeping.{keeps_once}
 use Rattle.sj_documents.specs.Inverse.{Change, back}
 use Rattle.sj_documents.specs.Inverses.{Settles, TakesBack}

@@ -115,7 +115,8 @@ impl<K: FromString + Drop, D: Literal> KnownKeyDocument for Value<K, D> {
     ghost use Rattle.std.proofs.Common.{refl};
     ghost use Rattle.sj_owned.specs.Views.{members_inside, value_kind};
     ghost use Rattle.sj_owned.specs.declared.value.Value.{Object as ObjectOf};
-    ghost use Rattle.sj_keys.specs.inside.Laws.{made_of_members, members_of_object};
+    ghost use Rattle.sj_owned.specs.inside.Lending.{made_of_members};
+    ghost use Rattle.sj_keys.specs.inside.Laws.{members_of_object};
 
     ghost object = { members_inside };
 

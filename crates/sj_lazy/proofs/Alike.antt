@@ -11,9 +11,8 @@ use Rattle.sj_base.proofs.Keeping.{member_at-keep}
 use Rattle.sj_base.proofs.Keys.{same_key}
 use Rattle.sj_owned.specs.Compare.{kept_alike}
 use Rattle.sj_owned.specs.Trees.{items_of}
-use Rattle.sj_lazy.specs.Contents.{Contents, contents}
+use Rattle.sj_lazy.specs.Contents.{Contents, Value, contents}
 use Rattle.sj_lazy.specs.Views.{contents_tree, lazy_tree}
-use Rattle.sj_lazy.specs.declared.value.Value.{Value}
 use Rattle.sj_lazy.specs.inside.Comparing.{next_alike, among, first_keys, all_found}
 
 -- A list is alike to lists alone, and an object to objects.

@@ -4,11 +4,10 @@ use Rattle.sj_base.specs.Tree.{Tree}
 use Rattle.sj_owned.specs.Copies.{Leaf, leaves, held_text, held_literal}
 use Rattle.sj_tape.specs.Views.{value_nodes, nodes_tree}
 use Rattle.sj_tape.specs.declared.node.Node.{Node}
-use Rattle.sj_lazy.specs.Contents.{Document}
+use Rattle.sj_lazy.specs.Contents.{Document, Value}
 use Rattle.sj_lazy.specs.Views.{document_tree}
 use Rattle.sj_lazy.specs.declared.held.Held.TheVariants.{Borrowed, Owned}
-use Rattle.sj_lazy.specs.declared.value.Value.{Value}
-use Rattle.sj_lazy.specs.declared.value.Value.TheVariants as lazy
+use Rattle.sj_lazy.specs.declared.value.TapeOrDocument.TheVariants as lazy
 
 -- the nodes of a part of a tape, a borrowed document, or the tree and the leaves of an owned one
 pub data Copied : Type 0 where

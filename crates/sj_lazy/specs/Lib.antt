@@ -4,4 +4,5 @@ pub mod Parts
 pub mod ByName
 pub mod Upgrade
 pub mod Copies
+pub mod Lends
 pub mod inside

@@ -1,18 +1,21 @@
 -- What write calls make of a lazy value before they write.
+use Rattle.std.specs.Borrow.{Bor}
 use Rattle.std.specs.Prelude.{◌≡◌, ◌⊎◌, Bool, true, false}
 use Rattle.sj_base.specs.Keep.{keep}
 use Rattle.sj_base.specs.Tree.{Tree}
 use Rattle.sj_base.specs.declared.fault.AccessError.{AccessError}
 use Rattle.sj_base.specs.declared.fault.AccessError.TheVariants.{Memory}
 use Rattle.sj_owned.specs.Copies.{leaves, held_text, held_literal}
-use Rattle.sj_lazy.specs.Contents.{Document}
+use Rattle.sj_lazy.specs.Contents.{Document, Value}
 use Rattle.sj_lazy.specs.Views.{document_tree, lazy_tree}
 use Rattle.sj_lazy.specs.declared.held.Held.TheVariants.{Borrowed, Owned}
-use Rattle.sj_lazy.specs.declared.value.Value.{Value}
-use Rattle.sj_lazy.specs.declared.value.Value.TheVariants as lazy
+use Rattle.sj_lazy.specs.declared.value.TapeOrDocument.{TapeOrDocument}
+use Rattle.sj_lazy.specs.declared.value.TapeOrDocument.TheVariants as lazy
+use Rattle.sj_tape.specs.Views.{value_nodes, nodes_tree}
+use Rattle.sj_tape.specs.declared.value.Value.{Value as TapeValue}
 
 -- the value has a document of its own
-abbrev pub owns : Value → Bool
+abbrev pub owns : {T B D : Type 0} → TapeOrDocument T B D → Bool
 owns (lazy.Value (Owned d)) = true
 owns _ = false
 
@@ -22,7 +25,7 @@ borrows (lazy.Value (Borrowed d)) = true
 borrows _ = false
 
 -- the value has a document of its own, of which P holds
-abbrev pub OwnsSuch : (Document → Type 0) → Value → Type 0
+abbrev pub OwnsSuch : {T B D : Type 0} → (D → Type 0) → TapeOrDocument T B D → Type 0
 OwnsSuch P (lazy.Value (Owned d)) = P d
 OwnsSuch P _ = ⊥
 
@@ -31,11 +34,21 @@ abbrev pub upgraded : Value → Tree
 upgraded (lazy.Tape v) = keep (lazy_tree (lazy.Tape v))
 upgraded (lazy.Value h) = lazy_tree (lazy.Value h)
 
--- What an upgrade makes of the value: a document of that tree. A borrowed document is copied, and an owned one stays.
+-- a document that is built of a tape's value, and one that is copied of another
+abbrev pub built_of : TapeValue → Document → Type 0
+built_of v d = document_tree d ≡ keep (nodes_tree (value_nodes v))
+
+abbrev pub copied_of : Bor Document → Document → Type 0
+copied_of e d = (document_tree d ≡ document_tree e.now) × (leaves held_text held_literal d ≡ leaves held_text held_literal e.now)
+
+-- What an upgrade makes of the value: a document of its tape, or of the document that it borrows. An owned one stays.
+abbrev pub UpgradesBy : {T B D : Type 0} → (T → D → Type 0) → (B → D → Type 0) → TapeOrDocument T B D → D → Type 0
+UpgradesBy of_tape of_borrowed (lazy.Tape v) d = of_tape v d
+UpgradesBy of_tape of_borrowed (lazy.Value (Borrowed e)) d = of_borrowed e d
+UpgradesBy of_tape of_borrowed (lazy.Value (Owned e)) d = d ≡ e
+
 abbrev pub Upgrades : Value → Document → Type 0
-Upgrades (lazy.Tape v) d = document_tree d ≡ keep (lazy_tree (lazy.Tape v))
-Upgrades (lazy.Value (Borrowed e)) d = (document_tree d ≡ document_tree e.now) × (leaves held_text held_literal d ≡ leaves held_text held_literal e.now)
-Upgrades (lazy.Value (Owned e)) d = d ≡ e
+Upgrades = UpgradesBy built_of copied_of
 
 -- the value has a document of its own with the tree of the upgrade
 abbrev pub IsUpgraded : Value → Value → Type 0

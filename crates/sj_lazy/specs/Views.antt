@@ -5,8 +5,7 @@ use Rattle.sj_base.specs.Tree.{Tree}
 use Rattle.sj_base.specs.declared.static_node.ValueType.{ValueType}
 use Rattle.sj_owned.specs.Views.{value_tree, value_kind}
 use Rattle.sj_tape.specs.Views.{nodes_tree, first_type}
-use Rattle.sj_lazy.specs.Contents.{Document, Contents, nodes, document, contents}
-use Rattle.sj_lazy.specs.declared.value.Value.{Value}
+use Rattle.sj_lazy.specs.Contents.{Document, Value, Contents, nodes, document, contents}
 
 abbrev pub document_tree : Document → Tree
 document_tree = value_tree cow_str_bytes decimal_cow_text

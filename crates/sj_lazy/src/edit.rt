@@ -1,6 +1,7 @@
 //! Write calls. Each makes a document of a tape first, and copies a document that is only borrowed.
 ghost use Rattle.std.specs.Prelude.{◌≡◌, false, Some, IsNone, IfOk, IfErr, OnOk, OnErr, option_map};
 ghost use Rattle.std.specs.Cow.{cow_str_bytes};
+ghost use Rattle.std.specs.Borrow.{sem};
 ghost use Rattle.std.specs.Option.{option_copied_mut};
 ghost use Rattle.sj_base.specs.Containers.{items_in, members_in};
 ghost use Rattle.sj_base.specs.Edit.{last_item};
@@ -10,39 +11,93 @@ ghost use Rattle.sj_owned.specs.Views.{items_inside, members_inside};
 ghost use Rattle.sj_owned.specs.Edits.{with_member, without_member, with_item, without_last, refusal};
 
 use crate::held::Held;
-use crate::value::Value;
+use crate::value::{TapeOrDocument, Value};
 use sj_base::{AccessError, TryCopy};
-use sj_owned::build_value;
+use sj_owned::{MutableValue, build_value};
+use sj_tape::Value as TapeValue;
 use sj_values::BorrowedValue;
 use sj_values::borrowed::Object;
 use std::alloc::{AllocError, Global};
 use std::borrow::CowStr;
 
-impl<'i> Value<'_, '_, 'i> {
-    ghost use Rattle.sj_lazy.specs.Contents.{Document};
-    ghost use Rattle.sj_lazy.specs.Upgrade.{OwnsSuch, Upgrades, Refuses, upgraded, owns};
-    ghost use Rattle.sj_lazy.specs.Views.{document_tree, lazy_tree};
+/// What a document can be made of.
+pub trait ToDocument<D> {
+    // Whether this is a document of it.
+    ghost makes: { Self → D → Type 0 };
 
-    // Returns a document of what the value holds, for which memory is taken.
-    pub(crate) fn document(&self, alloc: Global) -> Result<BorrowedValue<'i>, AllocError>
-        requires { owns self.now ≡ false }
-        ensures { IfOk result (Upgrades self.now) }
+    /// Makes a document.
+    ///
+    /// # Errors
+    ///
+    /// `AllocError` if there is no memory for the document.
+    fn to_document(&self, alloc: Global) -> Result<D, AllocError>
+        ensures { IfOk result (makes self.now) };
+}
+
+/// A document is built of a tape's value. Of members with equal keys it has the first.
+impl<'i> ToDocument<BorrowedValue<'i>> for TapeValue<'_, 'i> {
+    ghost use Rattle.sj_lazy.specs.Upgrade.{built_of};
+
+    ghost makes = { built_of };
+
+    fn to_document(&self, alloc: Global) -> Result<BorrowedValue<'i>, AllocError> {
+        build_value::<BorrowedValue<'i>, CowStr<'i>>(alloc, *self)
+    }
+}
+
+/// A document of another value is copied.
+impl<'i> ToDocument<BorrowedValue<'i>> for &BorrowedValue<'i> {
+    ghost use Rattle.sj_lazy.specs.Upgrade.{copied_of};
+
+    ghost makes = { copied_of };
+
+    fn to_document(&self, _alloc: Global) -> Result<BorrowedValue<'i>, AllocError> {
+        self.try_clone()
+    }
+}
+
+impl<T, B, D> TapeOrDocument<T, B, D> {
+    ghost use Rattle.sj_lazy.specs.Contents.{own_document};
+    ghost use Rattle.sj_lazy.specs.Lends.{lends_own_document};
+
+    // The document for writing, if the value owns one.
+    #[inline]
+    fn owned_mut(&mut self) -> Option<&mut D>
+        ensures* writes_back { sem 𝓛 (lends_own_document T.row B.row D.row self.entry result) }
+        ensures value { option_copied_mut result ≡ own_document self.old }
     {
         match self {
-            Value::Tape(view) => build_value::<BorrowedValue<'i>, CowStr<'i>>(alloc, *view),
-            Value::Value(held) => held.as_document().try_clone(),
+            TapeOrDocument::Value(held) => held.owned_mut(),
+            _ => None,
+        }
+    }
+}
+
+impl<T: ToDocument<D> + Drop, B: ToDocument<D> + Drop, D: Drop> TapeOrDocument<T, B, D> {
+    ghost use Rattle.sj_lazy.specs.Lends.{lends_document};
+    ghost use Rattle.sj_lazy.specs.Upgrade.{OwnsSuch, UpgradesBy, owns};
+
+    // Returns a document of what the value holds, for which memory is taken.
+    pub(crate) fn document(&self, alloc: Global) -> Result<D, AllocError>
+        requires { owns self.now ≡ false }
+        ensures { IfOk result (UpgradesBy T.makes B.makes self.now) }
+    {
+        match self {
+            TapeOrDocument::Tape(view) => view.to_document(alloc),
+            TapeOrDocument::Value(Held::Borrowed(document)) => document.to_document(alloc),
+            TapeOrDocument::Value(Held::Owned(_)) => unreachable!(),
         }
     }
 
     // Makes the value a document of its own.
     fn upgrade(&mut self, alloc: Global) -> Result<(), AllocError>
-        ensures ok { OnOk result (OwnsSuch (Upgrades self.old) self.new) }
+        ensures ok { OnOk result (OwnsSuch (UpgradesBy T.makes B.makes self.old) self.new) }
         ensures err { OnErr result ((self.new ≡ self.old) × (owns self.old ≡ false)) }
     {
-        if let Value::Value(Held::Owned(_)) = self {
+        if let TapeOrDocument::Value(Held::Owned(_)) = self {
             return Ok(());
         }
-        *self = Value::Value(Held::Owned(self.document(alloc)?));
+        *self = TapeOrDocument::Value(Held::Owned(self.document(alloc)?));
         Ok(())
     }
 
@@ -51,15 +106,22 @@ impl<'i> Value<'_, '_, 'i> {
     /// # Errors
     ///
     /// `AllocError` if there is no memory for the document. The value is unchanged.
-    pub fn value_mut(&mut self, alloc: Global) -> Result<&mut BorrowedValue<'i>, AllocError>
-        ensures { IfOk result (λ d. Upgrades self.old d.now) }
+    pub fn value_mut(&mut self, alloc: Global) -> Result<&mut D, AllocError>
+        ensures* writes_back { sem 𝓛 (lends_document T.row B.row D.row self.entry result) }
+        ensures value { IfOk result (λ d. UpgradesBy T.makes B.makes self.old d.now) }
     {
         self.upgrade(alloc)?;
-        match self {
-            Value::Value(Held::Owned(document)) => Ok(document),
-            _ => unreachable!(),
+        match self.owned_mut() {
+            Some(document) => Ok(document),
+            None => unreachable!(),
         }
     }
+}
+
+impl<'i> Value<'_, '_, 'i> {
+    ghost use Rattle.sj_lazy.specs.Contents.{Document};
+    ghost use Rattle.sj_lazy.specs.Upgrade.{OwnsSuch, Upgrades, Refuses, upgraded};
+    ghost use Rattle.sj_lazy.specs.Views.{document_tree};
 
     /// Replaces the value of this key and returns the old one. A new key goes last, and the result is `None`.
     ///

@@ -1,18 +1,24 @@
 //! Documents that are owned or borrowed.
 ghost use Rattle.std.specs.Prelude.{◌≡◌};
+ghost use Rattle.std.specs.Borrow.{sem};
+ghost use Rattle.std.specs.Option.{option_copied_mut};
+ghost use Rattle.sj_lazy.specs.Contents.{owned_in};
+ghost use Rattle.sj_lazy.specs.Lends.{lends_owned};
 
 use sj_values::BorrowedValue;
 
 /// A document that is owned, or that belongs to another value. It stands in the place of `Cow` in the Rust crate.
+///
+/// In lazy values, `D` is a [`BorrowedValue`], and `B` is a reference to one.
 #[derive(Debug, Drop)]
-pub enum Held<'b, 'i> {
+pub enum Held<B, D> {
     /// A document of another value.
-    Borrowed(&'b BorrowedValue<'i>),
+    Borrowed(B),
     /// A document of its own.
-    Owned(BorrowedValue<'i>),
+    Owned(D),
 }
 
-impl<'i> Held<'_, 'i> {
+impl<'i> Held<&BorrowedValue<'i>, BorrowedValue<'i>> {
     ghost use Rattle.sj_lazy.specs.Contents.{held_document};
 
     /// Borrows the document.
@@ -22,6 +28,20 @@ impl<'i> Held<'_, 'i> {
         match self {
             Held::Borrowed(document) => document,
             Held::Owned(document) => document,
+        }
+    }
+}
+
+impl<B, D> Held<B, D> {
+    // The document for writing, if it is owned.
+    #[inline]
+    pub(crate) fn owned_mut(&mut self) -> Option<&mut D>
+        ensures* writes_back { sem 𝓛 (lends_owned B.row D.row self.entry result) }
+        ensures value { option_copied_mut result ≡ owned_in self.old }
+    {
+        match self {
+            Held::Owned(document) => Some(document),
+            _ => None,
         }
     }
 }

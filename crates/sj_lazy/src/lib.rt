@@ -18,7 +18,8 @@ mod same_as;
 mod value;
 
 pub use array::Array;
+pub use edit::ToDocument;
 pub use held::Held;
 pub use object::Object;
 pub use same_as::{LazyComparand, ScalarComparand};
-pub use value::Value;
+pub use value::{TapeOrDocument, Value};

@@ -13,12 +13,21 @@ use std::alloc::{AllocError, Global};
 /// `simd_json::value::lazy::Value`.
 ///
 /// The document of a tape has the first of members with equal keys.
+pub type Value<'b, 't, 'i> = TapeOrDocument<
+    TapeValue<'t, 'i>,
+    &'b BorrowedValue<'i>,
+    BorrowedValue<'i>,
+>;
+
+/// A part of a tape, or a document. [`Value`] is this type with the types of tapes and documents in it.
+///
+/// What it is after a write through a reference into it is said by [`TapeOrDocument::value_mut`] for any such types.
 #[derive(Debug, Drop)]
-pub enum Value<'b, 't, 'i> {
+pub enum TapeOrDocument<T, B, D> {
     /// A value of a tape.
-    Tape(TapeValue<'t, 'i>),
+    Tape(T),
     /// A document.
-    Value(Held<'b, 'i>),
+    Value(Held<B, D>),
 }
 
 impl<'b, 't, 'i> Value<'b, 't, 'i> {
@@ -28,7 +37,7 @@ impl<'b, 't, 'i> Value<'b, 't, 'i> {
 
     /// Creates a lazy value of a value of a tape. Builds nothing.
     pub fn from_tape(tape: TapeValue<'t, 'i>) -> Self
-        ensures { result ≡ Value.Tape tape.entry }
+        ensures { result ≡ TapeOrDocument.Tape tape.entry }
     {
         Value::Tape(tape)
     }

@@ -1,13 +1,16 @@
 //! Of `sj_owned`: worked rows, reads and edits with ample memory.
 ghost use Rattle.std.specs.Prelude.{◌≡◌, [], ◌∷◌, IsSome};
-ghost use Rattle.sj_base.specs.Path.{key, put};
-ghost use Rattle.sj_owned.specs.Parts.{member_of};
+ghost use Rattle.sj_base.specs.Path.{key, place, put};
+ghost use Rattle.sj_owned.specs.Lends.{item_set, member_set};
+ghost use Rattle.sj_owned.specs.Parts.{item_of, member_of};
 ghost use Rattle.sj_owned.specs.Views.{value_tree};
 
 use super::{expect_eq, expect_text, owned_of, with_item, with_member};
 use sj_base::{AccessError, Decimal, DecimalBuf, DecimalCow, StaticNode};
 use sj_object::ObjectKey;
-use sj_owned::{Literal, OwnedValue as Value, SameAs, Value as Document, to_owned_value};
+use sj_owned::{
+    Literal, MutableValue, OwnedValue as Value, SameAs, Value as Document, to_owned_value,
+};
 use sj_reads::{ValueAsScalar, ValueGetScalar};
 use std::alloc::{AllocError, Global};
 use std::borrow::CowStr;
@@ -35,8 +38,20 @@ fn number_in(value: Option<Value>) -> Option<u64> {
     value?.as_u64()
 }
 
-// A write to a member, of which the caller knows what it leaves.
-fn write_member<K: ObjectKey + Drop, D: Literal + Drop>(
+// A write to a member, of which the caller knows what it leaves of any value.
+fn write_member<T: MutableValue>(target: &mut T, name: &str, value: T::Part)
+where
+    T::Part: Drop,
+    requires { IsSome (T.member target.old name.now) }
+    ensures { target.new ≡ member_set T.Members.with_value T.of_object target.old (T.object target.old) name.now value }
+{
+    if let Some(found) = target.get_mut(name) {
+        *found = value;
+    }
+}
+
+// The same of the tree of a document.
+fn write_by_key<K: ObjectKey + Drop, D: Literal + Drop>(
     document: &mut Document<K, D>,
     name: &str,
     value: Document<K, D>,
@@ -45,11 +60,31 @@ fn write_member<K: ObjectKey + Drop, D: Literal + Drop>(
     ensures { value_tree K.text D.literal document.new
         ≡ put (value_tree K.text D.literal document.old) (key name.now ∷ []) (value_tree K.text D.literal value) }
 {
-    if let Some(members) = document.as_object_mut() {
-        if let Some(found) = members.get_mut(name) {
-            *found = value;
-        }
+    write_member(document, name, value);
+}
+
+// Both of an item.
+fn write_item<T: MutableValue>(target: &mut T, index: usize, value: T::Part)
+where
+    T::Part: Drop,
+    requires { IsSome (T.item target.old index) }
+    ensures { target.new ≡ item_set T.of_array target.old (T.array target.old) index value }
+{
+    if let Some(found) = target.get_idx_mut(index) {
+        *found = value;
     }
+}
+
+fn write_by_index<K: ObjectKey + Drop, D: Literal + Drop>(
+    document: &mut Document<K, D>,
+    index: usize,
+    value: Document<K, D>,
+)
+    requires { IsSome (item_of document.old index) }
+    ensures { value_tree K.text D.literal document.new
+        ≡ put (value_tree K.text D.literal document.old) (place index ∷ []) (value_tree K.text D.literal value) }
+{
+    write_item(document, index, value);
 }
 
 #[test]
@@ -148,13 +183,18 @@ fn refused_writes(rt: HostRuntime) -> Result<(), Fail> {
     Ok(())
 }
 
+// Writes through what `get_mut` and `get_idx_mut` lend.
 #[test]
-fn written_member(rt: HostRuntime) -> Result<(), Fail> {
+fn written_parts(rt: HostRuntime) -> Result<(), Fail> {
     let alloc = rt.alloc();
     let mut v = owned_of(alloc, SAMPLE)?;
     v.get("n").ok_or("no member")?;
-    write_member(&mut v, "n", number(4));
+    write_by_key(&mut v, "n", number(4));
     expect_eq(&rt, v.get_u64("n"), Some(4));
+    let mut items = with_item(Value::array(alloc), Value::null())?;
+    items.get_idx(0).ok_or("no item")?;
+    write_by_index(&mut items, 0, number(5));
+    expect_text(&rt, alloc, &items, "[5]")?;
     Ok(())
 }
 

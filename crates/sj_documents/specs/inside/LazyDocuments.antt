@@ -1,8 +1,7 @@
 -- Documents in the form `Lazy`.
 use Rattle.std.specs.Prelude.{◌≡◌, ◌||◌, true}
-use Rattle.sj_lazy.specs.Contents.{contents, is_tape}
+use Rattle.sj_lazy.specs.Contents.{Value, contents, is_tape}
 use Rattle.sj_lazy.specs.Views.{lazy_tree}
-use Rattle.sj_lazy.specs.declared.value.Value.{Value}
 use Rattle.sj_scripts.specs.inside.KeptValues.{is_kept}
 
 -- The value is a part of a tape, or no object in it repeats a key.

@@ -10,14 +10,6 @@ use Rattle.sj_owned.specs.declared.value.Value.{Value, Static, Decimal, String, 
 use Rattle.sj_keys.specs.Writes.{Puts, PutsInside, written, written_in}
 
 module _ {K D : Type 0} where
-  -- a document that is an object is made of its members
-  pub made_of_members : (v : Value K D) (es : List (Entry K (Value K D))) → members_inside v ≡ Some es → Object es ≡ v
-  made_of_members (Static s) es h = search (rules, the_lemmas)
-  made_of_members (Decimal d) es h = search (rules, the_lemmas)
-  made_of_members (String s) es h = search (rules, the_lemmas)
-  made_of_members (Array' shape all) es h = search (rules, the_lemmas)
-  made_of_members (Object' shape all) es h = search (rules, the_lemmas)
-
   -- the members of an object
   pub members_of_object : (es : List (Entry K (Value K D))) → members_inside (Object es) ≡ Some es
   members_of_object es = search (rules, the_lemmas)

@@ -1,0 +1,9 @@
+use Rattle.std.proofs.Common.{ap, ◌∙◌}
+use Rattle.sj_owned.proofs.Writes.{item_set_tree}
+use Rattle.sj_owned.specs.Views.{value_tree}
+use Rattle.document_tests.proofs.tests.owned.write_by_index.Goals as goal
+
+pub returns : goal.returns
+returns g c =
+    ap (value_tree g.K.ObjectKey.text g.D.Literal.literal) c.write_item.ensures
+    ∙ item_set_tree g.K.ObjectKey.text g.D.Literal.literal c.args.document.now c.args.index c.args.value c.requires

@@ -1,5 +1,0 @@
-use Rattle.std.proofs.Common.{rules}
-use Rattle.sj_lazy.proofs.held.Held.as_document.Goals as goal
-
-pub returns-in-Owned : goal.returns-in-Owned
-returns-in-Owned c = search rules

@@ -1,5 +1,0 @@
-use Rattle.std.proofs.Common.{rules}
-use Rattle.sj_lazy.proofs.value.Value.as_array_mut.Goals as goal
-
-pub returns : goal.returns
-returns c = search rules

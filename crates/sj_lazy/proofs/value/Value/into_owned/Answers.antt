@@ -1,5 +1,0 @@
-use Rattle.std.proofs.Common.{rules}
-use Rattle.sj_lazy.proofs.value.Value.into_owned.Goals as goal
-
-pub returns-in-Tape-clause-ok : goal.returns-in-Tape-clause-ok
-returns-in-Tape-clause-ok c = search rules

@@ -1,5 +1,0 @@
-use Rattle.std.proofs.Common.{rules}
-use Rattle.sj_lazy.proofs.value.Value.try_get_idx.Goals as goal
-
-pub returns-in-Some-clause-tree : goal.returns-in-Some-clause-tree
-returns-in-Some-clause-tree c = search rules
