@@ -6,7 +6,7 @@ use Rattle.std.proofs.lemmas.Slice.Eq.{bytes_eq-Decides}
 use Rattle.sj_object.specs.Pairs.{value_at, set_value, put_key}
 use Rattle.sj_object.specs.declared.entry.Entry.{Entry}
 use Rattle.sj_owned.specs.Views.{members_inside}
-use Rattle.sj_owned.specs.declared.value.Value.{Value, Static, Decimal, String, Array', Object, Object', the_lemmas}
+use Rattle.sj_owned.specs.declared.value.Value.{Value, Object, the_lemmas}
 use Rattle.sj_keys.specs.Writes.{Puts, PutsInside, written, written_in}
 
 module _ {K D : Type 0} where
