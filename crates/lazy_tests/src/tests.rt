@@ -286,7 +286,7 @@ fn writes_to_items(rt: HostRuntime) -> Result<(), Fail> {
     })
 }
 
-// A write through the document, of which the caller knows what it leaves.
+// A write through `value_mut`. Its clauses say what is left.
 fn put_document<'i>(
     alloc: Global,
     value: &mut Value<'_, '_, 'i>,

@@ -20,7 +20,7 @@ use sj_values::borrowed::Object;
 use std::alloc::{AllocError, Global};
 use std::borrow::CowStr;
 
-/// What a document can be made of.
+/// What a document can be made of. A bound of [`TapeOrDocument::value_mut`].
 pub trait ToDocument<D> {
     // Whether this is a document of it.
     ghost makes: { Self → D → Type 0 };

@@ -21,7 +21,7 @@ pub type Value<'b, 't, 'i> = TapeOrDocument<
 
 /// A part of a tape, or a document. [`Value`] is this type with the types of tapes and documents in it.
 ///
-/// What it is after a write through a reference into it is said by [`TapeOrDocument::value_mut`] for any such types.
+/// It is generic for the sake of [`TapeOrDocument::value_mut`], which says what a write leaves.
 #[derive(Debug, Drop)]
 pub enum TapeOrDocument<T, B, D> {
     /// A value of a tape.

@@ -1,7 +1,7 @@
 //! References into a document for writing, with the names of the traits of `value_trait`.
 //!
-//! A part of a document may have the document's own type. What the document is after a write through such a part is said by
-//! [`MutableValue`], where the two types are apart, and so for every document.
+//! A part of a document has the document's own type, and no clause on what a write to it leaves can be proved there.
+//! [`MutableValue`] has these clauses: it is generic, so that the two types are apart, and documents have it.
 ghost use Rattle.std.specs.Prelude.{◌≡◌, ℕ, List, Option, Some, Vec, option_map, option_and_then, slice_get};
 ghost use Rattle.std.specs.Borrow.{LendsIf, sem};
 ghost use Rattle.std.specs.Option.{option_copied_mut};
@@ -41,7 +41,8 @@ impl<K: ObjectKey, D: Literal> Value<K, D> {
     }
 }
 
-/// Members whose values are lent for writing, as those of an [`Object`] are.
+/// Members whose values are lent for writing, as those of an [`Object`] are. A bound of [`LendsParts`]: call
+/// [`Object::get_mut`].
 pub trait LendsMembers {
     /// The type of the members' values.
     type Part;
@@ -58,7 +59,8 @@ pub trait LendsMembers {
         ensures value { option_copied_mut result ≡ member self.old name.now };
 }
 
-/// A value that lends its items and members for writing. [`Value`] is one.
+/// A value that lends its items and members for writing. A bound of [`MutableValue`]: call [`Value::as_array_mut`] and
+/// [`Value::as_object_mut`].
 pub trait LendsParts {
     /// The type of items and of members' values.
     type Part;
@@ -101,8 +103,8 @@ pub trait LendsParts {
 
 /// Parts of a value for writing, by key and by index.
 ///
-/// The clauses `writes_back` say what the value is after a write through the reference: nothing but that part has changed.
-/// Without a reference, nothing has.
+/// The clauses `writes_back` say what the value is after a write through the reference. Of a document, that part alone has
+/// changed. If a call returns `None`, the value is unchanged.
 pub trait MutableValue: LendsParts {
     /// Returns the value of the member with this key for writing, or `None` if there is none or the value isn't an object
     /// (`value_trait::MutableObject::get_mut`).

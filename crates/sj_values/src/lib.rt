@@ -11,5 +11,5 @@ pub use borrowed::{
     BorrowDeserializer, Value as BorrowedValue, to_value as to_borrowed_value,
     to_value_with_buffers as to_borrowed_value_with_buffers,
 };
-pub use sj_owned::from_borrowed;
+pub use sj_owned::{MutableValue, from_borrowed};
 pub use slice::BorrowSliceDeserializer;

@@ -38,7 +38,7 @@ fn number_in(value: Option<Value>) -> Option<u64> {
     value?.as_u64()
 }
 
-// A write to a member, of which the caller knows what it leaves of any value.
+// A write to a member of any value. Its clause says what is left.
 fn write_member<T: MutableValue>(target: &mut T, name: &str, value: T::Part)
 where
     T::Part: Drop,
@@ -50,7 +50,7 @@ where
     }
 }
 
-// The same of the tree of a document.
+// A write to a member of a document. Its clause speaks of the tree.
 fn write_by_key<K: ObjectKey + Drop, D: Literal + Drop>(
     document: &mut Document<K, D>,
     name: &str,
@@ -63,7 +63,7 @@ fn write_by_key<K: ObjectKey + Drop, D: Literal + Drop>(
     write_member(document, name, value);
 }
 
-// Both of an item.
+// A write to an item of any value.
 fn write_item<T: MutableValue>(target: &mut T, index: usize, value: T::Part)
 where
     T::Part: Drop,
@@ -75,6 +75,7 @@ where
     }
 }
 
+// A write to an item of a document.
 fn write_by_index<K: ObjectKey + Drop, D: Literal + Drop>(
     document: &mut Document<K, D>,
     index: usize,
