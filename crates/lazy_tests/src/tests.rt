@@ -292,7 +292,7 @@ fn put_document<'i>(
     value: &mut Value<'_, '_, 'i>,
     document: BorrowedValue<'i>,
 ) -> Result<(), AllocError>
-    ensures written { OnOk result (own_document value.new ≡ Some document) }
+    ensures written { OnOk result (own_document value.new ≡ Some document.entry) }
     ensures refused { OnErr result (value.new ≡ value.old) }
 {
     *value.value_mut(alloc)? = document;
