@@ -1,11 +1,11 @@
 -- Writes on documents in the form `Lazy`, by those on the documents that they are made of.
-use Rattle.std.proofs.Common.{◌≡◌, ℕ, Bool, List, [], Option, Some, None, Result, Ok, Err, refl, sym, ap, subst, ◌∙◌, inl, inr}
+use Rattle.std.proofs.Common.{◌≡◌, ℕ, Bool, true, List, [], Option, Some, None, Result, Ok, Err, refl, sym, ap, subst, ◌∙◌, inl, inr}
 use Rattle.std.specs.Option.{unwrap_or}
 use Rattle.sj_base.specs.Keep.{keep, IsKept}
 use Rattle.sj_base.specs.Path.{Part}
 use Rattle.sj_base.specs.Tree.{Tree}
 use Rattle.sj_lazy.specs.Contents.{Document, Value}
-use Rattle.sj_lazy.specs.Upgrade.{OwnsSuch, Upgrades}
+use Rattle.sj_lazy.specs.Upgrade.{Upgrades}
 use Rattle.sj_lazy.specs.Views.{document_tree, lazy_tree}
 use Rattle.sj_lazy.specs.declared.held.Held.TheVariants.{Borrowed, Owned}
 use Rattle.sj_lazy.specs.declared.value.TapeOrDocument.TheVariants as lazy
@@ -18,6 +18,7 @@ use Rattle.sj_documents.specs.inside.KeptChanges.{IsKeptChange}
 use Rattle.sj_documents.specs.inside.LazyDocuments.{RepeatsNoKey}
 use Rattle.sj_documents.proofs.KeptChanges.{StaysKept, settled_kept}
 use Rattle.sj_scripts.proofs.KeptTrees.{kept-found, kept-told}
+use Rattle.sj_scripts.specs.inside.KeptValues.{is_kept}
 use Rattle.sj_documents.proofs.MadeChanges.{back_kept}
 
 -- The document that a write is made on is what is kept of the value.
@@ -26,11 +27,8 @@ upgrade_keeps (lazy.Tape v) d r h = h
 upgrade_keeps (lazy.Value (Borrowed e)) d r h = h.0 ∙ sym (kept-found (document_tree e.now) r)
 upgrade_keeps (lazy.Value (Owned e)) d r h = ap document_tree h ∙ sym (kept-found (document_tree e) r)
 
--- a value that owns a document
-pub owned_of : (v : Value) (d : Document) → OwnsSuch (λ e. e ≡ d) v → v ≡ lazy.Value (Owned d)
-owned_of (lazy.Tape view) d h = absurd h
-owned_of (lazy.Value (Borrowed e)) d h = absurd h
-owned_of (lazy.Value (Owned e)) d h = ap (λ x. lazy.Value (Owned x)) h
+made_kept : (v : Value) (d : Document) → RepeatsNoKey v → Upgrades v d → IsKept (document_tree d)
+made_kept v d r h = subst IsKept (sym (upgrade_keeps v d r h)) (keeps_once (lazy_tree v))
 
 module _ {E : Type 0} (old new : List ℕ) (path : List Part) (change : Rewrite) (undo : Tree → Option Tree → Change) where
   -- A write on a kept tree leaves a kept tree, also where memory is lacking.
@@ -51,15 +49,13 @@ module _ {E : Type 0} (old new : List ℕ) (path : List Part) (change : Rewrite)
       let k = subst (λ x. Settles {E = E} (Err e) old new from_start x u path change (undo x)) is h in
       (k.0, elim k.1 [ inl same ↦ inr (inl same) | inr rest ↦ inr rest ])
 
-  module _ (value v : Value) (d e : Document) (r : Result (Option Inverse) E) (is : document_tree d ≡ keep (lazy_tree value)) (made : OwnsSuch (λ x. x ≡ e) v) (wrote : Settles r old new from_start (document_tree d) (document_tree e) path change (undo (document_tree d))) where
-    -- a value after a write on what is kept of it, put back
-    pub put_back : Settles r old new from_write (lazy_tree value) (lazy_tree v) path change (undo (keep (lazy_tree value)))
-    put_back = subst (λ x. Settles {E = E} r old new from_write (lazy_tree value) (lazy_tree x) path change (undo (keep (lazy_tree value)))) (sym (owned_of v e made)) (settles_lazy r (lazy_tree value) (document_tree d) (document_tree e) is wrote)
+  module _ (value : Value) (d e : Document) (r : Result (Option Inverse) E) (once : RepeatsNoKey value) (made : Upgrades value d) (wrote : Settles r old new from_start (document_tree d) (document_tree e) path change (undo (document_tree d))) where
+    -- a value after a write on the document that was made of it
+    pub settles_value : Settles r old new from_write (lazy_tree value) (document_tree e) path change (undo (keep (lazy_tree value)))
+    settles_value = settles_lazy r (lazy_tree value) (document_tree d) (document_tree e) (upgrade_keeps value d once made) wrote
 
-    pub put_back_kept : StaysKept change → RepeatsNoKey v
-    put_back_kept fine =
-        let kept : IsKept (document_tree d) = subst IsKept (sym is) (keeps_once (lazy_tree value)) in
-        subst RepeatsNoKey (sym (owned_of v e made)) (kept-told (document_tree e) (settles_kept r (document_tree d) (document_tree e) fine kept wrote))
+    pub settles_value_kept : StaysKept change → is_kept (document_tree e) ≡ true
+    settles_value_kept fine = kept-told (document_tree e) (settles_kept r (document_tree d) (document_tree e) fine (made_kept value d once made) wrote)
 
 undone_kept : (o : Option Tree) (t : Tree) → IsKept t → ((u : Tree) → o ≡ Some u → IsKept u) → IsKept (unwrap_or o t)
 undone_kept None t kept good = kept
@@ -83,12 +79,10 @@ module _ {E : Type 0} (path : List Part) (change : Change) where
       let k = subst (λ x. TakesBack {E = E} (Err e) from_start x u path change) is h in
       elim k [ inl same ↦ inr (inl same) | inr rest ↦ inr rest ]
 
-  module _ (value v : Value) (d e : Document) (r : Result Bool E) (is : document_tree d ≡ keep (lazy_tree value)) (made : OwnsSuch (λ x. x ≡ e) v) (took : TakesBack r from_start (document_tree d) (document_tree e) path change) where
-    -- a value after a write on it was taken back, put back
-    pub put_taken : TakesBack r from_write (lazy_tree value) (lazy_tree v) path change
-    put_taken = subst (λ x. TakesBack {E = E} r from_write (lazy_tree value) (lazy_tree x) path change) (sym (owned_of v e made)) (takes_lazy r (lazy_tree value) (document_tree d) (document_tree e) is took)
+  module _ (value : Value) (d e : Document) (r : Result Bool E) (once : RepeatsNoKey value) (made : Upgrades value d) (took : TakesBack r from_start (document_tree d) (document_tree e) path change) where
+    -- a value after a write on it was taken back
+    pub takes_value : TakesBack r from_write (lazy_tree value) (document_tree e) path change
+    takes_value = takes_lazy r (lazy_tree value) (document_tree d) (document_tree e) (upgrade_keeps value d once made) took
 
-    pub put_taken_kept : IsKeptChange change → RepeatsNoKey v
-    put_taken_kept good =
-        let kept : IsKept (document_tree d) = subst IsKept (sym is) (keeps_once (lazy_tree value)) in
-        subst RepeatsNoKey (sym (owned_of v e made)) (kept-told (document_tree e) (taken_kept r (document_tree d) (document_tree e) good kept took))
+    pub takes_value_kept : IsKeptChange change → is_kept (document_tree e) ≡ true
+    takes_value_kept good = kept-told (document_tree e) (taken_kept r (document_tree d) (document_tree e) good (made_kept value d once made) took)

@@ -1,10 +1,6 @@
 //! Documents in the form `Lazy`.
-ghost use Rattle.std.specs.Prelude.{◌≡◌, IfOk, OnErr};
-ghost use Rattle.std.specs.Cow.{cow_str_bytes};
-ghost use Rattle.sj_base.specs.Keep.{keep};
-ghost use Rattle.sj_base.specs.Scalar.{decimal_cow_text};
+ghost use Rattle.std.specs.Prelude.{◌≡◌};
 ghost use Rattle.sj_lazy.specs.Views.{lazy_tree};
-ghost use Rattle.sj_owned.specs.Views.{value_tree};
 ghost use Rattle.sj_tape.specs.Views.{value_tree as view_tree};
 ghost use Rattle.sj_documents.specs.Step.{from_write};
 ghost use Rattle.sj_documents.specs.inside.LazyDocuments.{RepeatsNoKey};
@@ -15,9 +11,7 @@ use crate::reads::{contains_at, find, len_at, put_answer, put_found, put_keys_at
 use sj_lazy::Value as LazyValue;
 use sj_scripts::{PathPart, ScriptValue};
 use sj_tape::Value as TapeValue;
-use sj_values::BorrowedValue;
 use std::alloc::{AllocError, Global};
-use std::mem;
 
 /// A document in the form `Lazy`: a value of a tape until the first write, and from then on a document that keeps only
 /// the first of members with equal keys.
@@ -34,20 +28,6 @@ impl<'t, 'i> LazyDocument<'t, 'i> {
     {
         LazyDocument {
             value: LazyValue::from_tape(value),
-        }
-    }
-
-    /// Takes the document out for a write. One is built of a tape.
-    fn take(&mut self, alloc: Global) -> Result<BorrowedValue<'i>, AllocError>
-        ensures ok { IfOk result (λ d. value_tree cow_str_bytes decimal_cow_text d ≡ keep (lazy_tree self.old.value)) }
-        ensures err { OnErr result (self.new.value ≡ self.old.value) }
-    {
-        match mem::take(&mut self.value).into_value(alloc) {
-            Ok(document) => Ok(document),
-            Err(value) => {
-                self.value = value;
-                Err(AllocError)
-            }
         }
     }
 }
@@ -101,10 +81,8 @@ impl Document for LazyDocument<'_, '_> {
         depth: usize,
         out: &mut Vec<u8>,
     ) -> Result<Option<Inverse>, AllocError> {
-        let mut document = self.take(*out.allocator())?;
-        let written = Document::insert(&mut document, path, key, value, depth, out);
-        self.value = LazyValue::from(document);
-        written
+        let document = self.value.value_mut(*out.allocator())?;
+        Document::insert(document, path, key, value, depth, out)
     }
 
     fn remove(
@@ -113,10 +91,8 @@ impl Document for LazyDocument<'_, '_> {
         key: &str,
         out: &mut Vec<u8>,
     ) -> Result<Option<Inverse>, AllocError> {
-        let mut document = self.take(*out.allocator())?;
-        let written = Document::remove(&mut document, path, key, out);
-        self.value = LazyValue::from(document);
-        written
+        let document = self.value.value_mut(*out.allocator())?;
+        Document::remove(document, path, key, out)
     }
 
     fn push(
@@ -126,17 +102,13 @@ impl Document for LazyDocument<'_, '_> {
         depth: usize,
         out: &mut Vec<u8>,
     ) -> Result<Option<Inverse>, AllocError> {
-        let mut document = self.take(*out.allocator())?;
-        let written = Document::push(&mut document, path, value, depth, out);
-        self.value = LazyValue::from(document);
-        written
+        let document = self.value.value_mut(*out.allocator())?;
+        Document::push(document, path, value, depth, out)
     }
 
     fn pop(&mut self, path: &[PathPart], out: &mut Vec<u8>) -> Result<Option<Inverse>, AllocError> {
-        let mut document = self.take(*out.allocator())?;
-        let written = Document::pop(&mut document, path, out);
-        self.value = LazyValue::from(document);
-        written
+        let document = self.value.value_mut(*out.allocator())?;
+        Document::pop(document, path, out)
     }
 
     fn set_at(
@@ -146,19 +118,15 @@ impl Document for LazyDocument<'_, '_> {
         depth: usize,
         out: &mut Vec<u8>,
     ) -> Result<Option<Inverse>, AllocError> {
-        let mut document = self.take(*out.allocator())?;
-        let written = Document::set_at(&mut document, path, value, depth, out);
-        self.value = LazyValue::from(document);
-        written
+        let document = self.value.value_mut(*out.allocator())?;
+        Document::set_at(document, path, value, depth, out)
     }
 
     fn take_back(&mut self, alloc: Global, inverse: Inverse) -> Result<bool, AllocError> {
         // The document that is put back has to be known to repeat no key.
         inverse.change.walk()?;
-        let mut document = self.take(alloc)?;
-        let taken = Document::take_back(&mut document, alloc, inverse);
-        self.value = LazyValue::from(document);
-        taken
+        let document = self.value.value_mut(alloc)?;
+        Document::take_back(document, alloc, inverse)
     }
 
     fn text(&self, out: &mut Vec<u8>) -> Result<(), AllocError> {

@@ -1,5 +1,5 @@
 -- The edits of documents, what is appended of them, and how the elements of an array are kept apart in its text.
-use Rattle.std.specs.Prelude.{◌≡◌, ℕ, Bool, true, false, List, [], ◌∷◌, Option, Some, None, option_map, ok_or, is_some, Result, Ok, Err, codes, ◌++◌}
+use Rattle.std.specs.Prelude.{◌≡◌, ℕ, Bool, true, false, List, [], ◌∷◌, Option, Some, None, option_map, ok_or, is_some, Result, Ok, Err, codes}
 use Rattle.std.specs.Option.{unwrap_or}
 use Rattle.sj_base.specs.Containers.{members_in}
 use Rattle.sj_base.specs.Tree.{Tree, Items, Members, string, list}
