@@ -1,2 +1,1 @@
-pub mod Documents
 mod Puts

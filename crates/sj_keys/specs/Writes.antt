@@ -15,19 +15,9 @@ abbrev pub refusal : Option ValueType → KnownKeyError
 refusal (Some t) = NotAnObject t
 refusal None = Memory
 
-module _ {T O V : Type 0} (with_object : T → O → T) (with_value : O → List ℕ → V → O) where
-  -- the target with the value v at the key k of the object o in it. Without an object it stays as it is
-  abbrev pub written_in : T → List ℕ → V → Option O → T
-  written_in t k v (Some o) = with_object t (with_value o k v)
-  written_in t k v None = t
-
--- the target with the value v at the key k of the object that it is, if it is one
-abbrev pub written : {T O V : Type 0} → (T → Option O) → (T → O → T) → (O → List ℕ → V → O) → T → List ℕ → V → T
-written object with_object with_value t k v = written_in with_object with_value t k v (object t)
-
 -- whether u is the target t after the value v was put at the key k of the object that t is
-abbrev pub PutsInside : {T O V : Type 0} → (T → Option O) → (T → O → T) → (O → List ℕ → V → O → Type 0) → T → List ℕ → V → T → Type 0
-PutsInside {T} {O} object with_object puts t k v u = (o p : O) × (object t ≡ Some o) × puts o k v p × (u ≡ with_object t p)
+abbrev pub PutsInside : {T O V : Type 0} → (T → Option O) → (O → T) → (O → List ℕ → V → O → Type 0) → T → List ℕ → V → T → Type 0
+PutsInside {T} {O} object of_object puts t k v u = (o p : O) × (object t ≡ Some o) × puts o k v p × (u ≡ of_object p)
 
 -- the type of a target that isn't an object
 abbrev pub type_met : {O : Type 0} → (O → Option ValueType) → ValueType → Option O → Option ValueType

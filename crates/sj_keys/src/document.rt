@@ -7,7 +7,8 @@ ghost use Rattle.std.specs.Borrow.{LendsIf, sem};
 ghost use Rattle.std.specs.Option.{option_copied_mut};
 ghost use Rattle.sj_base.specs.declared.static_node.ValueType.{ValueType};
 ghost use Rattle.sj_owned.specs.Parts.{member_of};
-ghost use Rattle.sj_keys.specs.Writes.{written, PutsInside, type_met};
+ghost use Rattle.sj_owned.specs.Lends.{member_set};
+ghost use Rattle.sj_keys.specs.Writes.{PutsInside, type_met};
 
 use crate::error::KnownKeyError;
 use crate::key::KnownKey;
@@ -26,7 +27,7 @@ pub trait KnownKeyDocument: KnownKeyTarget {
     ghost object: { Self → Option Self.Members };
 
     // The target that is this object.
-    ghost with_object: { Self → Self.Members → Self };
+    ghost of_object: { Self.Members → Self };
 
     // The type of the target.
     ghost kind: { Self → ValueType };
@@ -37,32 +38,32 @@ pub trait KnownKeyDocument: KnownKeyTarget {
 
     /// Returns the object for writing, or `None` if the target isn't one.
     fn known_object_mut(&mut self) -> Option<&mut Self::Members>
-        ensures* writes_back { sem 𝓛 (LendsIf Self.row Self.Members.row self.entry result (with_object self.old) self.old) }
+        ensures* writes_back { sem 𝓛 (LendsIf Self.row Self.Members.row self.entry result of_object self.old) }
         ensures value { option_copied_mut result ≡ object self.old };
 
-    ghost object_again: { (v : Self) (o : Self.Members) → object (with_object v o) ≡ Some o };
+    ghost object_again: { (o : Self.Members) → object (of_object o) ≡ Some o };
 
-    ghost same_object: { (v : Self) (o : Self.Members) → object v ≡ Some o → with_object v o ≡ v };
+    ghost same_object: { (v : Self) (o : Self.Members) → object v ≡ Some o → of_object o ≡ v };
 
     ghost member_of_object: { (v : Self) (k : List ℕ) → Self.member v k ≡ option_and_then (λ o. Self.Members.member o k) (object v) };
 }
 
 impl<T: KnownKeyDocument> KnownKeyTargetMut for T {
-    ghost with_value = { written T.object T.with_object T.Members.with_value };
+    ghost with_value = { λ v k w. member_set T.Members.with_value T.of_object v (T.object v) k w };
 
-    ghost puts = { PutsInside T.object T.with_object T.Members.puts };
+    ghost puts = { PutsInside T.object T.of_object T.Members.puts };
 
     ghost other_type = { λ v. type_met T.Members.other_type (T.kind v) (T.object v) };
 
     ghost use Rattle.sj_keys.specs.inside.Laws.{set_found_inside, set_others_inside, put_found_inside, put_others_inside};
 
-    ghost written_found = { set_found_inside T.object T.with_object T.member T.Members.member T.object_again T.member_of_object T.Members.with_value T.Members.written_found };
+    ghost written_found = { set_found_inside T.object T.of_object T.member T.Members.member T.object_again T.member_of_object T.Members.with_value T.Members.written_found };
 
-    ghost put_found = { put_found_inside T.object T.with_object T.member T.Members.member T.object_again T.member_of_object T.Members.puts T.Members.put_found };
+    ghost put_found = { put_found_inside T.object T.of_object T.member T.Members.member T.object_again T.member_of_object T.Members.puts T.Members.put_found };
 
-    ghost others_unwritten = { set_others_inside T.object T.with_object T.member T.Members.member T.object_again T.member_of_object T.Members.with_value T.Members.others_unwritten };
+    ghost others_unwritten = { set_others_inside T.object T.of_object T.member T.Members.member T.object_again T.member_of_object T.Members.with_value T.Members.others_unwritten };
 
-    ghost others_unput = { put_others_inside T.object T.with_object T.member T.Members.member T.object_again T.member_of_object T.Members.puts T.Members.others_unput };
+    ghost others_unput = { put_others_inside T.object T.of_object T.member T.Members.member T.object_again T.member_of_object T.Members.puts T.Members.others_unput };
 
     #[inline]
     fn get_known_mut(&mut self, key: &KnownKey<'_>) -> Option<&mut T::Output> {
@@ -120,11 +121,11 @@ impl<K: FromString + Drop, D: Literal> KnownKeyDocument for Value<K, D> {
 
     ghost object = { members_inside };
 
-    ghost with_object = { λ v es. ObjectOf es };
+    ghost of_object = { ObjectOf };
 
     ghost kind = { value_kind };
 
-    ghost object_again = { λ v es. members_of_object es };
+    ghost object_again = { members_of_object };
 
     ghost same_object = { made_of_members };
 

@@ -105,10 +105,11 @@ impl<T: ToDocument<D> + Drop, B: ToDocument<D> + Drop, D: Drop> TapeOrDocument<T
     ///
     /// # Errors
     ///
-    /// `AllocError` if there is no memory for the document. The value is unchanged.
+    /// `AllocError` if there is no memory for the document. The value is unchanged. A document of its own takes none.
     pub fn value_mut(&mut self, alloc: Global) -> Result<&mut D, AllocError>
         ensures* writes_back { sem 𝓛 (lends_document T.row B.row D.row self.entry result) }
         ensures value { IfOk result (λ d. UpgradesBy T.makes B.makes self.old d.now) }
+        ensures succeeds { OnErr result (owns self.old ≡ false) }
     {
         self.upgrade(alloc)?;
         match self.owned_mut() {
@@ -142,13 +143,10 @@ impl<'i> Value<'_, '_, 'i> {
             ≡ child (upgraded self.old) (key_part (cow_str_bytes key.entry))) }
         ensures err { IfErr result (Refuses (λ e. e ≡ refusal AccessError.NotAnObject (members_in (upgraded self.old))) self.old self.new) }
     {
-        let Ok(()) = self.upgrade(alloc) else {
+        let Ok(document) = self.value_mut(alloc) else {
             return Err(AccessError::Memory);
         };
-        match self {
-            Value::Value(Held::Owned(document)) => document.insert(key, value),
-            _ => unreachable!(),
-        }
+        document.insert(key, value)
     }
 
     /// Removes the member of this key and returns its value. The members after it close up.
@@ -168,13 +166,10 @@ impl<'i> Value<'_, '_, 'i> {
             ≡ child (upgraded self.old) (key_part key.now)) }
         ensures err { IfErr result (Refuses (λ e. (e ≡ AccessError.NotAnObject) × IsNone (members_in (upgraded self.old))) self.old self.new) }
     {
-        let Ok(()) = self.upgrade(alloc) else {
+        let Ok(document) = self.value_mut(alloc) else {
             return Err(AccessError::Memory);
         };
-        match self {
-            Value::Value(Held::Owned(document)) => document.remove(key),
-            _ => unreachable!(),
-        }
+        document.remove(key)
     }
 
     /// Appends the value as the last item.
@@ -188,13 +183,10 @@ impl<'i> Value<'_, '_, 'i> {
             ≡ with_item (upgraded self.old) (document_tree value.entry)) self.new) }
         ensures err { IfErr result (Refuses (λ e. e ≡ refusal AccessError.NotAnArray (items_in (upgraded self.old))) self.old self.new) }
     {
-        let Ok(()) = self.upgrade(alloc) else {
+        let Ok(document) = self.value_mut(alloc) else {
             return Err(AccessError::Memory);
         };
-        match self {
-            Value::Value(Held::Owned(document)) => document.push(value),
-            _ => unreachable!(),
-        }
+        document.push(value)
     }
 
     /// Removes the last item and returns it, or `None` if there is none.
@@ -210,13 +202,10 @@ impl<'i> Value<'_, '_, 'i> {
             ≡ option_map last_item (items_in (upgraded self.old))) }
         ensures err { IfErr result (Refuses (λ e. (e ≡ AccessError.NotAnArray) × IsNone (items_in (upgraded self.old))) self.old self.new) }
     {
-        let Ok(()) = self.upgrade(alloc) else {
+        let Ok(document) = self.value_mut(alloc) else {
             return Err(AccessError::Memory);
         };
-        match self {
-            Value::Value(Held::Owned(document)) => document.pop(),
-            _ => unreachable!(),
-        }
+        document.pop()
     }
 
     /// Makes the value a document, and returns its items for writing, or `None` if it isn't an array.

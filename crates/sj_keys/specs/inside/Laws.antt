@@ -7,7 +7,8 @@ use Rattle.sj_object.specs.Pairs.{value_at, set_value, put_key}
 use Rattle.sj_object.specs.declared.entry.Entry.{Entry}
 use Rattle.sj_owned.specs.Views.{members_inside}
 use Rattle.sj_owned.specs.declared.value.Value.{Value, Object, the_lemmas}
-use Rattle.sj_keys.specs.Writes.{Puts, PutsInside, written, written_in}
+use Rattle.sj_owned.specs.Lends.{member_set}
+use Rattle.sj_keys.specs.Writes.{Puts, PutsInside}
 
 module _ {K D : Type 0} where
   -- the members of an object
@@ -63,8 +64,8 @@ module _ {K V : Type 0} (text : K → List ℕ) where
   put_others es fs k l v p far = rw p.2 (put_key_others es p.0 l v (subst (λ (j : List ℕ). bytes_eq j l ≡ false) (sym p.1) far))
 
 -- the same of a target that is written through the object that it is
-module _ {T O V : Type 0} (object : T → Option O) (with_object : T → O → T) (member : T → List ℕ → Option V) (inner : O → List ℕ → Option V)
-    (again : (t : T) (o : O) → object (with_object t o) ≡ Some o)
+module _ {T O V : Type 0} (object : T → Option O) (of_object : O → T) (member : T → List ℕ → Option V) (inner : O → List ℕ → Option V)
+    (again : (o : O) → object (of_object o) ≡ Some o)
     (through : (t : T) (k : List ℕ) → member t k ≡ option_and_then (λ o. inner o k) (object t)) where
   in_object : (t : T) (k : List ℕ) (o : O) → object t ≡ Some o → member t k ≡ inner o k
   in_object t k o is = through t k ∙ ap (λ (p : Option O). option_and_then (λ q. inner q k) p) is
@@ -72,33 +73,33 @@ module _ {T O V : Type 0} (object : T → Option O) (with_object : T → O → T
   in_none : (t : T) (k : List ℕ) → object t ≡ None → member t k ≡ None
   in_none t k is = through t k ∙ ap (λ (p : Option O). option_and_then (λ q. inner q k) p) is
 
-  in_written : (t : T) (k : List ℕ) (o : O) → member (with_object t o) k ≡ inner o k
-  in_written t k o = in_object (with_object t o) k o (again t o)
+  in_written : (k : List ℕ) (o : O) → member (of_object o) k ≡ inner o k
+  in_written k o = in_object (of_object o) k o (again o)
 
   module _ (set : O → List ℕ → V → O) where
     set_found_in : ((o : O) (k : List ℕ) (v : V) → IsSome (inner o k) → inner (set o k v) k ≡ Some v)
-        → (t : T) (k : List ℕ) (v : V) (p : Option O) → object t ≡ p → IsSome (member t k) → member (written_in with_object set t k v p) k ≡ Some v
-    set_found_in found t k v (Some o) is h = in_written t k (set o k v) ∙ found o k v (subst (λ (m : Option V). IsSome m) (in_object t k o is) h)
+        → (t : T) (k : List ℕ) (v : V) (p : Option O) → object t ≡ p → IsSome (member t k) → member (member_set set of_object t p k v) k ≡ Some v
+    set_found_in found t k v (Some o) is h = in_written k (set o k v) ∙ found o k v (subst (λ (m : Option V). IsSome m) (in_object t k o is) h)
     set_found_in found t k v None is h = absurd (let n : IsSome {T = V} None = subst (λ (m : Option V). IsSome m) (in_none t k is) h in search rules)
 
     set_others_in : ((o : O) (k l : List ℕ) (v : V) → bytes_eq k l ≡ false → inner (set o k v) l ≡ inner o l)
-        → (t : T) (k l : List ℕ) (v : V) (p : Option O) → object t ≡ p → bytes_eq k l ≡ false → member (written_in with_object set t k v p) l ≡ member t l
-    set_others_in others t k l v (Some o) is far = in_written t l (set o k v) ∙ others o k l v far ∙ sym (in_object t l o is)
+        → (t : T) (k l : List ℕ) (v : V) (p : Option O) → object t ≡ p → bytes_eq k l ≡ false → member (member_set set of_object t p k v) l ≡ member t l
+    set_others_in others t k l v (Some o) is far = in_written l (set o k v) ∙ others o k l v far ∙ sym (in_object t l o is)
     set_others_in others t k l v None is far = refl
 
     pub set_found_inside : ((o : O) (k : List ℕ) (v : V) → IsSome (inner o k) → inner (set o k v) k ≡ Some v)
-        → (t : T) (k : List ℕ) (v : V) → IsSome (member t k) → member (written object with_object set t k v) k ≡ Some v
+        → (t : T) (k : List ℕ) (v : V) → IsSome (member t k) → member (member_set set of_object t (object t) k v) k ≡ Some v
     set_found_inside found t k v h = set_found_in found t k v (object t) refl h
 
     pub set_others_inside : ((o : O) (k l : List ℕ) (v : V) → bytes_eq k l ≡ false → inner (set o k v) l ≡ inner o l)
-        → (t : T) (k l : List ℕ) (v : V) → bytes_eq k l ≡ false → member (written object with_object set t k v) l ≡ member t l
+        → (t : T) (k l : List ℕ) (v : V) → bytes_eq k l ≡ false → member (member_set set of_object t (object t) k v) l ≡ member t l
     set_others_inside others t k l v far = set_others_in others t k l v (object t) refl far
 
   module _ (puts : O → List ℕ → V → O → Type 0) where
     pub put_found_inside : ((o p : O) (k : List ℕ) (v : V) → puts o k v p → inner p k ≡ Some v)
-        → (t u : T) (k : List ℕ) (v : V) → PutsInside object with_object puts t k v u → member u k ≡ Some v
-    put_found_inside found t u k v h = rw h.4 (in_written t k h.1 ∙ found h.0 h.1 k v h.3)
+        → (t u : T) (k : List ℕ) (v : V) → PutsInside object of_object puts t k v u → member u k ≡ Some v
+    put_found_inside found t u k v h = rw h.4 (in_written k h.1 ∙ found h.0 h.1 k v h.3)
 
     pub put_others_inside : ((o p : O) (k l : List ℕ) (v : V) → puts o k v p → bytes_eq k l ≡ false → inner p l ≡ inner o l)
-        → (t u : T) (k l : List ℕ) (v : V) → PutsInside object with_object puts t k v u → bytes_eq k l ≡ false → member u l ≡ member t l
-    put_others_inside others t u k l v h far = rw h.4 (in_written t l h.1 ∙ others h.0 h.1 k l v h.3 far ∙ sym (in_object t l h.0 h.2))
+        → (t u : T) (k l : List ℕ) (v : V) → PutsInside object of_object puts t k v u → bytes_eq k l ≡ false → member u l ≡ member t l
+    put_others_inside others t u k l v h far = rw h.4 (in_written l h.1 ∙ others h.0 h.1 k l v h.3 far ∙ sym (in_object t l h.0 h.2))
