@@ -1,5 +1,5 @@
 -- An edit of the part that a path selects, step by step along the path.
-use Rattle.std.proofs.Common.{◌≡◌, ℕ, zero, suc, List, [], ◌∷◌, Bool, true, false, cond, Option, Some, None, Result, Ok, Err, Vec, refl, sym, ap, ◌∙◌, rules, arith, option_map, ◌<◌, ◌≤◌, length, get_or}
+use Rattle.std.proofs.Common.{◌≡◌, ℕ, zero, suc, List, [], ◌∷◌, Bool, true, false, cond, Option, Some, None, Result, Ok, Err, Vec, refl, sym, ap, ◌∙◌, arith, option_map, ◌<◌, ◌≤◌, length, get_or}
 use Rattle.std.specs.Prelude.{option_and_then, ok_or, codes, bytes_eq}
 use Rattle.std.specs.Vec.{with_item}
 use Rattle.std.specs.declared.alloc.Global.{Global}
@@ -8,9 +8,10 @@ use Rattle.sj_base.specs.Tree.{Tree, null, boolean, integer, decimal, string, li
 use Rattle.sj_base.specs.Path.{Part, key, place, child, at, member_at, item_at, change_member, change_item, change_child, put}
 use Rattle.sj_object.specs.declared.entry.Entry.{Entry}
 use Rattle.sj_object.specs.Pairs.{value_at, set_value}
-use Rattle.sj_owned.specs.Views.{value_tree, items_view, items_inside, members_inside}
-use Rattle.sj_owned.specs.declared.value.Value.{Value, Static, Decimal, String, Array, Array', Object, Object', the_lemmas}
-use Rattle.sj_owned.proofs.Layers.{tree-Array, tree-Object}
+use Rattle.sj_owned.specs.Views.{value_tree, items_view, array_inside, members_inside}
+use Rattle.sj_owned.specs.inside.Lending.{made_of_items, made_of_members}
+use Rattle.sj_owned.specs.declared.value.Value.{Value, Array, Object}
+use Rattle.sj_owned.proofs.Layers.{tree-Array}
 use Rattle.sj_owned.proofs.Members.{value_member}
 use Rattle.sj_owned.proofs.Writes.{tree_of_members, object_set, array_set}
 use Rattle.sj_scripts.specs.Command.{◌>>=◌}
@@ -112,20 +113,13 @@ write_nowhere t p rest change none =
 
 -- ---- the members and the items of a document
 
-tree_of_items : {K D : Type 0} (text : K → List ℕ) (literal : D → List ℕ) (v : Value K D) (vs : List (Value K D)) → items_inside v ≡ Some vs → value_tree text literal v ≡ list (items_view text literal vs)
-tree_of_items text literal (Static s) vs h = search (rules, the_lemmas)
-tree_of_items text literal (Decimal d) vs h = search (rules, the_lemmas)
-tree_of_items text literal (String s) vs h = search (rules, the_lemmas)
-tree_of_items text literal (Array' shape all) vs h = search (rules, the_lemmas)
-tree_of_items text literal (Object' shape all) vs h = search (rules, the_lemmas)
-
 module _ {K D : Type 0} (text : K → List ℕ) (literal : D → List ℕ) (v : Value K D) where
   module _ (es : List (Entry K (Value K D))) (k : List ℕ) (is : members_inside v ≡ Some es) where
     pub member_child : child (value_tree text literal v) (key k) ≡ option_map (value_tree text literal) (value_at text es k)
     member_child = ap (λ t. child t (key k)) (tree_of_members text literal v es is) ∙ sym (value_member text (value_tree text literal) es k)
 
     pub object_again : value_tree text literal (Object es) ≡ value_tree text literal v
-    object_again = tree-Object text literal es ∙ sym (tree_of_members text literal v es is)
+    object_again = ap (value_tree text literal) (made_of_members v es is)
 
     pub member_edited : (m w : Value K D) (rest : List Part) (change : Rewrite) (r : Result (Option (Value K D)) (ReadError Refusal)) → Some m ≡ value_at text es k
         → IsEdited (value_tree text literal) r (value_tree text literal m) (value_tree text literal w) (write_at (value_tree text literal m) rest change)
@@ -147,12 +141,12 @@ module _ {K D : Type 0} (text : K → List ℕ) (literal : D → List ℕ) (v : 
   item_beyond (x ∷ vs) zero past = absurd (omega arith)
   item_beyond (x ∷ vs) (suc i) past = item_beyond vs i (omega arith)
 
-  module _ (vs : Vec (Value K D) Global) (i : ℕ) (is : items_inside v ≡ Some vs.items) where
-    array_child : child (value_tree text literal v) (place i) ≡ item_at (items_view text literal vs.items) i
-    array_child = ap (λ t. child t (place i)) (tree_of_items text literal v vs.items is)
-
+  module _ (vs : Vec (Value K D) Global) (i : ℕ) (is : array_inside v ≡ Some vs) where
     pub array_again : value_tree text literal (Array vs) ≡ value_tree text literal v
-    array_again = tree-Array text literal vs ∙ sym (tree_of_items text literal v vs.items is)
+    array_again = ap (value_tree text literal) (made_of_items v vs is)
+
+    array_child : child (value_tree text literal v) (place i) ≡ item_at (items_view text literal vs.items) i
+    array_child = ap (λ t. child t (place i)) (sym array_again ∙ tree-Array text literal vs)
 
     pub item_edited : (m w : Value K D) (rest : List Part) (change : Rewrite) (r : Result (Option (Value K D)) (ReadError Refusal)) → i < length vs.items → m ≡ get_or vs.items i m
         → IsEdited (value_tree text literal) r (value_tree text literal m) (value_tree text literal w) (write_at (value_tree text literal m) rest change)

@@ -7,7 +7,7 @@ ghost use Rattle.sj_base.specs.Containers.{items_in, members_in};
 ghost use Rattle.sj_base.specs.Edit.{last_item};
 ghost use Rattle.sj_base.specs.Path.{child, key as key_part};
 ghost use Rattle.sj_owned.specs.Parts.{member_of, item_of};
-ghost use Rattle.sj_owned.specs.Views.{items_inside, members_inside};
+ghost use Rattle.sj_owned.specs.Views.{array_inside, members_inside};
 ghost use Rattle.sj_owned.specs.Edits.{with_member, without_member, with_item, without_last, refusal};
 
 use crate::held::Held;
@@ -219,7 +219,7 @@ impl<'i> Value<'_, '_, 'i> {
         &mut self,
         alloc: Global,
     ) -> Result<Option<&mut Vec<BorrowedValue<'i>>>, AllocError>
-        ensures { IfOk result (λ found. (d : Document) × Upgrades self.old d × (option_map (λ v. v.now.items) found ≡ items_inside d)) }
+        ensures { IfOk result (λ found. (d : Document) × Upgrades self.old d × (option_copied_mut found ≡ array_inside d)) }
     {
         Ok(self.value_mut(alloc)?.as_array_mut())
     }

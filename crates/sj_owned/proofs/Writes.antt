@@ -11,8 +11,8 @@ use Rattle.sj_object.specs.declared.entry.Entry.{Entry}
 use Rattle.sj_owned.specs.Lends.{item_set, member_set}
 use Rattle.sj_owned.specs.Parts.{member_of, item_of}
 use Rattle.sj_owned.specs.Views.{value_tree, items_view, members_view, array_inside, members_inside}
-use Rattle.sj_owned.specs.inside.Lending.{made_of_items, item_of_vector}
-use Rattle.sj_owned.specs.declared.value.Value.{Value, Static, Decimal, String, Array, Array', Object, Object', the_lemmas}
+use Rattle.sj_owned.specs.inside.Lending.{made_of_items, made_of_members, item_of_vector}
+use Rattle.sj_owned.specs.declared.value.Value.{Value, Array, Object}
 use Rattle.sj_owned.proofs.Layers.{tree-Array, tree-Object}
 
 module _ {K D : Type 0} (text : K → List ℕ) (literal : D → List ℕ) where
@@ -30,13 +30,9 @@ module _ {K D : Type 0} (text : K → List ℕ) (literal : D → List ℕ) where
   items_set (v ∷ vs) zero w = refl
   items_set (v ∷ vs) (suc i) w = ap (item (value_tree text literal v)) (items_set vs i w)
 
-  -- the tree of an object by its members, and of an array by its items
+  -- the tree of an object by its members
   pub tree_of_members : (v : Value K D) (es : List (Entry K (Value K D))) → members_inside v ≡ Some es → value_tree text literal v ≡ object (members_view text literal es)
-  tree_of_members (Static s) es h = search (rules, the_lemmas)
-  tree_of_members (Decimal d) es h = search (rules, the_lemmas)
-  tree_of_members (String s) es h = search (rules, the_lemmas)
-  tree_of_members (Array' shape all) es h = search (rules, the_lemmas)
-  tree_of_members (Object' shape all) es h = search (rules, the_lemmas)
+  tree_of_members v es is = sym (ap (value_tree text literal) (made_of_members v es is)) ∙ tree-Object text literal es
 
   -- an object with another value under a key
   pub object_set : (v : Value K D) (es : List (Entry K (Value K D))) (k : List ℕ) (w : Value K D) → members_inside v ≡ Some es

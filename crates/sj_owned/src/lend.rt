@@ -2,7 +2,7 @@
 //!
 //! A part of a document has the document's own type, and no clause on what a write to it leaves can be proved there.
 //! [`MutableValue`] has these clauses: it is generic, so that the two types are apart, and documents have it.
-ghost use Rattle.std.specs.Prelude.{◌≡◌, ℕ, List, Option, Some, Vec, option_map, option_and_then, slice_get};
+ghost use Rattle.std.specs.Prelude.{◌≡◌, ℕ, List, Option, Some, Vec, option_and_then, slice_get};
 ghost use Rattle.std.specs.Borrow.{LendsIf, sem};
 ghost use Rattle.std.specs.Option.{option_copied_mut};
 ghost use Rattle.std.specs.declared.alloc.Global.{Global};
@@ -13,14 +13,14 @@ use crate::value::Value;
 use sj_object::{Object, ObjectKey};
 
 impl<K: ObjectKey, D: Literal> Value<K, D> {
-    ghost use Rattle.sj_owned.specs.Views.{items_inside, members_inside};
+    ghost use Rattle.sj_owned.specs.Views.{array_inside, members_inside};
     ghost use Rattle.sj_owned.specs.Lends.{lends_items, lends_members};
 
     /// Returns the items for writing, or `None` if the value isn't an array
     /// (`value_trait::ValueAsMutArray::as_array_mut`).
     pub fn as_array_mut(&mut self) -> Option<&mut Vec<Value<K, D>>>
         ensures* writes_back { sem 𝓛 (lends_items K.row D.row K.ObjectKey self.entry result) }
-        ensures value { option_map (λ v. v.now.items) result ≡ items_inside self.old }
+        ensures value { option_copied_mut result ≡ array_inside self.old }
     {
         match self {
             Value::Array(items) => Some(items),
@@ -181,10 +181,7 @@ impl<K: ObjectKey, D: Literal> LendsParts for Value<K, D> {
 
     #[inline]
     fn items_mut(&mut self) -> Option<&mut Vec<Value<K, D>>> {
-        match self {
-            Value::Array(items) => Some(items),
-            _ => None,
-        }
+        self.as_array_mut()
     }
 
     #[inline]
