@@ -4,6 +4,7 @@ pub mod Writes
 pub mod Pieces
 pub mod Kept
 pub mod MetKeys
+pub mod Hashes
 pub mod Placed
 pub mod Stacks
 pub mod Members

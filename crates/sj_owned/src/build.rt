@@ -72,7 +72,7 @@ fn take_list<'de, V: BuildValue<'de, K> + Drop, K: MakeKey<'de> + Drop>(
 }
 
 /// The most members of an object whose keys are compared with one another. With so many a set takes as long.
-const FEW_MEMBERS: usize = 192;
+pub(crate) const FEW_MEMBERS: usize = 192;
 
 // The keys that were met, where a set lists them.
 type MetKeys<'de> = Option<BTreeSet<&'de str>>;

@@ -15,8 +15,8 @@ ghost use Rattle.sj_owned.specs.From.{IsArrayOf, IsObjectOf, IsObjectOfEntries};
 ghost use Rattle.sj_owned.specs.Views.{value_tree};
 ghost use Rattle.sj_owned.specs.declared.value.Value.{Static, String, Array, Object as Members};
 
-use crate::copy::insert;
 use crate::literal::Literal;
+use crate::pairs::put;
 use crate::value::Value;
 use sj_base::StaticNode;
 use sj_object::{Object, ObjectKey};
@@ -290,9 +290,11 @@ impl<K: ObjectKey + Drop, D: Literal + Drop> Value<K, D> {
             × Drains I.IntoIter.next_gives it xs × IsObjectOf S.Into.converts K.text xs v) }
     {
         let mut members = Object::new(alloc);
+        let mut hashes = None;
         for (key, value) in pairs {
-            insert(&mut members, key, value.into())?;
+            put(alloc, &mut members, &mut hashes, key, value.into())?;
         }
+        drop(hashes);
         Ok(Value::Object(members))
     }
 }

@@ -21,6 +21,7 @@ mod index;
 mod lend;
 mod literal;
 pub mod owned;
+mod pairs;
 mod read;
 mod same_as;
 mod value;
