@@ -3,10 +3,10 @@ use Rattle.std.proofs.Common.{◌≡◌, ◌&&◌, ◌||◌, ◌<◌, ℕ, zero,
 use Rattle.std.specs.Option.{option_map_or}
 use Rattle.std.specs.Str.{bytes_eq}
 use Rattle.sj_base.specs.Alike.{alike, alike_items, alike_members, keys_within}
-use Rattle.sj_base.specs.Containers.{items_in, members_in, members_len, item_trees, member_pairs}
+use Rattle.sj_base.specs.Containers.{members_len, item_trees, member_pairs}
 use Rattle.sj_base.specs.Keep.{keep, keep_items, keep_members, without}
 use Rattle.sj_base.specs.Path.{member_at}
-use Rattle.sj_base.specs.Tree.{Tree, null, boolean, integer, decimal, string, list, object, Items, no_items, item, Members, no_members, member}
+use Rattle.sj_base.specs.Tree.{Tree, list, object, Items, no_items, item, Members, no_members, member}
 use Rattle.sj_base.proofs.Keeping.{member_at-keep}
 use Rattle.sj_base.proofs.Keys.{same_key}
 use Rattle.sj_owned.specs.Compare.{kept_alike}
@@ -14,25 +14,6 @@ use Rattle.sj_owned.specs.Trees.{items_of}
 use Rattle.sj_lazy.specs.Contents.{Contents, Value, contents}
 use Rattle.sj_lazy.specs.Views.{contents_tree, lazy_tree}
 use Rattle.sj_lazy.specs.inside.Comparing.{next_alike, among, first_keys, all_found}
-
--- A list is alike to lists alone, and an object to objects.
-pub other_than_list : (ts : Items) (t : Tree) → items_in t ≡ None → false ≡ kept_alike (list ts) t
-other_than_list ts null h = refl
-other_than_list ts (boolean b) h = refl
-other_than_list ts (integer n) h = refl
-other_than_list ts (decimal d) h = refl
-other_than_list ts (string s) h = refl
-other_than_list ts (list us) h = cc
-other_than_list ts (object ms) h = refl
-
-pub other_than_object : (ms : Members) (t : Tree) → members_in t ≡ None → false ≡ kept_alike (object ms) t
-other_than_object ms null h = refl
-other_than_object ms (boolean b) h = refl
-other_than_object ms (integer n) h = refl
-other_than_object ms (decimal d) h = refl
-other_than_object ms (string s) h = refl
-other_than_object ms (list us) h = refl
-other_than_object ms (object ns) h = cc
 
 pub items_back : (ts : Items) → items_of (item_trees ts) ≡ ts
 items_back no_items = refl

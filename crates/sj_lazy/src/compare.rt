@@ -64,10 +64,10 @@ fn is_among(members: &TapeObject<'_, '_>, count: usize, name: &str) -> bool
 }
 
 // Returns `true` if each of these keys has a member.
-fn are_found(mut keys: Keys<'_, '_, '_>, members: &TapeObject<'_, '_>) -> bool
+fn are_found(keys: Keys<'_, '_, '_>, members: &TapeObject<'_, '_>) -> bool
     ensures { result ≡ all_found (keys_left keys.entry) (tape_members members.now) }
 {
-    while let Some(key) = keys.next() {
+    for key in keys {
         if members.get(key).is_none() {
             return false;
         }

@@ -11,7 +11,6 @@ ghost use Rattle.sj_owned.specs.Copies.{leaves, on_leaf, owned_text, held_text, 
 ghost use Rattle.sj_owned.specs.From.{IsArrayOf, IsObjectOf, IsObjectOfEntries};
 ghost use Rattle.sj_owned.specs.Views.{value_tree};
 
-use crate::held::Held;
 use crate::value::Value;
 use sj_owned::OwnedValue;
 use sj_values::BorrowedValue;
@@ -27,7 +26,7 @@ impl<'i, T: Into<BorrowedValue<'i>>> From<T> for Value<'_, '_, 'i> {
     ghost from_gives = { λ x v. OwnsSuch (T.Into.converts x) v };
 
     fn from(x: T) -> Self {
-        Value::Value(Held::Owned(x.into()))
+        Value::owned(x.into())
     }
 }
 
@@ -43,8 +42,7 @@ impl<'i> Value<'_, '_, 'i> {
     pub fn from_text(alloc: Global, text: &str) -> Result<Self, AllocError>
         ensures { IfOk result (OwnsSuch (λ d. document_tree d ≡ string text.now)) }
     {
-        let document: BorrowedValue<'i> = BorrowedValue::from_text(alloc, text)?;
-        Ok(Value::from(document))
+        Ok(Value::owned(BorrowedValue::from_text(alloc, text)?))
     }
 
     /// Creates an array of what the values of `list` are converted to.
@@ -58,8 +56,7 @@ impl<'i> Value<'_, '_, 'i> {
     ) -> Result<Self, AllocError>
         ensures { IfOk result (OwnsSuch (IsArrayOf S.Into.converts list.items)) }
     {
-        let document: BorrowedValue<'i> = BorrowedValue::from_list(alloc, list)?;
-        Ok(Value::from(document))
+        Ok(Value::owned(BorrowedValue::from_list(alloc, list)?))
     }
 
     /// Creates an array of what the given values are converted to, in their order. The iterator has to end, as those of a
@@ -76,8 +73,7 @@ impl<'i> Value<'_, '_, 'i> {
         ensures { IfOk result (OwnsSuch (λ d. (it : I.IntoIter) × (xs : List S) × I.into_iter_gives values it
             × Drains I.IntoIter.next_gives it xs × IsArrayOf S.Into.converts xs d)) }
     {
-        let document: BorrowedValue<'i> = BorrowedValue::from_values(alloc, values)?;
-        Ok(Value::from(document))
+        Ok(Value::owned(BorrowedValue::from_values(alloc, values)?))
     }
 
     /// Creates an object of the given pairs, with each value converted. The iterator has to end. Of pairs with equal keys the
@@ -94,8 +90,7 @@ impl<'i> Value<'_, '_, 'i> {
         ensures { IfOk result (OwnsSuch (λ d. (it : I.IntoIter) × (xs : List (Text Heap × S)) × I.into_iter_gives pairs it
             × Drains I.IntoIter.next_gives it xs × IsObjectOf S.Into.converts cow_str_bytes xs d)) }
     {
-        let document: BorrowedValue<'i> = BorrowedValue::from_pairs(alloc, pairs)?;
-        Ok(Value::from(document))
+        Ok(Value::owned(BorrowedValue::from_pairs(alloc, pairs)?))
     }
 
     /// Creates an object of the entries of `map`, in the order of the keys' bytes.
@@ -109,8 +104,7 @@ impl<'i> Value<'_, '_, 'i> {
     ) -> Result<Self, AllocError>
         ensures { IfOk result (OwnsSuch (IsObjectOfEntries Owned cow_str_bytes map.entry.entries)) }
     {
-        let document: BorrowedValue<'i> = BorrowedValue::from_map(alloc, map)?;
-        Ok(Value::from(document))
+        Ok(Value::owned(BorrowedValue::from_map(alloc, map)?))
     }
 
     /// Converts an owned document. Its texts are moved.
@@ -125,7 +119,6 @@ impl<'i> Value<'_, '_, 'i> {
         ensures leaves { IfOk result (OwnsSuch (λ d. leaves held_text held_literal d
             ≡ mapped (on_leaf owned_text owned_text) (leaves string_bytes decimal_buf_text value))) }
     {
-        let document: BorrowedValue<'i> = BorrowedValue::from_owned(alloc, value)?;
-        Ok(Value::from(document))
+        Ok(Value::owned(BorrowedValue::from_owned(alloc, value)?))
     }
 }

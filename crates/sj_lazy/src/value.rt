@@ -50,6 +50,13 @@ impl<'b, 't, 'i> Value<'b, 't, 'i> {
         Value::Value(Held::Borrowed(document))
     }
 
+    // A lazy value with this document of its own.
+    pub(crate) fn owned(document: BorrowedValue<'i>) -> Self
+        ensures { OwnsSuch (λ d. d ≡ document.entry) result }
+    {
+        Value::Value(Held::Owned(document))
+    }
+
     /// Creates a null. It counts as a tape.
     pub fn null() -> Self
         ensures tree { lazy_tree result ≡ null }
@@ -63,14 +70,14 @@ impl<'b, 't, 'i> Value<'b, 't, 'i> {
     pub fn array(alloc: Global) -> Self
         ensures { OwnsSuch (λ d. items_inside d ≡ Some []) result }
     {
-        Value::from(BorrowedValue::array(alloc))
+        Value::owned(BorrowedValue::array(alloc))
     }
 
     /// Creates an object without members, as a document. Allocates nothing.
     pub fn object(alloc: Global) -> Self
         ensures { OwnsSuch (λ d. members_inside d ≡ Some []) result }
     {
-        Value::from(BorrowedValue::object(alloc))
+        Value::owned(BorrowedValue::object(alloc))
     }
 
     /// Creates an array without items, as a document that has room for this many.
@@ -81,8 +88,7 @@ impl<'b, 't, 'i> Value<'b, 't, 'i> {
     pub fn array_with_capacity(alloc: Global, capacity: usize) -> Result<Self, AllocError>
         ensures { IfOk result (OwnsSuch (λ d. items_inside d ≡ Some [])) }
     {
-        let document: BorrowedValue<'i> = BorrowedValue::array_with_capacity(alloc, capacity)?;
-        Ok(Value::from(document))
+        Ok(Value::owned(BorrowedValue::array_with_capacity(alloc, capacity)?))
     }
 
     /// Creates an object without members, as a document that has room for this many.
@@ -93,8 +99,7 @@ impl<'b, 't, 'i> Value<'b, 't, 'i> {
     pub fn object_with_capacity(alloc: Global, capacity: usize) -> Result<Self, AllocError>
         ensures { IfOk result (OwnsSuch (λ d. members_inside d ≡ Some [])) }
     {
-        let document: BorrowedValue<'i> = BorrowedValue::object_with_capacity(alloc, capacity)?;
-        Ok(Value::from(document))
+        Ok(Value::owned(BorrowedValue::object_with_capacity(alloc, capacity)?))
     }
 
     /// Returns `true` if the value is a part of a tape.

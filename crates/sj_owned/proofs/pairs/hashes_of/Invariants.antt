@@ -11,4 +11,4 @@ invariant-loop-key g l =
     (goal.iterator-loop-key g).can_next l.key-iterator
     × (goal.iterator-loop-key g).is_finite l.key-iterator
     × ((k : List ℕ) → IsSome (value_at g.K.ObjectKey.text l.fn.members k)
-      → (contains nat_cmp l.hashes (text_hash k) ≡ true) ⊎ IsSome (value_at g.K.ObjectKey.text (entries_left l.key-iterator) k))
+    → (contains nat_cmp l.hashes (text_hash k) ≡ true) ⊎ IsSome (value_at g.K.ObjectKey.text (entries_left l.key-iterator) k))
