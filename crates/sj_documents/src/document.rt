@@ -87,8 +87,8 @@ pub trait Document {
     ///
     /// # Errors
     ///
-    /// `AllocError` if there is no memory for the copy of the value, the new member, the reply or, in the form `Lazy`, the
-    /// document that is built.
+    /// `AllocError` if there is no memory for the copy of the value, the new member, the inverse, the reply or, in the form
+    /// `Lazy`, the document that is built.
     fn insert(
         &mut self,
         path: &[PathPart],
@@ -105,7 +105,7 @@ pub trait Document {
     ///
     /// # Errors
     ///
-    /// `AllocError` if there is no memory for the reply or, in the form `Lazy`, for the document that is built.
+    /// `AllocError` if there is no memory for the inverse, the reply or, in the form `Lazy`, the document that is built.
     fn remove(
         &mut self,
         path: &[PathPart],
@@ -120,8 +120,8 @@ pub trait Document {
     ///
     /// # Errors
     ///
-    /// `AllocError` if there is no memory for the copy of the value, the new item, the reply or, in the form `Lazy`, the document
-    /// that is built.
+    /// `AllocError` if there is no memory for the copy of the value, the new item, the inverse, the reply or, in the form `Lazy`,
+    /// the document that is built.
     fn push(
         &mut self,
         path: &[PathPart],
@@ -137,7 +137,7 @@ pub trait Document {
     ///
     /// # Errors
     ///
-    /// `AllocError` if there is no memory for the reply or, in the form `Lazy`, for the document that is built.
+    /// `AllocError` if there is no memory for the inverse, the reply or, in the form `Lazy`, the document that is built.
     fn pop(&mut self, path: &[PathPart], out: &mut Vec<u8>) -> Result<Option<Inverse>, AllocError>
         ensures { Settles result out.old.items out.new.items keeping (tree self.old) (tree self.new) (path_view path.now)
             popping popping_back };
@@ -146,7 +146,8 @@ pub trait Document {
     ///
     /// # Errors
     ///
-    /// `AllocError` if there is no memory for the copy of the value, the reply or, in the form `Lazy`, the document that is built.
+    /// `AllocError` if there is no memory for the copy of the value, the inverse, the reply or, in the form `Lazy`, the document
+    /// that is built.
     fn set_at(
         &mut self,
         path: &[PathPart],

@@ -53,7 +53,7 @@ impl<'b, 't, 'i: 'b> Object<'b, 't, 'i> {
         self.len() == 0
     }
 
-    /// Returns the value of the first member with this key.
+    /// Returns the value of the first member with this key, or `None` if there is none.
     pub fn get(&self, name: &str) -> Option<Value<'b, 't, 'i>>
         ensures tree { option_map lazy_tree result ≡ member_at (object_members self.now) name.now }
         ensures part { option_map contents result ≡ member_within (object_contents self.now) name.now }

@@ -12,7 +12,7 @@ use std::alloc::AllocError;
 
 impl<K: ObjectKey, D: Literal> Value<K, D> {
     /// Returns the number of levels that the document nests: 0 for a scalar, and 1 for an array or an object with nothing
-    /// inside. That no object in it repeats a key is known then, of every document.
+    /// inside. On `Ok` the contract also says that no object in the document repeats a key.
     ///
     /// The recursion is as deep as the document nests.
     ///

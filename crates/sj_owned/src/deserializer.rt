@@ -39,7 +39,7 @@ impl<'de, V: BuildValue<'de, K> + Drop, K: MakeKey<'de> + Drop> ValueDeserialize
     }
 
     /// Builds the value whose first node comes next, and goes past its nodes. Of members with equal keys the first one is
-    /// kept, and a key that comes next is a string. A node has to be left, which [`ValueDeserializer::is_at_end`] tells.
+    /// kept. If a key comes next, it is read as a string. A node has to be left, which [`ValueDeserializer::is_at_end`] tells.
     ///
     /// # Errors
     ///

@@ -275,12 +275,13 @@ impl<K: ObjectKey + Drop, D: Literal + Drop> Value<K, D> {
         Ok(Value::Array(items))
     }
 
-    /// Creates an object of the given pairs, with each value converted. The iterator has to end. Of pairs with equal keys the first one gives the
-    /// place, and the last one the value.
+    /// Creates an object of the given pairs, with each value converted. The iterator has to end. Of pairs with equal keys the
+    /// first one gives the place, and the last one the value.
     ///
     /// # Errors
     ///
-    /// `AllocError` if there is no memory for the object. The pairs are dropped.
+    /// `AllocError` if there is no memory for the object, or meanwhile for the hashes of its keys, if there are many. The pairs
+    /// are dropped.
     pub fn from_pairs<S: Into<Value<K, D>> + Drop, I: IntoIterator<Item = (K, S)>>(
         alloc: Global,
         pairs: I,
@@ -304,7 +305,8 @@ impl<K: FromString + Drop, D: Literal + Drop> Value<K, D> {
     ///
     /// # Errors
     ///
-    /// `AllocError` if there is no memory for the object. The entries are dropped.
+    /// `AllocError` if there is no memory for the object, or meanwhile for its pairs and the hashes of its keys. The entries are
+    /// dropped.
     pub fn from_map(alloc: Global, map: HashMap<String, Value<K, D>>) -> Result<Self, AllocError>
         ensures { IfOk result (IsObjectOfEntries K.of_string K.text map.entries) }
     {

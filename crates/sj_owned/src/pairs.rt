@@ -1,7 +1,9 @@
 //! Pairs that are put into an object one by one.
 //!
 //! An object finds a key by comparing it with the others, so putting many pairs takes time that grows with the square of
-//! their number. Behind [`FEW_MEMBERS`] the hashes of the keys are listed, and a key with a new hash isn't looked for.
+//! their number. Behind [`FEW_MEMBERS`] the hashes of the keys are listed, and a key with a new hash isn't looked for. Then n
+//! pairs take n * log n steps, if their keys have distinct hashes. A key that is repeated, or that shares its hash with
+//! another, is still looked for.
 ghost use Rattle.std.specs.Prelude.{◌≡◌, ◌<◌, true, Some, None, IsSome, IfOk, OnOk, length};
 ghost use Rattle.sj_object.specs.Pairs.{value_at, put_key};
 ghost use Rattle.sj_owned.specs.inside.Hashes.{Lists};
