@@ -152,42 +152,26 @@ fn script_of(alloc: Global, text: &str) -> Result<Script, ScriptFault> {
 
 const FORMS: [Form; 3] = [Form::Owned, Form::Borrowed, Form::Lazy];
 
-// Looks for what a script writes, in each form, for a stream that comes in pieces of `step` bytes.
+// Looks for what a script writes in these forms, for a stream that comes in pieces of `step` bytes.
 fn expect(
     rt: &impl Abort,
     alloc: Global,
+    forms: &[Form],
     script: &str,
-    stream: &str,
-    depth: usize,
-    step: usize,
-    records: &str,
-) {
-    for form in FORMS {
-        expect_in(form, rt, alloc, script, stream, depth, step, records);
-    }
-}
-
-// The same in one form.
-fn expect_in(
-    form: Form,
-    rt: &impl Abort,
-    alloc: Global,
-    script: &str,
-    stream: &str,
+    stream: &[u8],
     depth: usize,
     step: usize,
     records: &str,
 ) {
     let script = script_of(alloc, script).expect(rt, "a script");
-    let mut output = Vec::new(alloc);
-    let input = Pieces::new(stream.as_bytes(), step);
-    let result = run_on(alloc, input, &mut output, &script, depth, form);
-    assert_eq!(rt; result, Ok(()));
-    assert_eq!(rt;
-        output.as_slice(),
-        records.as_bytes(),
-        "{stream} by {step} in {form:?}"
-    );
+    for form in forms {
+        let mut output = Vec::new(alloc);
+        let input = Pieces::new(stream, step);
+        let result = run_on(alloc, input, &mut output, &script, depth, *form);
+        assert_eq!(rt; result, Ok(()));
+        let written = std::str::from_utf8(&output);
+        assert_eq!(rt; written, Ok(records), "by {step} in {form:?}");
+    }
 }
 
 // The two parts of a row of a table: a line, and what is wanted for it.
@@ -233,33 +217,24 @@ impl Stream {
 
     // Looks for the records under the empty script, where the lines come in pieces of `step` bytes.
     fn check(&self, rt: &impl Abort, alloc: Global, depth: usize, step: usize) {
-        self.check_under("[]", &self.records, rt, alloc, depth, step);
+        let records = &self.records;
+        expect(rt, alloc, &FORMS, "[]", &self.bytes, depth, step, records);
     }
 
     // Looks for the records under a reload of each kind.
     fn check_reloads(&self, rt: &impl Abort, alloc: Global, depth: usize) {
         for script in [r#"[["reload"]]"#, r#"[["reload_pp"]]"#] {
-            self.check_under(script, &self.reloaded, rt, alloc, depth, 65536);
-        }
-    }
-
-    fn check_under(
-        &self,
-        script: &str,
-        records: &str,
-        rt: &impl Abort,
-        alloc: Global,
-        depth: usize,
-        step: usize,
-    ) {
-        let script = script_of(alloc, script).expect(rt, "a script");
-        for form in FORMS {
-            let mut output = Vec::new(alloc);
-            let input = Pieces::new(&self.bytes, step);
-            let result = run_on(alloc, input, &mut output, &script, depth, form);
-            assert_eq!(rt; result, Ok(()));
-            let written = std::str::from_utf8(&output);
-            assert_eq!(rt; written, Ok(records), "by {step} in {form:?}");
+            let records = &self.reloaded;
+            expect(
+                rt,
+                alloc,
+                &FORMS,
+                script,
+                &self.bytes,
+                depth,
+                65536,
+                records,
+            );
         }
     }
 }
@@ -309,7 +284,17 @@ null"#,
         ),
     ] {
         for step in [1, 2, 65536] {
-            expect(&rt, rt.alloc(), script, stream, LIMIT, step, records);
+            let stream = stream.as_bytes();
+            expect(
+                &rt,
+                rt.alloc(),
+                &FORMS,
+                script,
+                stream,
+                LIMIT,
+                step,
+                records,
+            );
         }
     }
 }
@@ -342,7 +327,8 @@ fn streams(rt: HostRuntime) {
         ),
     ] {
         for step in [1, 2, 65536] {
-            expect(&rt, rt.alloc(), "[]", stream, LIMIT, step, records);
+            let stream = stream.as_bytes();
+            expect(&rt, rt.alloc(), &FORMS, "[]", stream, LIMIT, step, records);
         }
     }
 }
@@ -616,7 +602,7 @@ fn run_narrow(rt: &impl Abort, alloc: Global, refusal: Refusal, room: usize) {
 #[test]
 fn narrow_writer(rt: HostRuntime) {
     for refusal in [Refusal::Fails, Refusal::Interrupts, Refusal::TakesNothing] {
-        for room in 0..BOTH.len() + 1 {
+        for room in 0..=BOTH.len() {
             run_narrow(&rt, rt.alloc(), refusal, room);
         }
     }

@@ -1,5 +1,5 @@
 //! Documents of lines: numbers and texts as they are kept and printed.
-use super::{LIMIT, Stream, split_row};
+use super::{LIMIT, MOST_SPACES, Stream, split_row};
 use std::alloc::Global;
 use std::process::Abort;
 use std::test::Fail;
@@ -43,7 +43,7 @@ const UNSEEN_DOCUMENTS: [(&str, &str); 5] = [
 fn check_document(rt: &impl Abort, alloc: Global, line: &str, text: &str) -> Result<(), Fail> {
     let record = format!(in alloc; r#"{{"replies":[],"document":{text}}}"#)?;
     let mut lines = Stream::new(alloc);
-    for spaces in 0..131 {
+    for spaces in 0..=MOST_SPACES {
         lines.add(spaces, line.as_bytes(), &record)?;
         if spaces == 0 {
             lines.check(rt, alloc, LIMIT, 65536);

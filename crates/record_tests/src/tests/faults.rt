@@ -28,7 +28,7 @@ fn compare_line(
     place: Option<(u16, &str)>,
 ) -> Result<(), Fail> {
     let mut lines = Stream::new(alloc);
-    for spaces in 0..MOST_SPACES + 1 {
+    for spaces in 0..=MOST_SPACES {
         let moved = match place {
             Some((index, character)) => Some((usize::from(index) + spaces, character)),
             None => None,

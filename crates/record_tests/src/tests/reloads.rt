@@ -1,6 +1,6 @@
 //! Reloads: worked rows, and what stays the same with a reload at each place of a script.
-use super::writes::{LIMITS, REPEATED_KEYS, WORKED, check, check_in};
-use super::{LIMIT, expect};
+use super::writes::{LIMITS, REPEATED_KEYS, WORKED, check};
+use super::{FORMS, LIMIT, expect};
 use sj_owned::{OwnedValue, to_owned_value};
 use sj_records::Form;
 use std::alloc::{AllocError, Global};
@@ -38,7 +38,7 @@ fn worked_reloads(rt: HostRuntime) -> Result<(), Fail> {
             r#"{"replies":[[],true,"TooDeep",true,[[[]]]],"document":[8]}"#,
         ),
     ] {
-        check(&rt, rt.alloc(), script, line, depth, record)?;
+        check(&rt, rt.alloc(), &FORMS, script, line, depth, record)?;
     }
     Ok(())
 }
@@ -55,7 +55,8 @@ fn reloaded_repeats(rt: HostRuntime) -> Result<(), Fail> {
         ),
     ] {
         let script = r#"[["reload"],["len",[]]]"#;
-        check_in(form, &rt, rt.alloc(), script, r#"{"a":1,"a":2}"#, record)?;
+        let line = r#"{"a":1,"a":2}"#;
+        check(&rt, rt.alloc(), &[form], script, line, LIMIT, record)?;
     }
     Ok(())
 }
@@ -71,7 +72,9 @@ fn deep_reload(rt: HostRuntime) -> Result<(), Fail> {
         }
     }
     let record = format!(in alloc; r#"{{"replies":[true],"document":{line}}}"#)?;
-    check(&rt, alloc, r#"[["reload_pp"]]"#, &line, LIMIT + 1, &record)
+    let script = r#"[["reload_pp"]]"#;
+    check(&rt, alloc, &FORMS, script, &line, LIMIT + 1, &record)?;
+    Ok(())
 }
 
 fn put_item(text: &mut String, item: &str) -> Result<(), AllocError> {
@@ -140,6 +143,7 @@ fn len(array: &OwnedValue) -> Result<usize, Fail> {
 fn check_reload(
     rt: &impl Abort,
     alloc: Global,
+    forms: &[Form],
     commands: &OwnedValue,
     reload: &str,
     place: usize,
@@ -149,13 +153,15 @@ fn check_reload(
 ) -> Result<(), Fail> {
     let script = with_item(alloc, commands, place, reload)?;
     let record = with_reply(alloc, record, place)?;
-    check(rt, alloc, &script, line, depth, &record)
+    check(rt, alloc, forms, &script, line, depth, &record)?;
+    Ok(())
 }
 
 // Looks for the record with a reload of each kind at each place of the script.
 pub(super) fn check_reloads(
     rt: &impl Abort,
     alloc: Global,
+    forms: &[Form],
     script: &str,
     line: &str,
     depth: usize,
@@ -163,8 +169,10 @@ pub(super) fn check_reloads(
 ) -> Result<(), Fail> {
     let commands = read(alloc, script)?;
     for reload in RELOADS {
-        for place in 0..len(&commands)?.saturating_add(1) {
-            check_reload(rt, alloc, &commands, reload, place, line, depth, record)?;
+        for place in 0..=len(&commands)? {
+            check_reload(
+                rt, alloc, forms, &commands, reload, place, line, depth, record,
+            )?;
         }
     }
     Ok(())
@@ -173,45 +181,10 @@ pub(super) fn check_reloads(
 #[test]
 fn reloads_change_nothing(rt: HostRuntime) -> Result<(), Fail> {
     for (script, line, record) in &WORKED {
-        check_reloads(&rt, rt.alloc(), script, line, LIMIT, record)?;
+        check_reloads(&rt, rt.alloc(), &FORMS, script, line, LIMIT, record)?;
     }
     for (script, line, depth, record) in &LIMITS {
-        check_reloads(&rt, rt.alloc(), script, line, *depth, record)?;
-    }
-    Ok(())
-}
-
-// Looks for the record in one form, with a reload at this place of the commands.
-fn check_reload_in(
-    form: Form,
-    rt: &impl Abort,
-    alloc: Global,
-    commands: &OwnedValue,
-    reload: &str,
-    place: usize,
-    line: &str,
-    record: &str,
-) -> Result<(), Fail> {
-    let script = with_item(alloc, commands, place, reload)?;
-    let record = with_reply(alloc, record, place)?;
-    check_in(form, rt, alloc, &script, line, &record)?;
-    Ok(())
-}
-
-// Looks for the record in one form, with a reload of each kind at each place of the script.
-fn check_reloads_in(
-    form: Form,
-    rt: &impl Abort,
-    alloc: Global,
-    script: &str,
-    line: &str,
-    record: &str,
-) -> Result<(), Fail> {
-    let commands = read(alloc, script)?;
-    for reload in RELOADS {
-        for place in 0..len(&commands)?.saturating_add(1) {
-            check_reload_in(form, rt, alloc, &commands, reload, place, line, record)?;
-        }
+        check_reloads(&rt, rt.alloc(), &FORMS, script, line, *depth, record)?;
     }
     Ok(())
 }
@@ -225,7 +198,7 @@ fn reloads_keep_repeats(rt: HostRuntime) -> Result<(), Fail> {
             (Form::Borrowed, *kept),
             (Form::Lazy, *lazy),
         ] {
-            check_reloads_in(form, &rt, rt.alloc(), script, line, record)?;
+            check_reloads(&rt, rt.alloc(), &[form], script, line, LIMIT, record)?;
         }
     }
     Ok(())
@@ -249,6 +222,16 @@ fn reloads_of_lines(rt: HostRuntime) {
 {"replies":[true,"NotAnArray",true,true,"NotAnArray"],"document":{"a":1}}
 "#;
     for step in [1, 65536] {
-        expect(&rt, rt.alloc(), script, stream, LIMIT, step, records);
+        let stream = stream.as_bytes();
+        expect(
+            &rt,
+            rt.alloc(),
+            &FORMS,
+            script,
+            stream,
+            LIMIT,
+            step,
+            records,
+        );
     }
 }

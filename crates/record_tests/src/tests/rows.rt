@@ -79,7 +79,7 @@ fn of_worked_lines(rt: HostRuntime) -> Result<(), Fail> {
 
 // Adds a line behind each number of spaces up to 130, with the same record.
 fn add_behind_spaces(lines: &mut Stream, line: &[u8], record: &str) -> Result<(), Fail> {
-    for spaces in 1..MOST_SPACES + 1 {
+    for spaces in 1..=MOST_SPACES {
         lines.add(spaces, line, record)?;
     }
     Ok(())

@@ -1,7 +1,7 @@
 //! Writes that are taken back: worked rows.
 use super::reloads::check_reloads;
-use super::writes::{check, check_in};
-use super::{LIMIT, expect};
+use super::writes::check;
+use super::{FORMS, LIMIT, expect};
 use sj_records::Form;
 use std::test::Fail;
 
@@ -35,8 +35,8 @@ fn worked_undo(rt: HostRuntime) -> Result<(), Fail> {
             r#"{"replies":[["x"],[],[1],true,true,true],"document":"x"}"#,
         ),
     ] {
-        check(&rt, rt.alloc(), script, line, LIMIT, record)?;
-        check_reloads(&rt, rt.alloc(), script, line, LIMIT, record)?;
+        check(&rt, rt.alloc(), &FORMS, script, line, LIMIT, record)?;
+        check_reloads(&rt, rt.alloc(), &FORMS, script, line, LIMIT, record)?;
     }
     Ok(())
 }
@@ -56,8 +56,8 @@ fn undone_without_change(rt: HostRuntime) -> Result<(), Fail> {
             r#"{"replies":[[],"NotAnArray","NoSuchPath","NotAnObject",true,false],"document":{"a":[]}}"#,
         ),
     ] {
-        check(&rt, rt.alloc(), script, line, LIMIT, record)?;
-        check_reloads(&rt, rt.alloc(), script, line, LIMIT, record)?;
+        check(&rt, rt.alloc(), &FORMS, script, line, LIMIT, record)?;
+        check_reloads(&rt, rt.alloc(), &FORMS, script, line, LIMIT, record)?;
     }
     Ok(())
 }
@@ -80,7 +80,8 @@ fn undone_repeats(rt: HostRuntime) -> Result<(), Fail> {
         ),
     ] {
         let script = r#"[["undo"],["len",[]],["remove",[],"a"],["undo"]]"#;
-        check_in(form, &rt, rt.alloc(), script, r#"{"a":1,"a":2}"#, record)?;
+        let line = r#"{"a":1,"a":2}"#;
+        check(&rt, rt.alloc(), &[form], script, line, LIMIT, record)?;
     }
     Ok(())
 }
@@ -99,14 +100,9 @@ fn thirteen_undone(rt: HostRuntime) -> Result<(), Fail> {
         r#""NoSuchPath",true,true,true,true,false,false,false,false,false,false,false,false,false],"#,
         r#""document":{"a":[1,"x"],"b":null}}"#
     );
-    check(
-        &rt,
-        rt.alloc(),
-        script,
-        r#"{"a":[1,"x"],"b":null}"#,
-        LIMIT,
-        record,
-    )
+    let line = r#"{"a":[1,"x"],"b":null}"#;
+    check(&rt, rt.alloc(), &FORMS, script, line, LIMIT, record)?;
+    Ok(())
 }
 
 // No line takes back a write of the line before.
@@ -118,5 +114,15 @@ fn undone_by_line(rt: HostRuntime) {
 {"replies":[false,[]],"document":[0,1]}
 {"replies":[false,"NotAnArray"],"document":{}}
 "#;
-    expect(&rt, rt.alloc(), script, stream, LIMIT, 65536, records);
+    let stream = stream.as_bytes();
+    expect(
+        &rt,
+        rt.alloc(),
+        &FORMS,
+        script,
+        stream,
+        LIMIT,
+        65536,
+        records,
+    );
 }

@@ -1,41 +1,28 @@
 //! Worked rows of scripts that read and write, in each form.
 use super::reloads::check_reloads;
-use super::{LIMIT, expect, expect_in, script_of};
+use super::{FORMS, LIMIT, expect, script_of};
 use sj_owned::{OwnedValue, to_owned_value};
 use sj_records::{Command, Document, Form};
 use std::alloc::{AllocError, Global};
 use std::process::Abort;
 use std::test::Fail;
 
-// Looks for the record of one line under a script.
+// Looks for the record of one line under a script, in these forms.
 pub(super) fn check(
     rt: &impl Abort,
     alloc: Global,
+    forms: &[Form],
     script: &str,
     line: &str,
     depth: usize,
     record: &str,
-) -> Result<(), Fail> {
-    let stream = format!(in alloc; "{line}\n")?;
-    let records = format!(in alloc; "{record}\n")?;
-    for step in [1, 65536] {
-        expect(rt, alloc, script, &stream, depth, step, &records);
-    }
-    Ok(())
-}
-
-// The same in one form, read at once.
-pub(super) fn check_in(
-    form: Form,
-    rt: &impl Abort,
-    alloc: Global,
-    script: &str,
-    line: &str,
-    record: &str,
 ) -> Result<(), AllocError> {
     let stream = format!(in alloc; "{line}\n")?;
     let records = format!(in alloc; "{record}\n")?;
-    expect_in(form, rt, alloc, script, &stream, LIMIT, 65536, &records);
+    for step in [1, 65536] {
+        let stream = stream.as_bytes();
+        expect(rt, alloc, forms, script, stream, depth, step, &records);
+    }
     Ok(())
 }
 
@@ -86,7 +73,7 @@ pub(super) const WORKED: [(&str, &str, &str); 8] = [
 #[test]
 fn worked_scripts(rt: HostRuntime) -> Result<(), Fail> {
     for (script, line, record) in &WORKED {
-        check(&rt, rt.alloc(), script, line, LIMIT, record)?;
+        check(&rt, rt.alloc(), &FORMS, script, line, LIMIT, record)?;
     }
     Ok(())
 }
@@ -139,7 +126,7 @@ fn repeated_keys(rt: HostRuntime) -> Result<(), Fail> {
             (Form::Borrowed, *kept),
             (Form::Lazy, *lazy),
         ] {
-            check_in(form, &rt, rt.alloc(), script, line, record)?;
+            check(&rt, rt.alloc(), &[form], script, line, LIMIT, record)?;
         }
     }
     Ok(())
@@ -177,7 +164,7 @@ pub(super) const LIMITS: [(&str, &str, usize, &str); 4] = [
 #[test]
 fn depth_limits(rt: HostRuntime) -> Result<(), Fail> {
     for (script, line, depth, record) in &LIMITS {
-        check(&rt, rt.alloc(), script, line, *depth, record)?;
+        check(&rt, rt.alloc(), &FORMS, script, line, *depth, record)?;
     }
     Ok(())
 }
@@ -213,8 +200,8 @@ fn forty_equal_hashes(rt: HostRuntime) -> Result<(), Fail> {
     let left = forty(alloc, 1)?;
     let record = format!(in alloc; r#"{{"replies":[[39],[0],39],"document":{left}}}"#)?;
     let script = r#"[["get",["BBAaAaBBBBBB"]],["remove",[],"AaAaAaAaAaAa"],["len",[]]]"#;
-    check(&rt, alloc, script, &line, LIMIT, &record)?;
-    check_reloads(&rt, alloc, script, &line, LIMIT, &record)
+    check(&rt, alloc, &FORMS, script, &line, LIMIT, &record)?;
+    check_reloads(&rt, alloc, &FORMS, script, &line, LIMIT, &record)
 }
 
 // Looks at what the call left of the document {"a":{"k":"old"}}, and at what it appended.
