@@ -1,7 +1,8 @@
 //! Runs that use the same buffers, one after the other.
 ghost use Rattle.std.specs.Prelude.{◌≡◌};
 
-use super::{FORMS, Pieces, script_of};
+use super::readers::Pieces;
+use super::{FORMS, script_of};
 use sj_base::Counted;
 use sj_parse::Buffers;
 use sj_records::{Form, RunError, Script, run_with};

@@ -1,0 +1,198 @@
+//! Readers and writers that give and take their bytes in pieces, and that fail, and runs on them.
+ghost use Rattle.std.specs.Prelude.{◌≡◌};
+
+use super::{LIMIT, script_of};
+use sj_base::Counted;
+use sj_records::{Form, RunError, Script, run};
+use std::alloc::Global;
+use std::io;
+use std::io::{ErrorKind, Read, Write};
+use std::marker::Brand;
+use std::process::Abort;
+use std::sync::ledger::{Blank, Ledger};
+
+// Gives its bytes, at most `step` a read, then an error of the kind, and then its end. Where `is_cut`,
+// an interruption comes before each read.
+#[derive(Drop)]
+pub(super) struct Pieces<'a> {
+    bytes: &'a [u8],
+    step: usize,
+    failure: Option<ErrorKind>,
+    is_cut: bool,
+    was_cut: bool,
+}
+
+impl<'a> Pieces<'a> {
+    pub(super) fn new(bytes: &'a [u8], step: usize) -> Pieces<'a> {
+        Pieces {
+            bytes,
+            step,
+            failure: None,
+            is_cut: false,
+            was_cut: false,
+        }
+    }
+}
+
+impl Read for Pieces<'_> {
+    fn read(&mut self, buf: &mut [u8]) -> io::Result<usize> {
+        if self.is_cut && !self.was_cut {
+            self.was_cut = true;
+            return Err(io::Error::from(ErrorKind::Interrupted));
+        }
+        self.was_cut = false;
+        if self.bytes.is_empty() {
+            return match self.failure.take() {
+                Some(kind) => Err(io::Error::from(kind)),
+                None => Ok(0),
+            };
+        }
+        let taken = self.step.min(buf.len());
+        self.bytes.read(&mut buf[..taken])
+    }
+}
+
+// How a writer refuses what it has no room for.
+#[derive(Clone, Copy, Debug)]
+enum Refusal {
+    Fails,
+    Interrupts,
+    TakesNothing,
+}
+
+// Takes at most `step` bytes a write, and `room` in all.
+#[derive(Drop)]
+struct Narrow {
+    taken: Vec<u8>,
+    step: usize,
+    room: usize,
+    refusal: Refusal,
+}
+
+impl Write for Narrow {
+    fn write(&mut self, buf: &[u8]) -> io::Result<usize> {
+        let taken = buf.len().min(self.step).min(self.room);
+        if taken == 0 && !buf.is_empty() {
+            return match self.refusal {
+                Refusal::Fails => Err(io::Error::from(ErrorKind::Other)),
+                Refusal::Interrupts => Err(io::Error::from(ErrorKind::Interrupted)),
+                Refusal::TakesNothing => Ok(0),
+            };
+        }
+        self.taken.extend_from_slice(&buf[..taken])?;
+        self.room -= taken;
+        Ok(taken)
+    }
+
+    fn flush(&mut self) -> io::Result<()> {
+        Ok(())
+    }
+}
+
+// A run with counts, which the blanks open.
+pub(super) fn counted_run<I: Read + Drop, O: Write + Drop, L: Ledger, M: Ledger>(
+    alloc: Global,
+    input: I,
+    output: &mut O,
+    script: &Script,
+    depth: usize,
+    form: Form,
+    reads: Blank,
+    writes: Blank,
+) -> Result<(), RunError>
+    requires reads { (reads.name ≡ L.name) × (reads.parts ≡ L.parts) × (reads.parts ≡ 4) }
+    requires writes { (writes.name ≡ M.name) × (writes.parts ≡ M.parts) × (writes.parts ≡ 4) }
+{
+    let mut source = Counted::<I, L>::new(input, reads);
+    let mut sink = Counted::<&mut O, M>::new(output, writes);
+    let result = run(alloc, &mut source, &mut sink, script, depth, form);
+    let _ = source.into_inner();
+    let _ = sink.into_inner();
+    result
+}
+
+pub(super) fn run_on<I: Read + Drop, O: Write + Drop>(
+    alloc: Global,
+    input: I,
+    output: &mut O,
+    script: &Script,
+    depth: usize,
+    form: Form,
+) -> Result<(), RunError> {
+    counted_run::<I, O, Brand, Brand>(
+        alloc,
+        input,
+        output,
+        script,
+        depth,
+        form,
+        Blank::new(4),
+        Blank::new(4),
+    )
+}
+
+const BOTH: &str = r#"{"replies":[],"document":1}
+{"replies":[],"document":2}
+"#;
+
+// Runs the empty script on owned documents.
+fn run_empty<I: Read + Drop, O: Write + Drop>(
+    rt: &impl Abort,
+    alloc: Global,
+    input: I,
+    output: &mut O,
+) -> Result<(), RunError> {
+    let script = script_of(alloc, "[]").expect(rt, "a script");
+    run_on(alloc, input, output, &script, LIMIT, Form::Owned)
+}
+
+#[test]
+fn failing_reader(rt: HostRuntime) {
+    for step in [1, 65536] {
+        let mut input = Pieces::new(b"1\n2\n3", step);
+        input.failure = Some(ErrorKind::Other);
+        let mut output = Vec::new(rt.alloc());
+        let result = run_empty(&rt, rt.alloc(), input, &mut output);
+        assert_eq!(rt; result, Err(RunError::Read));
+        assert_eq!(rt; output.as_slice(), BOTH.as_bytes());
+    }
+}
+
+#[test]
+fn interrupted_reader(rt: HostRuntime) {
+    let mut input = Pieces::new(b"1\n2", 1);
+    input.is_cut = true;
+    let mut output = Vec::new(rt.alloc());
+    let result = run_empty(&rt, rt.alloc(), input, &mut output);
+    assert_eq!(rt; result, Ok(()));
+    assert_eq!(rt; output.as_slice(), BOTH.as_bytes());
+}
+
+// A run whose writer has room for the first bytes alone, which are written.
+fn run_narrow(rt: &impl Abort, alloc: Global, refusal: Refusal, room: usize) {
+    let mut output = Narrow {
+        taken: Vec::new(alloc),
+        step: 7,
+        room,
+        refusal,
+    };
+    let input: &[u8] = b"1\r\n2";
+    let result = run_empty(rt, alloc, input, &mut output);
+    let is_whole = room == BOTH.len();
+    assert_eq!(rt; result.is_ok(), is_whole, "{refusal:?} at {room}");
+    assert!(rt; is_whole || result == Err(RunError::Write));
+    assert_eq!(rt;
+        Some(output.taken.as_slice()),
+        BOTH.as_bytes().get(..room),
+        "{refusal:?} at {room}"
+    );
+}
+
+#[test]
+fn narrow_writer(rt: HostRuntime) {
+    for refusal in [Refusal::Fails, Refusal::Interrupts, Refusal::TakesNothing] {
+        for room in 0..=BOTH.len() {
+            run_narrow(&rt, rt.alloc(), refusal, room);
+        }
+    }
+}
