@@ -4,7 +4,6 @@ ghost use Rattle.read_bench.specs.Refused.{refused_by};
 
 use crate::arguments::Kind;
 use crate::build::Form;
-use crate::cuts::ComparePass;
 use crate::passes::{Pass, PrintPass, ReadPass, ScanPass};
 use crate::stats::Stats;
 use sj_scan::{BlockScan, PlainScan};
@@ -20,7 +19,7 @@ const MAX_PASSES: u64 = 1 << 32;
 pub(crate) struct Measured {
     /// The figures of the passes, in nanoseconds.
     pub(crate) figures: Stats,
-    /// The number of documents refused, or of cuts at which the two scans differ.
+    /// The number of documents refused.
     pub(crate) refused: usize,
 }
 
@@ -69,7 +68,6 @@ pub(crate) fn measure<R: Clock>(
             let mut pass = PrintPass::read(alloc, &mut documents)?;
             repeat(rt, alloc, &mut pass, duration)
         }
-        Kind::Compare => repeat(rt, alloc, &mut ComparePass::new(alloc, documents), duration),
     }
 }
 

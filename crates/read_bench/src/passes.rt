@@ -15,7 +15,7 @@ use std::alloc::{AllocError, Global};
 use std::io;
 use std::time::{Clock, Duration, Instant};
 
-/// The time of a pass, and the number of documents that it refused, or of cuts at which the two scans differ.
+/// The time of a pass, and the number of documents that it refused.
 #[derive(Clone, Copy)]
 pub(crate) struct Timed {
     pub(crate) duration: Duration,
