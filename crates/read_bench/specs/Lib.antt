@@ -1,5 +1,5 @@
-pub mod Kind
 pub mod Printed
 pub mod Refused
 pub mod Stats
+pub mod Task
 pub mod inside

@@ -6,7 +6,7 @@ use Rattle.sj_base.specs.declared.TheConstants.{DEFAULT_MAX_DEPTH}
 use Rattle.sj_scan.specs.Scan.{scan_fault}
 use Rattle.sj_parse.specs.Fault.{fault}
 use Rattle.read_bench.specs.declared.arguments.Kind.{Kind}
-use Rattle.read_bench.specs.declared.arguments.Kind.TheVariants.{Tape, Plain, Owned, Borrowed, Scan, Print, Compare}
+use Rattle.read_bench.specs.declared.arguments.Kind.TheVariants.{Tape, Plain, Owned, Borrowed, Scan, Print}
 
 -- Reading the document finds a fault.
 unfoldable pub is_refused : List ℕ → Bool
@@ -22,7 +22,7 @@ tapes_refused documents = count_by (λ document. is_refused document.items) docu
 abbrev pub scans_refused : List (Vec ℕ Global) → ℕ
 scans_refused documents = count_by (λ document. is_refused_by_scan document.items) documents
 
--- the number of documents that a pass of this kind refuses; the two scans differ at no cut
+-- the number of documents that a pass of this kind refuses
 abbrev pub refused_by : Kind → List (Vec ℕ Global) → ℕ
 refused_by Tape documents = tapes_refused documents
 refused_by Plain documents = tapes_refused documents
@@ -30,4 +30,3 @@ refused_by Owned documents = tapes_refused documents
 refused_by Borrowed documents = tapes_refused documents
 refused_by Scan documents = scans_refused documents
 refused_by Print documents = tapes_refused documents
-refused_by Compare documents = 0

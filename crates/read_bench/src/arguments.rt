@@ -8,10 +8,19 @@ use std::time::Duration;
 const ABOUT: &str =
     "Times the reading or the printing of JSON, and prints the median and the least time of a pass in nanoseconds, and the number of documents refused";
 
-/// The words of the kinds.
-const KINDS: [&str; 7] = [
+/// The words of the tasks.
+const TASKS: [&str; 7] = [
     "tape", "plain", "owned", "borrowed", "scan", "print", "compare",
 ];
+
+/// What a word asks for.
+#[derive(Clone, Copy)]
+pub(crate) enum Task {
+    /// Passes of this kind are timed.
+    Time(Kind),
+    /// Each document is cut at many places, and the two scans of what stands before each cut are compared.
+    Compare,
+}
 
 /// What a pass does with each document.
 #[derive(Clone, Copy)]
@@ -28,31 +37,29 @@ pub(crate) enum Kind {
     Scan,
     /// Prints its tape, which was read before.
     Print,
-    /// Cuts it at many places, and compares the two scans of what stands before each cut.
-    Compare,
 }
 
-/// A word that names no kind.
+/// A word that names no task.
 #[derive(Clone, Copy)]
-pub(crate) struct UnknownKind;
+pub(crate) struct UnknownTask;
 
-impl FromStr for Kind {
-    type Err = UnknownKind;
+impl FromStr for Task {
+    type Err = UnknownTask;
 
-    ghost use Rattle.read_bench.specs.Kind.{Names};
+    ghost use Rattle.read_bench.specs.Task.{Names};
 
     ghost from_str_gives = { Names };
 
-    fn from_str(word: &str) -> Result<Kind, UnknownKind> {
+    fn from_str(word: &str) -> Result<Task, UnknownTask> {
         match word {
-            "tape" => Ok(Kind::Tape),
-            "plain" => Ok(Kind::Plain),
-            "owned" => Ok(Kind::Owned),
-            "borrowed" => Ok(Kind::Borrowed),
-            "scan" => Ok(Kind::Scan),
-            "print" => Ok(Kind::Print),
-            "compare" => Ok(Kind::Compare),
-            _ => Err(UnknownKind),
+            "tape" => Ok(Task::Time(Kind::Tape)),
+            "plain" => Ok(Task::Time(Kind::Plain)),
+            "owned" => Ok(Task::Time(Kind::Owned)),
+            "borrowed" => Ok(Task::Time(Kind::Borrowed)),
+            "scan" => Ok(Task::Time(Kind::Scan)),
+            "print" => Ok(Task::Time(Kind::Print)),
+            "compare" => Ok(Task::Compare),
+            _ => Err(UnknownTask),
         }
     }
 }
@@ -60,7 +67,7 @@ impl FromStr for Kind {
 /// What the arguments ask for.
 #[derive(Drop)]
 pub(crate) struct Arguments<'a> {
-    pub(crate) kind: Kind,
+    pub(crate) task: Task,
     /// The name of the file.
     pub(crate) file: &'a str,
     /// For how long passes begin.
@@ -77,16 +84,16 @@ pub(crate) fn parse_arguments<'a>(
     words: &'a [String],
 ) -> Result<Arguments<'a>, Error> {
     let matches = command(alloc)?.try_get_matches_from(words)?;
-    let kind = matches.get_one::<Kind>("KIND");
+    let task = matches.get_one::<Task>("KIND");
     let milliseconds = matches.get_one::<u64>("MILLISECONDS");
-    if let (Some(kind), Some(file), Some(milliseconds)) = (
-        kind,
+    if let (Some(task), Some(file), Some(milliseconds)) = (
+        task,
         matches.get_str("FILE"),
         milliseconds,
     ) {
         let duration = Duration::from_millis(milliseconds);
         return Ok(Arguments {
-            kind,
+            task,
             file,
             duration,
         });
@@ -100,7 +107,7 @@ fn command<'a>(alloc: Global) -> Result<Command<'a>, AllocError> {
     let kind = Arg::new(alloc, "KIND")
         .required(true)
         .action(ArgAction::Set)
-        .value_parser(KINDS.as_slice())
+        .value_parser(TASKS.as_slice())
         .help(
             "What a pass does with each document. compare prints one number, that of the cuts at which the two scans differ",
         );

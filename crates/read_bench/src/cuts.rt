@@ -5,11 +5,8 @@ ghost use Rattle.std.specs.Prelude.{◌≡◌, ℕ, List, false, IfOk};
 ghost use Rattle.sj_scan.specs.Scan.{Scans, scan_fault};
 ghost use Rattle.read_bench.specs.inside.Cuts.{positions_left};
 
-use crate::passes::{Pass, Timed};
 use sj_scan::{BlockScan, PlainScan, ScanFault, Stage1};
 use std::alloc::{AllocError, Global};
-use std::io;
-use std::time::{Clock, Instant};
 
 /// Up to here a document is cut at each byte.
 const EACH: usize = 300;
@@ -17,43 +14,22 @@ const EACH: usize = 300;
 /// About how many cuts there are behind these.
 const CUTS: usize = 200;
 
-/// Cuts each document at each of its first 300 bytes and at about 200 further places, and compares the two scans of what
-/// stands before each cut.
-#[derive(Drop)]
-pub(crate) struct ComparePass {
-    documents: Vec<Vec<u8>>,
-    plain: Vec<u32>,
-    block: Vec<u32>,
-}
-
-impl ComparePass {
-    pub(crate) fn new(alloc: Global, documents: Vec<Vec<u8>>) -> ComparePass
-        ensures { result.documents ≡ documents }
-    {
-        ComparePass {
-            documents,
-            plain: Vec::new(alloc),
-            block: Vec::new(alloc),
-        }
+/// Cuts each document at each of its first 300 bytes and at about 200 further places, and returns at how many cuts the two
+/// scans of what stands before differ.
+pub(crate) fn count_differences(alloc: Global, documents: &[Vec<u8>]) -> Result<usize, AllocError>
+    ensures { IfOk result (λ n. n ≡ 0) }
+{
+    let mut plain = Vec::new(alloc);
+    let mut block = Vec::new(alloc);
+    let mut count = 0;
+    for document in documents {
+        count += count_in(document, &mut plain, &mut block)?;
     }
-}
-
-impl Pass for ComparePass {
-    ghost refusals = { λ _. 0 };
-
-    fn time<R: Clock>(&mut self, rt: &R) -> io::Result<Timed> {
-        let start = Instant::now(rt)?;
-        let mut refused = 0;
-        for document in &self.documents {
-            refused += count_differences(document, &mut self.plain, &mut self.block)?;
-        }
-        let duration = start.elapsed(rt)?;
-        Ok(Timed { duration, refused })
-    }
+    Ok(count)
 }
 
 /// Returns at how many cuts of the document the two scans differ. It takes the vectors for their positions.
-fn count_differences(
+fn count_in(
     document: &[u8],
     plain: &mut Vec<u32>,
     block: &mut Vec<u32>,

@@ -12,7 +12,8 @@ mod measure;
 mod passes;
 mod stats;
 
-use crate::arguments::{Arguments, Kind, parse_arguments};
+use crate::arguments::{Arguments, Task, parse_arguments};
+use crate::cuts::count_differences;
 use crate::documents::split;
 use crate::measure::{Measured, measure};
 use anyhow::{Context, Result};
@@ -33,24 +34,25 @@ fn main(rt: HostRuntime) -> Result<ExitCode> {
     }
 }
 
-/// Times what the arguments ask for, and prints the median and the least time of a pass, in nanoseconds, and the number
-/// of documents that are refused. Where they ask for a comparison, it prints the number of cuts at which the two scans
-/// differ, and no time.
+/// Times the passes that the arguments ask for, and prints the median and the least time of one, in nanoseconds, and the
+/// number of documents that are refused. Where they ask for a comparison, it prints the number of cuts at which the two
+/// scans differ.
 fn bench(rt: &HostRuntime, arguments: &Arguments<'_>) -> Result<()> {
     let alloc = rt.alloc();
     let bytes = fs::read(rt, arguments.file).context(format_args!("reading {}", arguments.file))?;
     let documents = split(alloc, bytes, arguments.file)?;
-    let Measured { figures, refused } = measure(
-        rt,
-        alloc,
-        arguments.kind,
-        documents,
-        arguments.duration,
-    )?;
-    if matches!(arguments.kind, Kind::Compare) {
-        println!(rt; "{refused}")?;
-    } else {
-        println!(rt; "{} {} {refused}", figures.median, figures.least)?;
+    match arguments.task {
+        Task::Time(kind) => {
+            let Measured { figures, refused } = measure(
+                rt,
+                alloc,
+                kind,
+                documents,
+                arguments.duration,
+            )?;
+            println!(rt; "{} {} {refused}", figures.median, figures.least)?;
+        }
+        Task::Compare => println!(rt; "{}", count_differences(alloc, &documents)?)?,
     }
     Ok(())
 }

@@ -3,9 +3,8 @@ ghost use Rattle.std.specs.Prelude.{◌≡◌, IfOk};
 ghost use Rattle.read_bench.specs.Refused.{refused_by};
 
 use crate::arguments::Kind;
-use crate::build::{DocumentPass, Form};
-use crate::cuts::ComparePass;
-use crate::passes::{Pass, PrintPass, ScanPass, TapePass};
+use crate::build::Form;
+use crate::passes::{Pass, PrintPass, ReadPass, ScanPass};
 use crate::stats::Stats;
 use sj_scan::{BlockScan, PlainScan};
 use std::alloc::Global;
@@ -20,7 +19,7 @@ const MAX_PASSES: u64 = 1 << 32;
 pub(crate) struct Measured {
     /// The figures of the passes, in nanoseconds.
     pub(crate) figures: Stats,
-    /// The number of documents refused, or of cuts at which the two scans differ.
+    /// The number of documents refused.
     pub(crate) refused: usize,
 }
 
@@ -42,25 +41,25 @@ pub(crate) fn measure<R: Clock>(
         Kind::Tape => repeat(
             rt,
             alloc,
-            &mut TapePass::new(alloc, documents, BlockScan)?,
+            &mut ReadPass::new(alloc, documents, BlockScan, None)?,
             duration,
         ),
         Kind::Plain => repeat(
             rt,
             alloc,
-            &mut TapePass::new(alloc, documents, PlainScan)?,
+            &mut ReadPass::new(alloc, documents, PlainScan, None)?,
             duration,
         ),
         Kind::Owned => repeat(
             rt,
             alloc,
-            &mut DocumentPass::new(alloc, documents, Form::Owned)?,
+            &mut ReadPass::new(alloc, documents, BlockScan, Some(Form::Owned))?,
             duration,
         ),
         Kind::Borrowed => repeat(
             rt,
             alloc,
-            &mut DocumentPass::new(alloc, documents, Form::Borrowed)?,
+            &mut ReadPass::new(alloc, documents, BlockScan, Some(Form::Borrowed))?,
             duration,
         ),
         Kind::Scan => repeat(rt, alloc, &mut ScanPass::new(alloc, documents), duration),
@@ -69,7 +68,6 @@ pub(crate) fn measure<R: Clock>(
             let mut pass = PrintPass::read(alloc, &mut documents)?;
             repeat(rt, alloc, &mut pass, duration)
         }
-        Kind::Compare => repeat(rt, alloc, &mut ComparePass::new(alloc, documents), duration),
     }
 }
 

@@ -6,6 +6,7 @@ ghost use Rattle.sj_parse.specs.Answers.{buffer_limit};
 ghost use Rattle.read_bench.specs.Printed.{text_of};
 ghost use Rattle.read_bench.specs.Refused.{is_refused, is_refused_by_scan, tapes_refused, scans_refused};
 
+use crate::build::{Form, build_in};
 use sj_base::ErrorType;
 use sj_parse::{Buffers, fill_tape_by};
 use sj_scan::{BlockScan, ScanFault, Stage1};
@@ -14,7 +15,7 @@ use std::alloc::{AllocError, Global};
 use std::io;
 use std::time::{Clock, Duration, Instant};
 
-/// The time of a pass, and the number of documents that it refused, or of cuts at which the two scans differ.
+/// The time of a pass, and the number of documents that it refused.
 #[derive(Clone, Copy)]
 pub(crate) struct Timed {
     pub(crate) duration: Duration,
@@ -35,36 +36,40 @@ pub(crate) trait Pass {
         ensures again { refusals self.new ≡ refusals self.old };
 }
 
-/// Reads each document into one tape, with its positions from the scanner. The room for positions is kept from pass to
-/// pass, and that of the tape from document to document.
+/// Reads each document into one tape, with its positions from the scanner, and where there is a form builds a document of
+/// the tape and drops that. The room for positions is kept from pass to pass, and that of the tape from document to document.
 #[derive(Drop)]
-pub(crate) struct TapePass<S: Stage1 + Drop> {
+pub(crate) struct ReadPass<S: Stage1 + Drop> {
     alloc: Global,
     documents: Vec<Vec<u8>>,
     scanner: S,
+    form: Option<Form>,
     buffers: Buffers,
     ghost limit: { buffer_limit buffers ≡ DEFAULT_MAX_DEPTH },
 }
 
-impl<S: Stage1 + Drop> TapePass<S> {
+impl<S: Stage1 + Drop> ReadPass<S> {
     pub(crate) fn new(
         alloc: Global,
         documents: Vec<Vec<u8>>,
         scanner: S,
-    ) -> Result<TapePass<S>, AllocError>
-        ensures { IfOk result (λ pass. pass.documents ≡ documents) }
+        form: Option<Form>,
+    ) -> Result<ReadPass<S>, AllocError>
+        ensures documents { IfOk result (λ pass. pass.documents ≡ documents) }
+        ensures form { IfOk result (λ pass. pass.form ≡ form) }
     {
         let buffers = Buffers::new(alloc, 0)?;
-        Ok(TapePass {
+        Ok(ReadPass {
             alloc,
             documents,
             scanner,
+            form,
             buffers,
         })
     }
 }
 
-impl<S: Stage1 + Drop> Pass for TapePass<S> {
+impl<S: Stage1 + Drop> Pass for ReadPass<S> {
     ghost refusals = { λ pass. tapes_refused pass.documents.items };
 
     fn time<R: Clock>(&mut self, rt: &R) -> io::Result<Timed> {
@@ -74,6 +79,7 @@ impl<S: Stage1 + Drop> Pass for TapePass<S> {
         let refused = read_all(
             self.alloc,
             &mut self.scanner,
+            self.form,
             &mut copies,
             &mut self.buffers,
         )?;
@@ -165,10 +171,11 @@ impl Pass for PrintPass<'_> {
     }
 }
 
-/// Reads each document, and returns how many are refused.
+/// Reads each document, builds it where there is a form, and returns how many are refused.
 fn read_all<S: Stage1>(
     alloc: Global,
     scanner: &mut S,
+    form: Option<Form>,
     documents: &mut [Vec<u8>],
     buffers: &mut Buffers,
 ) -> Result<usize, AllocError>
@@ -183,13 +190,16 @@ fn read_all<S: Stage1>(
         if is_refused(scanner, document, buffers, &mut tape)? {
             refused += 1;
         }
+        if let Some(form) = form {
+            build_in(alloc, form, &tape)?;
+        }
         rest = others;
     }
     Ok(refused)
 }
 
 /// Reads a document into the tape, and returns `true` if it is refused. The tape is empty then.
-pub(crate) fn is_refused<'de, S: Stage1>(
+fn is_refused<'de, S: Stage1>(
     scanner: &mut S,
     document: &'de mut [u8],
     buffers: &mut Buffers,

@@ -1,8 +1,5 @@
-use Rattle.std.proofs.Common.{◌≡◌, ◌+◌, ◌-◌}
+use Rattle.std.proofs.Common.{◌≡◌}
 use Rattle.read_bench.proofs.cuts.count_differences.Given as goal
 
-abbrev pub invariant-loop-end : goal.invariant-loop-end
-invariant-loop-end l = l.count ≡ 0
-
-abbrev pub decreases-loop-end : goal.decreases-loop-end
-decreases-loop-end l = l.len + 1 - l.end
+abbrev pub invariant-loop-document : goal.invariant-loop-document
+invariant-loop-document l = l.count ≡ 0

@@ -1,6 +1,6 @@
 use Rattle.std.proofs.Common.{rules}
 use Rattle.read_bench.proofs.Refusals.{tapes_refused-copies}
-use Rattle.read_bench.proofs.passes.TapePassPass.time.Goals as goal
+use Rattle.read_bench.proofs.passes.ReadPassPass.time.Goals as goal
 
 pub returns-clause-refused : goal.returns-clause-refused
 returns-clause-refused g c =
