@@ -1,5 +1,5 @@
 -- Commands on a document whose writes can be taken back.
-use Rattle.std.proofs.Common.{◌≡◌, ℕ, Bool, true, false, List, [], ◌∷◌, ◌++◌, Option, Some, None, Result, Ok, Err, length, take, refl, sym, ap, ap₂, subst, ◌∙◌, inl, inr}
+use Rattle.std.proofs.Common.{◌≡◌, ℕ, Bool, true, false, List, [], ◌∷◌, ◌++◌, Option, Some, None, Result, Ok, Err, refl, sym, ap, subst, ◌∙◌, inl, inr}
 use Rattle.std.specs.Prelude.{map, reverse, is_some, option_map, option_and_then, IsErr}
 use Rattle.std.specs.Option.{unwrap_or}
 use Rattle.std.specs.List.{AllByRecursion}
@@ -13,7 +13,7 @@ use Rattle.sj_base.specs.Tree.{Tree, boolean}
 use Rattle.sj_base.proofs.Keeping.{keeps_once}
 use Rattle.sj_scripts.specs.Command.{get, contains, type_of, len, keys, insert, remove, push, pop, set_at, undo, reload, reload_pp}
 use Rattle.sj_documents.specs.Inverse.{Change, drop_item, place_in, place_at, back, insertion_back, removal_back, popping_back, setting_back}
-use Rattle.sj_documents.specs.Inverses.{change_view, HandsOut, Settles, TakesBack}
+use Rattle.sj_documents.specs.Inverses.{change_view, HandsOut, TakesBack}
 use Rattle.sj_scripts.specs.Script.{path_view, command_view}
 use Rattle.sj_documents.specs.Step.{Job, Keeping, begun, from_start, from_write, State, Word, Rewrite, start, base, fits, fits_below, reply_of, contains_reply, type_reply, len_reply, keys_reply, reload_reply, write_at, settled, undone}
 use Rattle.std.specs.declared.alloc.AllocError.{AllocError}
@@ -27,7 +27,6 @@ use Rattle.sj_scripts.proofs.KeptTrees.{kept-found}
 use Rattle.sj_documents.proofs.MadeChanges.{same_found}
 use Rattle.sj_records.specs.History.{added, WriteLeaves, UndoLeaves, inverse_view, bases_from, bases, StandFor}
 use Rattle.sj_records.specs.Laws.{Undoes, WritesKept, HistoriesStand}
-use Rattle.sj_records.specs.inside.Adds.{Adds}
 use Rattle.sj_records.proofs.Inverses.{insert_undone, remove_undone, push_undone, pop_undone, set_undone}
 
 -- ---- what a write leaves
@@ -234,23 +233,6 @@ writes_kept (Pop path) = tt
 writes_kept Undo = tt
 writes_kept Reload = tt
 writes_kept ReloadPp = tt
-
--- ---- a write, and the inverse that is added
-
-reply_gone : (old bytes mid : List ℕ) (start : ℕ) → mid ≡ old ++ bytes → start ≡ length old → take start mid ≡ old
-reply_gone old bytes mid start is from = ap₂ take from is ∙ front old bytes
-  where
-    front : (xs ys : List ℕ) → take (length xs) (xs ++ ys) ≡ xs
-    front [] ys = refl
-    front (x ∷ xs) ys = ap (λ zs. x ∷ zs) (front xs ys)
-
-module _ {E : Type 0} (keeping : Keeping) (t u : Tree) (history next : List Inverse) (old mid new : List ℕ) (path : List Part) (change : Rewrite) (inversion : Option Tree → Change) where
-  pub write_leaves : (r : Result Unit E) (written : Result (Option Inverse) E) (start : ℕ) → Settles written old mid keeping t u path change inversion → Adds r written history next start mid new → start ≡ length old
-      → WriteLeaves r keeping t u history next old new path change inversion
-  write_leaves (Ok done) (Ok inverse) start settles adds from = (inverse, (adds.1 ∙ settles.0, settles.1, settles.2), adds.0)
-  write_leaves (Ok done) (Err f) start settles adds from = absurd adds
-  write_leaves (Err e) (Ok inverse) start settles adds from = (adds ∙ reply_gone old _ mid start settles.0 from, inr (inr settles.1))
-  write_leaves (Err e) (Err f) start settles adds from = (adds ∙ settles.0, settles.1)
 
 -- ---- `undo`
 

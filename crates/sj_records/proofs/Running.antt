@@ -1,5 +1,5 @@
 -- A run so far: what was read was cut into lines, each ended one was answered, and the rest is kept.
-use Rattle.std.proofs.Common.{◌≡◌, ℕ, ◌<◌, List, [], ◌∷◌, ◌++◌, length, Option, Result, Ok, Err, refl, sym, ap, subst, ◌∙◌, append_assoc, arith}
+use Rattle.std.proofs.Common.{◌≡◌, ℕ, List, [], ◌++◌, length, Option, Result, Ok, Err, sym, ap, subst, ◌∙◌, append_assoc, arith}
 use Rattle.std.proofs.lemmas.List.{append-nil, take_all}
 use Rattle.std.specs.Io.KnownBytes.{Consumes, Keeps}
 use Rattle.std.proofs.KnownBytes.{Consumes-nil, Consumes-trans, Consumes-kept}
@@ -13,11 +13,6 @@ use Rattle.sj_records.specs.inside.Progress.{HasNoLineFeed, Wrote, WroteSome, Wr
 use Rattle.sj_records.proofs.Cut.{ended-append, unended-append, unended-HasNoLineFeed}
 use Rattle.sj_records.proofs.Written.{Wrote-nothing, Wrote-then, WroteSome-then, WroteSome-none, WrotePrefix-then, AreRecords-append}
 use Rattle.sj_records.proofs.Total.{AreRecords-exist}
-
--- a part that is not empty is a line
-pub if_any-some : (line : List ℕ) → 0 < length line → if_any line ≡ line ∷ []
-if_any-some [] some = absurd (omega arith)
-if_any-some (b ∷ line) some = refl
 
 pub record Running (job : Job) (unread_old unread held_old held : Option (List ℕ)) (line : List ℕ) : Type 0 where
   pub input : List ℕ

@@ -35,35 +35,21 @@ pub fn apply<T: Document>(
         out.old.items out.new.items (command_view command.now) }
 {
     let start = out.len();
-    match command {
-        Command::Get(path) => document.get(path, out),
-        Command::Contains(path, key) => document.contains(path, key, out),
-        Command::TypeOf(path) => document.type_of(path, out),
-        Command::Len(path) => document.len(path, out),
-        Command::Keys(path) => document.keys(path, out),
-        Command::Insert(path, key, value) => {
-            let written = document.insert(path, key, value, depth, out);
-            add(history, written, start, out)
-        }
-        Command::Remove(path, key) => {
-            let written = document.remove(path, key, out);
-            add(history, written, start, out)
-        }
-        Command::Push(path, value) => {
-            let written = document.push(path, value, depth, out);
-            add(history, written, start, out)
-        }
-        Command::Pop(path) => {
-            let written = document.pop(path, out);
-            add(history, written, start, out)
-        }
-        Command::SetAt(path, value) => {
-            let written = document.set_at(path, value, depth, out);
-            add(history, written, start, out)
-        }
-        Command::Undo => undo(document, history, out),
+    let written = match command {
+        Command::Get(path) => return document.get(path, out),
+        Command::Contains(path, key) => return document.contains(path, key, out),
+        Command::TypeOf(path) => return document.type_of(path, out),
+        Command::Len(path) => return document.len(path, out),
+        Command::Keys(path) => return document.keys(path, out),
+        Command::Insert(path, key, value) => document.insert(path, key, value, depth, out),
+        Command::Remove(path, key) => document.remove(path, key, out),
+        Command::Push(path, value) => document.push(path, value, depth, out),
+        Command::Pop(path) => document.pop(path, out),
+        Command::SetAt(path, value) => document.set_at(path, value, depth, out),
+        Command::Undo => return undo(document, history, out),
         Command::Reload | Command::ReloadPp => unreachable!(),
-    }
+    };
+    add(history, written, start, out)
 }
 
 /// Adds what a write handed out. Takes the reply, which begins at `start`, off again if there is no memory for it.
