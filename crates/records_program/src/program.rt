@@ -1,5 +1,5 @@
 //! The program, over the words, the file, the input and the outputs that it is given.
-ghost use Rattle.std.specs.Prelude.{◌≡◌, ℕ, List, Ok, Err, Result, IfOk, IfErr, OnOk, OnErr, map};
+ghost use Rattle.std.specs.Prelude.{◌≡◌, Ok, Err, Result, IfOk, IfErr, OnOk, OnErr, map};
 ghost use Rattle.std.specs.Fn.{FnOnceReturnsAt};
 ghost use Rattle.std.specs.Io.KnownBytes.{Appends, Keeps};
 ghost use Rattle.sj_base.specs.Output.{AppendsPrefix};

@@ -1,15 +1,13 @@
 -- The part of a document, and the document after an edit of it.
-use Rattle.std.proofs.Common.{◌≡◌, ℕ, suc, List, [], ◌∷◌, length, Option, Some, None, Result, Ok, Vec, refl, sym, ap, ◌∙◌, rules, option_map}
-use Rattle.std.specs.Prelude.{option_and_then, ok_or, true, codes, pos}
-use Rattle.std.specs.declared.alloc.Global.{Global}
-use Rattle.sj_base.specs.Tree.{Tree, integer, list, object}
-use Rattle.sj_base.specs.Path.{Part, member_at}
+use Rattle.std.proofs.Common.{◌≡◌, ℕ, suc, List, [], ◌∷◌, length, Option, Some, None, Result, Ok, refl, sym, ap, ◌∙◌, rules, option_map}
+use Rattle.std.specs.Prelude.{option_and_then, ok_or, true, codes}
+use Rattle.sj_base.specs.Tree.{Tree, list, object}
+use Rattle.sj_base.specs.Path.{member_at}
 use Rattle.sj_base.specs.Containers.{items_len, members_len, items_in, members_in}
 use Rattle.sj_base.specs.Edit.{put_member, drop_member, last_item, pop_item}
 use Rattle.sj_object.specs.declared.entry.Entry.{Entry}
 use Rattle.sj_owned.specs.Views.{value_tree, items_view, members_view, items_inside, members_inside}
-use Rattle.sj_owned.specs.declared.value.Value.{Value, Static, Decimal, String, Array, Array', Object, Object', the_lemmas}
-use Rattle.sj_owned.proofs.Layers.{tree-Array, tree-Object}
+use Rattle.sj_owned.specs.declared.value.Value.{Value, Static, Decimal, String, Array', Object', the_lemmas}
 use Rattle.sj_scripts.specs.Command.{◌>>=◌}
 use native.Mathlib.Numerals.{unary_clauses}
 use Rattle.std.proofs.lemmas.Option.{none-some, same_Some}
@@ -18,7 +16,7 @@ use Rattle.sj_object.specs.Pairs.{value_at}
 use Rattle.sj_owned.specs.Edits.{with_member, without_member, without_last, last_of}
 use Rattle.sj_owned.specs.Parts.{member_of}
 use Rattle.sj_owned.proofs.Members.{value_member}
-use Rattle.sj_documents.specs.Step.{answer, count, len_reply, if_fits, part_at, reply_of, insertion, removal, popping}
+use Rattle.sj_documents.specs.Step.{if_fits, reply_of, insertion, removal, popping}
 
 same_Ok : {A E : Type 0} (x y : A) (r s : Result A E) → r ≡ Ok x → s ≡ Ok y → r ≡ s → x ≡ y
 same_Ok x y r s f g e = cc
@@ -46,20 +44,6 @@ module _ {K D : Type 0} (text : K → List ℕ) (literal : D → List ℕ) where
   pub count_members : (es : List (Entry K (Value K D))) → members_len (members_view text literal es) ≡ length es
   count_members [] = refl
   count_members (e ∷ es) = ap suc (count_members es)
-
-  -- ---- what the length of a container replies
-
-  pub len_of_array : (t : Tree) (path : List Part) (v : Value K D) (vs : Vec (Value K D) Global) (n : ℕ) → part_at t path ≡ Ok (value_tree text literal v) → v ≡ Array vs → n ≡ length vs.items
-      → integer (pos n) ≡ len_reply t path
-  len_of_array t path v vs n found is counts =
-      ap (λ m. integer (pos m)) (counts ∙ sym (count_items vs.items))
-      ∙ sym (ap (λ r. answer (r >>= count)) (found ∙ ap Ok (ap (value_tree text literal) is ∙ tree-Array text literal vs)))
-
-  pub len_of_object : (t : Tree) (path : List Part) (v : Value K D) (es : List (Entry K (Value K D))) (n : ℕ) → part_at t path ≡ Ok (value_tree text literal v) → v ≡ Object es → n ≡ length es
-      → integer (pos n) ≡ len_reply t path
-  len_of_object t path v es n found is counts =
-      ap (λ m. integer (pos m)) (counts ∙ sym (count_members es))
-      ∙ sym (ap (λ r. answer (r >>= count)) (found ∙ ap Ok (ap (value_tree text literal) is ∙ tree-Object text literal es)))
 
   -- ---- edits of a part
 

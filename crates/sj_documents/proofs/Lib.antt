@@ -1,6 +1,5 @@
 pub mod Edits
 pub mod Parts
-pub mod Settled
 pub mod TapeKeys
 pub mod Changes
 pub mod KeptChanges

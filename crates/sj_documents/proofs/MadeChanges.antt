@@ -12,12 +12,12 @@ use Rattle.sj_base.specs.Keep.{keep_members, IsKept}
 use Rattle.sj_base.proofs.Keys.{key_flip, found_nowhere}
 use Rattle.sj_base.proofs.Kept.{kept_member, kept_with, kept_part, kept_put, kept_with_member, kept_pushed, kept_dropped, kept_popped, object_parts}
 use Rattle.sj_scripts.specs.Command.{◌>>=◌}
-use Rattle.sj_documents.specs.Step.{Word, reply_of, insertion, removal, popping, write_at}
+use Rattle.sj_documents.specs.Step.{Word, reply_of, removal, popping, write_at}
 use Rattle.sj_documents.specs.Inverse.{Change, nothing, drop_member, set_member, put_member, drop_item, add_item, set_part, put_member_at, changed, back}
 use Rattle.sj_documents.specs.inside.Documents.{undoing}
 use Rattle.sj_documents.specs.inside.KeptChanges.{IsKeptChange}
 use Rattle.sj_scripts.proofs.KeptTrees.{none_found}
-use Rattle.sj_documents.proofs.Changes.{inserted, removed, popped, same_ok, an_object, a_list}
+use Rattle.sj_documents.proofs.Changes.{removed, popped, same_ok, an_object, a_list}
 
 -- a reply shows what was found
 abbrev shown_value : Tree → Tree → Tree
@@ -85,13 +85,6 @@ member_lacking k t u e =
     let same : t ≡ u = r.1 ∙ ap object (sym (none_dropped r.0 k none)) ∙ rest in
     subst (λ (x : Tree). Makes false (drop_member k) t x) same (not_made (drop_member k) t (in_object _ t r.0 r.1 ∙ if_none (member_at r.0 k) _ _ none))
 
-pub member_replaced : (k : List ℕ) (v t u found : Tree) → insertion true k v t ≡ Ok (reply_of (Some found), u) → Makes true (set_member k v) t u
-member_replaced k v t u found e =
-    let r = inserted true k v t (reply_of (Some found), u) e in
-    let there : member_at r.0 k ≡ Some found = same_found _ _ (ap (λ (p : Tree × Tree). p.0) r.3) in
-    let rest : object (edits.put_member r.0 k v) ≡ u = ap (λ (p : Tree × Tree). p.1) r.3 in
-    made (set_member k v) t u (in_object _ t r.0 r.1 ∙ if_found (member_at r.0 k) _ _ found there ∙ ap Some rest)
-
 pub item_dropped : (t u found : Tree) → popping t ≡ Ok (reply_of (Some found), u) → Makes true drop_item t u
 item_dropped t u found e =
     let r = popped t (reply_of (Some found), u) e in
@@ -149,11 +142,6 @@ pub takes_back : (t u reply : Tree) (path : List Part) (change : Change) → wri
 takes_back t u reply path change written =
     let is = taken_back t path change (reply, u) written in
     (ap is_some (sym is), ap (λ o. unwrap_or o t) (sym is))
-
-pub takes_nothing : (t u : Tree) (path : List Part) (change : Change) (why : Word) → write_at t path (undoing change) ≡ Err why → u ≡ t → (false ≡ is_some (back path change t)) × (u ≡ unwrap_or (back path change t) t)
-takes_nothing t u path change why written same =
-    let is = not_taken t path change why written in
-    (ap is_some (sym is), same ∙ ap (λ o. unwrap_or o t) (sym is))
 
 -- ---- a change of a kept tree, whose value is kept
 

@@ -1,9 +1,8 @@
 -- What a write of a document leaves, by what its edit leaves.
-use Rattle.std.proofs.Common.{◌≡◌, ℕ, List, [], ◌++◌, Option, Some, None, Result, Ok, Err, refl, sym, ap, ◌∙◌, inl, inr}
-use Rattle.std.specs.Prelude.{IsErr}
+use Rattle.std.proofs.Common.{◌≡◌, ℕ, List, [], ◌++◌, Option, Some, None, Result, Ok, refl, sym, ap, ◌∙◌}
 use Rattle.sj_base.specs.Path.{Part}
 use Rattle.sj_base.specs.Text.{text}
-use Rattle.sj_base.specs.Tree.{Tree, string}
+use Rattle.sj_base.specs.Tree.{Tree}
 use Rattle.sj_documents.specs.Inverse.{found_of}
 use Rattle.sj_documents.specs.Inverses.{change_view, Settles}
 use Rattle.sj_scripts.specs.Script.{path_view}
@@ -33,10 +32,6 @@ shown_again (Set v fits) (Some x) t path u e = refl
 after_write : (t u : Tree) (r : Result (Tree × Tree) Word) (reply : Tree) → r ≡ Ok (reply, u) → u ≡ (settled t [] r).1.tree
 after_write t u r reply written = sym (ap (λ w. (settled t [] w).1.tree) written)
 
-is_refused : (r : Result (Tree × Tree) Word) (word : Word) → r ≡ Err word → IsErr r
-is_refused (Ok w) word e = absurd cc
-is_refused (Err other) word e = refl
-
 module _ (old new : List ℕ) (t u : Tree) (path : List Part) (write : Write) where
   module _ (o : Option Tree) (written : write_at t path (rewrite_of write) ≡ Ok (reply_of o, u)) where
     -- the reply was appended
@@ -47,19 +42,3 @@ module _ (old new : List ℕ) (t u : Tree) (path : List Part) (write : Write) wh
       after_write t u (write_at t path (rewrite_of write)) (reply_of o) written,
       (same, (o, u, written, is)),
     )
-
-    -- memory was lacking behind the edit
-    pub write_unshown : {E : Type 0} (e : E) → new ≡ old → Settles {E = E} (Err e) old new from_start t u path (rewrite_of write) (back_of write)
-    write_unshown e same = (same, inr (inr (after_write t u (write_at t path (rewrite_of write)) (reply_of o) written)))
-
-  module _ (word : Word) (written : write_at t path (rewrite_of write) ≡ Err word) (is : u ≡ t) where
-    pub write_refused : (E : Type 0) → new ≡ old ++ text (string word) → Settles {E = E} (Ok None) old new from_start t u path (rewrite_of write) (back_of write)
-    write_refused E appended = (
-      appended ∙ sym (ap (λ w. old ++ text (settled t [] w).0) written),
-      is ∙ sym (ap (λ w. (settled t [] w).1.tree) written),
-      is_refused (write_at t path (rewrite_of write)) word written,
-    )
-
-  -- memory was lacking before it
-  pub write_unmade : {E : Type 0} (e : E) → new ≡ old → u ≡ t → Settles {E = E} (Err e) old new from_start t u path (rewrite_of write) (back_of write)
-  write_unmade e same is = (same, inl is)

@@ -1,25 +1,24 @@
 //! Documents of lines: their reads and writes by paths, and the replies that show them.
 ghost use Rattle.std.specs.Prelude.{◌≡◌, option_map, IfOk};
-ghost use Rattle.sj_base.specs.Tree.{Tree, list};
-ghost use Rattle.sj_base.specs.Path.{child, at};
+ghost use Rattle.sj_base.specs.Tree.{Tree};
+ghost use Rattle.sj_base.specs.Path.{at};
 ghost use Rattle.sj_base.specs.Text.{text, pretty};
-ghost use Rattle.sj_owned.specs.Views.{value_tree, members_view};
-ghost use Rattle.sj_documents.specs.Step.{Keeping, from_start, base, reply_of, part_at, type_name, keys_at, key_items, contains_reply, type_reply, len_reply, keys_reply};
+ghost use Rattle.sj_owned.specs.Views.{value_tree};
+ghost use Rattle.sj_documents.specs.Step.{Keeping, from_start, base, reply_of, contains_reply, type_reply, len_reply, keys_reply};
 ghost use Rattle.sj_documents.specs.Step.{fits, fits_below, insertion, removal, pushing, popping, setting};
 ghost use Rattle.sj_scripts.specs.Values.{owned_tree};
 ghost use Rattle.sj_documents.specs.Inverse.{drop_item, place_at, insertion_back, removal_back, popping_back, setting_back};
 ghost use Rattle.sj_documents.specs.Inverses.{change_view, Settles, TakesBack};
-ghost use Rattle.sj_documents.specs.inside.Documents.{GivesReply, reply_view, rewrite_of, back_of};
-ghost use Rattle.sj_scripts.specs.inside.Output.{AppendsOrGrows};
-ghost use Rattle.sj_scripts.specs.Script.{part_view, path_view};
+ghost use Rattle.sj_documents.specs.inside.Documents.{rewrite_of, back_of};
+ghost use Rattle.sj_scripts.specs.Script.{path_view};
 ghost use Rattle.sj_base.specs.Output.{AppendsOrLeaves};
 
 use crate::edit::{Edit, ScriptText, Write, edit_at, is_within, is_within_below};
 use crate::inverse::Inverse;
 use crate::path::copy_path;
 use crate::reads::{contains_at, find, len_at, put_answer, put_found, put_keys_at, type_at};
-use sj_base::{Scalar, StaticNode, ValueType, put_string, put_text, whole_or_none};
-use sj_object::{Object, ObjectKey};
+use sj_base::put_string;
+use sj_object::ObjectKey;
 use sj_owned::{Literal, OwnedValue, Value};
 use sj_scripts::{PathPart, ReadError, ScriptValue};
 use std::alloc::{AllocError, Global};

@@ -7,7 +7,7 @@ ghost use Rattle.sj_documents.specs.Inverses.{change_view};
 ghost use Rattle.sj_scripts.specs.Script.{path_view};
 ghost use Rattle.sj_documents.specs.Step.{write_at, insertion, pushing};
 ghost use Rattle.sj_scripts.specs.Values.{owned_tree};
-ghost use Rattle.sj_documents.specs.inside.Documents.{rewrite_of, undoing, change_of, back_of, is_taken, IsEdited, IsChanged};
+ghost use Rattle.sj_documents.specs.inside.Documents.{rewrite_of, change_of, back_of, is_taken, IsEdited, IsChanged};
 ghost use Rattle.sj_object.specs.Pairs.{value_at};
 
 use crate::inverse::Change;

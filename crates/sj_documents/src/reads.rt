@@ -1,5 +1,5 @@
 //! What the commands that read reply, in any form of document.
-ghost use Rattle.std.specs.Prelude.{◌≡◌, ◌++◌, option_map};
+ghost use Rattle.std.specs.Prelude.{◌≡◌, option_map};
 ghost use Rattle.sj_base.specs.Path.{at};
 ghost use Rattle.sj_base.specs.Text.{text};
 ghost use Rattle.sj_documents.specs.Step.{reply_of, part_at, contains_reply, type_reply, len_reply, keys_reply};

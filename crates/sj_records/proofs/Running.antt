@@ -53,13 +53,6 @@ module _ (job : Job) where
   pub Running-failed : (r0 r1 r2 w0 w1 : Option (List ℕ)) (line : List ℕ) → Running job r0 r1 w0 w1 line → Keeps r1 r2 → Stands r0 r2 w0 w1 (Err Read)
   Running-failed r0 r1 r2 w0 w1 line h keeps = (h.input, h.wrote.0, Consumes-kept r0 r1 r2 h.input h.consumed keeps, h.wrote.1, h.wrote.2)
 
-  pub Running-too_many : (r0 r1 w0 w1 : Option (List ℕ)) (line : List ℕ) → Running job r0 r1 w0 w1 line → Stands r0 r1 w0 w1 (Err TooManyReads)
-  Running-too_many r0 r1 w0 w1 line h = (h.input, h.wrote.0, h.consumed, h.wrote.1, h.wrote.2)
-
-  -- no room at the start
-  pub Stands-nothing : (r w : Option (List ℕ)) → Stands r r w w (Err Memory)
-  Stands-nothing r w = let none = Wrote-nothing job w in ([], none.0, Consumes-nil r, none.1, (0, none.2))
-
   some_stand : (r0 r2 w0 w2 : Option (List ℕ)) (input : List ℕ) → Consumes r0 r2 input → WroteSome job w0 w2 (ended input) → Stands r0 r2 w0 w2 (Err Memory)
   some_stand r0 r2 w0 w2 input consumed h = (input, h.1.0, consumed, h.1.1, (h.0, h.1.2))
 

@@ -1,13 +1,13 @@
 -- Reading the parts of a path and the commands of a script one after the other, as loops do.
-use Rattle.std.proofs.Common.{◌≡◌, ℕ, suc, ◌+◌, ◌<◌, List, [], ◌∷◌, ◌++◌, length, get_or, drop, Result, Ok, Err, refl, sym, ap, ◌∙◌, append_assoc, arith}
-use Rattle.std.proofs.lemmas.List.{append-nil, drop_more, drop_all}
-use Rattle.sj_base.specs.Tree.{Tree, no_items, item}
+use Rattle.std.proofs.Common.{◌≡◌, ℕ, suc, ◌+◌, ◌<◌, List, [], ◌∷◌, ◌++◌, length, get_or, drop, Result, Ok, Err, refl, sym, ap, ◌∙◌, append_assoc}
+use Rattle.std.proofs.lemmas.List.{drop_more}
+use Rattle.sj_base.specs.Tree.{Tree, item}
 use Rattle.sj_base.specs.Path.{Part}
 use Rattle.sj_scripts.specs.declared.script.CommandFault.{CommandFault}
 use Rattle.sj_scripts.specs.declared.script.CommandFault.TheVariants.{WrongCount}
 use Rattle.sj_scripts.specs.declared.read_error.ReadError.{ReadError}
 use Rattle.sj_scripts.specs.declared.read_error.ReadError.TheVariants as errors
-use Rattle.sj_scripts.specs.Command.{Step, Refusal, ◌>>=◌, as_part, as_parts, as_path, as_key, path_alone, path_and_key, path_and_value, path_key_value, nullary, command_of, commands_from}
+use Rattle.sj_scripts.specs.Command.{Step, Refusal, ◌>>=◌, as_path, as_key, path_alone, path_and_key, path_and_value, path_key_value, nullary, command_of, commands_from}
 use Rattle.sj_scripts.specs.inside.ReadErrors.{IsFaultOf}
 use Rattle.sj_scripts.specs.declared.script.Command.{Command}
 use Rattle.sj_scripts.specs.Script.{command_view, commands_view}
@@ -35,26 +35,6 @@ with_both path k v = path >>= λ p. k >>= λ s. Ok (p, s, v)
 -- the items from that place on, where one is left
 items_left : (ds : List OwnedValue) (i : ℕ) (d : OwnedValue) → i < length ds → d ≡ get_or ds i d → items_view (drop i ds) ≡ item (owned_tree d) (items_view (drop (i + 1) ds))
 items_left ds i d lt is = ap items_view (drop_more ds i d lt) ∙ ap (λ e. item (owned_tree e) (items_view (drop (i + 1) ds))) (sym is)
-
--- ---- the parts of a path
-
-pub parts-more : (ds : List OwnedValue) (i : ℕ) (d : OwnedValue) (front : List Part) (part : Part) (total : Result (List Part) CommandFault) → i < length ds → d ≡ get_or ds i d → as_part (owned_tree d) ≡ Ok part
-    → read_after front (as_parts (items_view (drop i ds))) ≡ total → read_after (front ++ part ∷ []) (as_parts (items_view (drop (i + 1) ds))) ≡ total
-parts-more ds i d front part total lt is found so_far =
-    let one : read_after front (as_parts (items_view (drop i ds))) ≡ read_after (front ++ part ∷ []) (as_parts (items_view (drop (i + 1) ds))) = rw (items_left ds i d lt is, found) (regroup front part (as_parts (items_view (drop (i + 1) ds)))) in
-    sym one ∙ so_far
-
-pub parts-fault : (e : ReadError CommandFault) (ds : List OwnedValue) (i : ℕ) (d : OwnedValue) (front : List Part) (total : Result (List Part) CommandFault) → i < length ds → d ≡ get_or ds i d → IsFaultOf e (as_part (owned_tree d))
-    → read_after front (as_parts (items_view (drop i ds))) ≡ total → IsFaultOf e total
-parts-fault errors.Memory ds i d front total lt is fault so_far = tt
-parts-fault (errors.Refused f) ds i d front total lt is fault so_far =
-    let one : read_after front (as_parts (items_view (drop i ds))) ≡ Err f = rw (items_left ds i d lt is, fault) refl in
-    sym so_far ∙ one
-
-pub parts-done : (ds : List OwnedValue) (i : ℕ) (front : List Part) (total : Result (List Part) CommandFault) → length ds ≡ i → read_after front (as_parts (items_view (drop i ds))) ≡ total → total ≡ Ok front
-parts-done ds i front total end so_far =
-    let none : items_view (drop i ds) ≡ no_items = ap items_view (drop_all i ds (omega arith)) in
-    sym so_far ∙ ap (λ ts. read_after front (as_parts ts)) none ∙ ap (λ xs. Ok xs) (append-nil front)
 
 -- ---- the commands of a script
 

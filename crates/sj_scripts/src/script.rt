@@ -9,7 +9,7 @@ ghost use Rattle.sj_scripts.specs.inside.ReadErrors.{IsScriptFault};
 use crate::commands::read_commands;
 use crate::path::PathPart;
 use crate::script_value::ScriptValue;
-use sj_base::{Error, ErrorType, put_int};
+use sj_base::{Error, ErrorType, put_int, whole_or_none};
 use sj_owned::to_owned_value;
 use std::alloc::{AllocError, AllocFailed, Global};
 
@@ -141,12 +141,9 @@ impl ScriptFault {
     pub fn put_fault(&self, out: &mut Vec<u8>) -> Result<(), AllocError>
         ensures { AppendsOrLeaves result out.old.items out.new.items (fault_text self.now) }
     {
-        let len = out.len();
-        let result = put_parts(self, out);
-        if result.is_err() {
-            out.truncate(len);
-        }
-        result
+        let start = out.len();
+        let printed = put_parts(self, out);
+        whole_or_none(out, start, printed)
     }
 }
 
