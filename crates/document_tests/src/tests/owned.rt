@@ -313,6 +313,32 @@ fn made_of_pairs(rt: HostRuntime) -> Result<(), Fail> {
     Ok(())
 }
 
+// More pairs than are compared with one another. Keys with the same hash, `Aa` and `BB`, are told apart.
+#[test]
+fn made_of_many_pairs(rt: HostRuntime) -> Result<(), Fail> {
+    let alloc = rt.alloc();
+    let mut pairs = Vec::new(alloc);
+    for number in 0..400u32 {
+        pairs.push((format!(in alloc; "{number}")?, number))?;
+    }
+    for (key, number) in [("BB", 400), ("Aa", 401), ("399", 402), ("BB", 403)] {
+        pairs.push((String::from_str(alloc, key)?, number))?;
+    }
+    let object = Value::from_pairs(alloc, pairs)?;
+    let members = object.as_object().ok_or("no object")?;
+    assert_eq!(rt; members.len(), 402);
+    for (key, number) in [
+        ("0", 0),
+        ("398", 398),
+        ("399", 402),
+        ("Aa", 401),
+        ("BB", 403),
+    ] {
+        assert_eq!(rt; object.get_u32(key), Some(number), "{key}");
+    }
+    Ok(())
+}
+
 // The members go by their keys.
 #[test]
 fn made_of_a_map(rt: HostRuntime) -> Result<(), Fail> {
