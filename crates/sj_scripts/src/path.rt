@@ -1,6 +1,4 @@
 //! Paths into a document.
-use std::alloc::Global;
-
 /// One part of a path.
 #[derive(Debug, Drop)]
 pub enum PathPart {
