@@ -377,6 +377,18 @@ fn output_fails(rt: HostRuntime) {
 }
 
 #[test]
+fn display_texts(rt: HostRuntime) -> Result<(), Fail> {
+    for (fault, text) in [
+        (LoadFault::Memory, "Memory"),
+        (LoadFault::Unreadable, "Unreadable"),
+    ] {
+        let shown = format!(in rt.alloc(); "{fault}")?;
+        assert_eq!(rt; shown.as_str(), text);
+    }
+    Ok(())
+}
+
+#[test]
 fn reads_to_the_end(rt: HostRuntime) {
     let alloc = rt.alloc();
     for (kind, reads, want) in [

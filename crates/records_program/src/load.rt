@@ -6,13 +6,16 @@ ghost use Rattle.std.specs.Io.KnownBytes.{IsAtEnd};
 use std::io::{ErrorKind, Read};
 use std::rt::Files;
 use std::{fs, io};
+use thiserror::Error;
 
-/// Why a file could not be loaded.
-#[derive(Clone, Copy, Debug, PartialEq, Eq)]
+/// Why a file could not be loaded. It is displayed as its variant's name.
+#[derive(Clone, Copy, Debug, PartialEq, Eq, Error)]
 pub enum LoadFault {
     /// An allocation failed.
+    #[error("Memory")]
     Memory,
     /// The file could not be opened or read, or gave no end within `MAX_READS` reads.
+    #[error("Unreadable")]
     Unreadable,
 }
 

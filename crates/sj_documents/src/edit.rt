@@ -321,11 +321,15 @@ fn set_member<K: ScriptText<D> + Drop, D: Literal + Drop>(
     ensures { IsChanged result (value_tree K.text D.literal part.old) (value_tree K.text D.literal part.new)
         (set_member (string_bytes key) (owned_tree value)) }
 {
-    let value = K::from_owned(alloc, value)?;
+    let name: &str = &key;
     let Some(members) = part.as_object_mut() else {
         return Ok(false);
     };
-    match members.get_mut(&key) {
+    if !members.contains_key(name) {
+        return Ok(false);
+    }
+    let value = K::from_owned(alloc, value)?;
+    match members.get_mut(name) {
         Some(member) => {
             *member = value;
             Ok(true)

@@ -1,5 +1,6 @@
 //! Documents in the form `Lazy`.
-ghost use Rattle.std.specs.Prelude.{◌≡◌};
+ghost use Rattle.std.specs.Prelude.{◌≡◌, true};
+ghost use Rattle.sj_lazy.specs.Contents.{contents, is_tape};
 ghost use Rattle.sj_lazy.specs.Views.{lazy_tree};
 ghost use Rattle.sj_tape.specs.Views.{value_tree as view_tree};
 ghost use Rattle.sj_documents.specs.Step.{from_write};
@@ -24,7 +25,8 @@ pub struct LazyDocument<'t, 'i> {
 impl<'t, 'i> LazyDocument<'t, 'i> {
     /// Creates one of a value of a tape. Builds nothing.
     pub fn new(value: TapeValue<'t, 'i>) -> LazyDocument<'t, 'i>
-        ensures { lazy_tree result.value ≡ view_tree value.entry }
+        ensures tree { lazy_tree result.value ≡ view_tree value.entry }
+        ensures tape { is_tape (contents result.value) ≡ true }
     {
         LazyDocument {
             value: LazyValue::from_tape(value),

@@ -16,7 +16,8 @@ use std::alloc::AllocError;
 /// Runs a command that is no reload on a document, and appends its reply.
 ///
 /// `history` has what takes the document's writes back, the newest last. A write that isn't refused adds its inverse. `Undo`
-/// takes the newest off and makes its change; it replies `false` if there is none, or if the change can't be made.
+/// takes the newest off and makes its change; it replies `false` if there is none, or if the change can't be made. The law
+/// `histories_stand` asks that no object of the document repeats a key, which `sj_owned::Value::depth` tells of a document.
 ///
 /// # Errors
 ///

@@ -30,5 +30,5 @@ returns-in_ok-document-in-Borrowed c =
 pub returns-in-Lazy : goal.returns-in-Lazy
 returns-in-Lazy c =
     let tree = nodes_tree (tape_nodes c.args.tape.now) in
-    let begins = c.new-document.ensures ∙ ap nodes_tree c.as_value.ensures.nodes ∙ ap (start tree) (sym (ap keeping_of c.in-Lazy.is)) in
+    let begins = c.new-document.ensures.tree ∙ ap nodes_tree c.as_value.ensures.nodes ∙ ap (start tree) (sym (ap keeping_of c.in-Lazy.is)) in
     IfOk-weaker c.run_commands-in-Lazy.result _ _ (λ left runs s at. runs s (stands_begun _ _ _ _ c.args.history.now.items s (sym (ap keeping_of c.in-Lazy.is)) begins at)) c.run_commands-in-Lazy.ensures
