@@ -124,14 +124,8 @@ impl Write<'_> {
                 None => Ok(Change::Nothing),
             },
             Write::Push { .. } => Ok(Change::DropItem),
-            Write::Pop => match found {
-                Some(value) => Ok(Change::AddItem(value)),
-                None => Ok(Change::Nothing),
-            },
-            Write::Set { .. } => match found {
-                Some(value) => Ok(Change::SetPart(value)),
-                None => Ok(Change::Nothing),
-            },
+            Write::Pop => Ok(found.map_or(Change::Nothing, Change::AddItem)),
+            Write::Set { .. } => Ok(found.map_or(Change::Nothing, Change::SetPart)),
         }
     }
 }
