@@ -1,6 +1,6 @@
 pub mod Edits
 pub mod Parts
-pub mod TapeKeys
+pub mod ListedKeys
 pub mod Changes
 pub mod KeptChanges
 pub mod MadeChanges

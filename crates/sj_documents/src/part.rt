@@ -1,24 +1,23 @@
 //! Parts of documents, as the commands of a script read them.
 ghost use Rattle.std.specs.Prelude.{◌≡◌, pos, is_some, ok_or, option_map, codes};
+ghost use Rattle.std.specs.Iterator.{IsFinite};
 ghost use Rattle.sj_base.specs.Path.{child, key as key_part};
 ghost use Rattle.sj_base.specs.Scalar.{scalar_tree};
 ghost use Rattle.sj_base.specs.Text.{text};
-ghost use Rattle.sj_base.specs.Tree.{Tree, integer, list};
-ghost use Rattle.sj_owned.specs.Views.{value_tree, members_view};
-ghost use Rattle.sj_tape.specs.Views.{value_tree as view_tree, object_members};
-ghost use Rattle.sj_documents.specs.Step.{count, key_items, type_name};
+ghost use Rattle.sj_base.specs.Tree.{Tree, integer};
+ghost use Rattle.sj_owned.specs.Views.{value_tree};
+ghost use Rattle.sj_tape.specs.Views.{value_tree as view_tree};
+ghost use Rattle.sj_documents.specs.Step.{count, type_name};
 ghost use Rattle.sj_scripts.specs.Script.{part_view};
 ghost use Rattle.sj_base.specs.Output.{AppendsOrLeaves};
-ghost use Rattle.sj_documents.specs.inside.Documents.{PutsKeys};
-ghost use Rattle.sj_scripts.specs.inside.Output.{AppendsOrGrows};
+ghost use Rattle.sj_documents.specs.inside.Documents.{PutsKeys, PutsEach};
 
-use crate::reads::put_separator;
-use sj_base::{Scalar, StaticNode, put_string};
-use sj_object::{Object, ObjectKey};
+use sj_base::{Layout, Scalar, StaticNode, print_text};
+use sj_object::ObjectKey;
 use sj_owned::{Literal, Value};
 use sj_reads::ValueAsScalar;
 use sj_scripts::PathPart;
-use sj_tape::{Object as TapeObject, Value as TapeValue};
+use sj_tape::Value as TapeValue;
 use std::alloc::AllocError;
 
 /// A part of a document, in one of the forms.
@@ -83,7 +82,8 @@ impl<K: ObjectKey, D: Literal> Part for &Value<K, D> {
     }
 
     fn put_keys(self, out: &mut Vec<u8>) -> Option<Result<(), AllocError>> {
-        Some(put_keys(self.as_object()?, out))
+        let keys = self.as_object()?.keys();
+        Some(put_keys(keys.map(|key| key.as_text()), out))
     }
 
     fn put(self, out: &mut Vec<u8>) -> Result<(), AllocError> {
@@ -122,7 +122,7 @@ impl Part for TapeValue<'_, '_> {
     }
 
     fn put_keys(self, out: &mut Vec<u8>) -> Option<Result<(), AllocError>> {
-        Some(put_tape_keys(&self.as_object()?, out))
+        Some(put_keys(self.as_object()?.keys(), out))
     }
 
     fn put(self, out: &mut Vec<u8>) -> Result<(), AllocError> {
@@ -142,35 +142,19 @@ fn scalar_name(scalar: &Scalar<'_>) -> &'static str
     }
 }
 
-fn put_keys<K: ObjectKey, D: Literal>(
-    members: &Object<K, Value<K, D>>,
+/// Appends an array of the keys. A part of it is appended before an error.
+fn put_keys<'k, I: Iterator<Item = &'k str> + Drop>(
+    keys: I,
     out: &mut Vec<u8>,
 ) -> Result<(), AllocError>
-    ensures { AppendsOrGrows result out.old.items out.new.items
-        (text (list (key_items (members_view K.text D.literal members.now)))) }
+    requires can { I.can_next keys }
+    requires ends { IsFinite (I.remaining keys) }
+    ensures { PutsEach I.next_gives keys result out.old.items out.new.items }
 {
-    out.push(b'[')?;
-    let mut is_first = true;
-    for (key, _) in members {
-        put_separator(is_first, out)?;
-        put_string(out, key.as_text())?;
-        is_first = false;
+    let mut list = Layout::Compact.open_list(out)?;
+    for key in keys {
+        list.next(out)?;
+        print_text(out, &Scalar::Text(key))?;
     }
-    out.push(b']')?;
-    Ok(())
-}
-
-fn put_tape_keys(members: &TapeObject<'_, '_>, out: &mut Vec<u8>) -> Result<(), AllocError>
-    ensures { AppendsOrGrows result out.old.items out.new.items
-        (text (list (key_items (object_members members.now)))) }
-{
-    out.push(b'[')?;
-    let mut is_first = true;
-    for (key, _) in members {
-        put_separator(is_first, out)?;
-        put_string(out, key)?;
-        is_first = false;
-    }
-    out.push(b']')?;
-    Ok(())
+    list.close(out)
 }

@@ -1,8 +1,11 @@
 -- The edits of documents, what is appended of them, and how the elements of an array are kept apart in its text.
-use Rattle.std.specs.Prelude.{◌≡◌, ℕ, Bool, true, false, List, [], ◌∷◌, Option, Some, None, option_map, ok_or, is_some, Result, Ok, Err, codes}
+use Rattle.std.specs.Prelude.{◌≡◌, ℕ, Bool, true, false, List, [], ◌∷◌, ◌++◌, map, Option, Some, None, option_map, ok_or, is_some, Result, Ok, Err, codes}
+use Rattle.std.specs.Borrow.{Bor}
+use Rattle.std.specs.Io.{StartsWith}
+use Rattle.std.specs.Iterator.{Drains}
 use Rattle.std.specs.Option.{unwrap_or}
 use Rattle.sj_base.specs.Containers.{members_in}
-use Rattle.sj_base.specs.Tree.{Tree, Items, Members, string, list}
+use Rattle.sj_base.specs.Tree.{Tree, Items, no_items, item, Members, string, list}
 use Rattle.sj_base.specs.Scalar.{scalar_tree}
 use Rattle.sj_base.specs.declared.scalar.Scalar.{Scalar}
 use Rattle.sj_documents.specs.declared.edit.Edit.{Edit}
@@ -95,3 +98,13 @@ IsEdited tree (Err Memory) t u w = u ≡ t
 abbrev pub PutsKeys : Tree → Option (Result Unit AllocError) → List ℕ → List ℕ → Type 0
 PutsKeys t (Some r) old new = (ms : Members) × (members_in t ≡ Some ms) × AppendsOrGrows r old new (text (list (key_items ms)))
 PutsKeys t None old new = (members_in t ≡ None) × (new ≡ old)
+
+-- keys as the items of an array
+abbrev pub key_strings : List (List ℕ) → Items
+key_strings [] = no_items
+key_strings (k ∷ ks) = item (string k) (key_strings ks)
+
+-- What is appended of the keys that an iterator gives: an array of them, or a part of it before an error.
+abbrev pub PutsEach : {S E : Type 0} → (S → Option (Bor (List ℕ)) → S → Type 0) → S → Result Unit E → List ℕ → List ℕ → Type 0
+PutsEach steps s (Ok done) old new = (ks : List (Bor (List ℕ))) × Drains steps s ks × (new ≡ old ++ text (list (key_strings (map (λ k. k.now) ks))))
+PutsEach steps s (Err e) old new = StartsWith new old
