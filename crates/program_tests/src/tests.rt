@@ -25,7 +25,7 @@ Arguments:
 
 Options:
       --form <FORM>     The form of each document: owned, borrowed or lazy [default: owned]
-      --depth <LEVELS>  The most levels that a document nests, from 0 to 1024 [default: 1024]
+      --depth <LEVELS>  The most levels that a document may nest, from 0 to 1024 [default: 1024]
   -h, --help            Print help
 
 Commands of a script:

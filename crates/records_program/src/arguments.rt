@@ -49,7 +49,7 @@ pub struct RunArguments<'a> {
     pub script: &'a str,
     /// The form of the documents.
     pub form: Form,
-    /// The most levels that a document nests.
+    /// The most levels that a document may nest.
     pub depth: usize,
 }
 
@@ -156,7 +156,7 @@ fn depth_argument<'a>(alloc: Global) -> Arg<'a>
         .action(ArgAction::Set)
         .default_value("1024")
         .value_parser(value_parser!(u64).range(0..=1024))
-        .help("The most levels that a document nests, from 0 to 1024")
+        .help("The most levels that a document may nest, from 0 to 1024")
 }
 
 fn script_argument<'a>(alloc: Global) -> Arg<'a>

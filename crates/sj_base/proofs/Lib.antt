@@ -1,4 +1,3 @@
-mod Runs
 pub mod Literals
 pub mod Carriers
 pub mod Fronts

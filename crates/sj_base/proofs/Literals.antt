@@ -4,7 +4,7 @@ use Rattle.std.specs.List.{AllByRecursion}
 use Rattle.std.specs.Char.{is_ascii_digit, IsAsciiDigit}
 use Rattle.std.specs.Str.{all_ascii_digits}
 use Rattle.std.proofs.Math.Seq.{drop-cons}
-use Rattle.std.proofs.Common.{add-one, refl, sym, ap, ap₂, ◌∙◌, inl, inr, arith}
+use Rattle.std.proofs.Common.{refl, sym, ap, ap₂, ◌∙◌, inl, inr, arith}
 use Rattle.std.proofs.Math.Bool.{Bool-set}
 use Rattle.std.proofs.Math.Logic.{∥∥₁_elim}
 use Rattle.std.proofs.lemmas.Bool.{leb-true, le-leb, cases_Bool, cases_eq, and_parts, and_from, or_cases, or_left, or_right, or_from, not-true, not_from_false, eqb-true, eqb-false, eq-eqb, ne_eqb}
@@ -122,10 +122,7 @@ digits_parts (b ∷ bs) = elim (cases_Bool (is_ascii_digit b)) [
   | inr e ↦ rw e refl
 ]
 
--- one more digit, or none
-pub digits-more : (bytes : List ℕ) (i : ℕ) → i < length bytes → is_ascii_digit (slice_index bytes i) ≡ true → (front_digits (drop i bytes) ≡ slice_index bytes i ∷ front_digits (drop (i + 1) bytes)) × (behind_digits (drop i bytes) ≡ behind_digits (drop (i + 1) bytes))
-digits-more bytes i h digit = rw (drop-cons bytes i 0 h, digit, add-one i) (refl, refl)
-
+-- no more digit
 pub digits-end : (bytes : List ℕ) (i : ℕ) → i < length bytes → is_ascii_digit (slice_index bytes i) ≡ false → (front_digits (drop i bytes) ≡ []) × (behind_digits (drop i bytes) ≡ drop i bytes)
 digits-end bytes i h none = rw (drop-cons bytes i 0 h, none) (refl, refl)
 

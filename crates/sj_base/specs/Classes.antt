@@ -5,7 +5,7 @@ use Rattle.sj_base.specs.declared.error.ErrorType.TheVariants.{Unexpected, Input
 pub data ErrorClass : Type 0 where
   io_class : ErrorClass  -- of a read or a write: no kind
   eof_class : ErrorClass
-  syntax_class : ErrorClass  -- no JSON text within the limits
+  syntax_class : ErrorClass  -- no JSON text, or one that nests too deep
   data_class : ErrorClass  -- all others
 
 abbrev pub class_of : ErrorType → ErrorClass

@@ -213,7 +213,7 @@ impl Error {
         *error == ErrorType::Eof
     }
 
-    /// Returns whether the input is no JSON text within the limits (`simd_json::Error::is_syntax`).
+    /// Returns whether the input is no JSON text, or nests deeper than the limit (`simd_json::Error::is_syntax`).
     pub fn is_syntax(&self) -> bool
         ensures { IsTrue result ↔ (class_of self.now.error ≡ syntax_class) }
     {

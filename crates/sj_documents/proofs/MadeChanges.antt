@@ -1,5 +1,5 @@
 -- Changes that take writes back, as edits of trees.
-use Rattle.std.proofs.Common.{◌≡◌, ℕ, zero, suc, Bool, true, false, List, Option, Some, None, Ok, Err, refl, sym, ap, subst, ◌∙◌}
+use Rattle.std.proofs.Common.{◌≡◌, ℕ, zero, suc, Bool, true, false, List, Option, Some, None, Ok, refl, sym, ap, subst, ◌∙◌}
 use Rattle.std.specs.Prelude.{bytes_eq, cond, not, ◌&&◌, nat_le, is_some, ok_or, codes, option_and_then, option_map, if◌then◌else◌}
 use Rattle.std.specs.Option.{unwrap_or}
 use Rattle.std.proofs.lemmas.Bool.{and_parts, cond-false}
@@ -128,15 +128,8 @@ shown_back : (o : Option Tree) (w : Tree × Tree) (word : Word) → ok_or (optio
 shown_back None w word e = absurd cc
 shown_back (Some u) w word e = let same = same_ok _ _ _ _ refl refl e in ap (λ (p : Tree × Tree). Some p.1) same
 
-not_back : (o : Option Tree) (word why : Word) → ok_or (option_map (paired (reply_of None)) o) word ≡ Err why → o ≡ None
-not_back None word why e = refl
-not_back (Some u) word why e = absurd cc
-
 pub taken_back : (t : Tree) (path : List Part) (change : Change) (w : Tree × Tree) → write_at t path (undoing change) ≡ Ok w → back path change t ≡ Some w.1
 taken_back t path change w e = shown_back (back path change t) w (codes "NoSuchPath") (sym (undone t path change) ∙ e)
-
-pub not_taken : (t : Tree) (path : List Part) (change : Change) (why : Word) → write_at t path (undoing change) ≡ Err why → back path change t ≡ None
-not_taken t path change why e = not_back (back path change t) (codes "NoSuchPath") why (sym (undone t path change) ∙ e)
 
 pub takes_back : (t u reply : Tree) (path : List Part) (change : Change) → write_at t path (undoing change) ≡ Ok (reply, u) → (true ≡ is_some (back path change t)) × (u ≡ unwrap_or (back path change t) t)
 takes_back t u reply path change written =

@@ -15,7 +15,7 @@ use crate::object::Object;
 impl<K: ObjectKey, V> Object<K, V> {
     ghost use Rattle.sj_object.specs.Lends.{lends_value, lends_put};
 
-    /// Returns the value of this key, whose [`hash_key`](crate::hash_key) is `hash`.
+    /// Returns the value of this key. `hash` has to be the key's [`hash_key`](crate::hash_key).
     pub fn get_hashed(&self, hash: u64, key: &str) -> Option<&V>
         requires { hash ≡ text_hash key.now }
         ensures { option_copied result ≡ value_at K.text self.now key.now }
@@ -24,7 +24,7 @@ impl<K: ObjectKey, V> Object<K, V> {
         self.get(key)
     }
 
-    /// Returns the value of this key, whose [`hash_key`](crate::hash_key) is `hash`, for writing.
+    /// Returns the value of this key for writing. `hash` has to be the key's [`hash_key`](crate::hash_key).
     pub fn get_hashed_mut(&mut self, hash: u64, key: &str) -> Option<&mut V>
         requires { hash ≡ text_hash key.now }
         ensures* writes_back { sem 𝓛 (lends_value K.row V.row K.ObjectKey self.entry key.now result) }
@@ -34,8 +34,8 @@ impl<K: ObjectKey, V> Object<K, V> {
         self.get_mut(key)
     }
 
-    /// Puts the value in the place of the value of this key, as [`Object::insert`] does. The key's
-    /// [`hash_key`](crate::hash_key) is `hash`.
+    /// Puts the value in the place of the value of this key, as [`Object::insert`] does. `hash` has to be the key's
+    /// [`hash_key`](crate::hash_key).
     ///
     /// # Errors
     ///
@@ -54,8 +54,8 @@ impl<K: ObjectKey, V> Object<K, V> {
         self.insert(key, value)
     }
 
-    /// Returns the value of this key for writing. A new key goes last, with the value that `with` returns. The key's
-    /// [`hash_key`](crate::hash_key) is `hash`.
+    /// Returns the value of this key for writing. A new key goes last, with the value that `with` returns. `hash` has to be
+    /// the key's [`hash_key`](crate::hash_key).
     ///
     /// `with` is called for a new key alone, after room has been made for it.
     ///

@@ -5,19 +5,14 @@ use Rattle.std.specs.Slice.{IsGetResult}
 use Rattle.std.specs.Option.{option_copied}
 use Rattle.std.specs.declared.alloc.Global.{Global}
 use Rattle.sj_base.specs.Tree.{list, object}
-use Rattle.sj_base.specs.Scalar.{static_tree}
-use Rattle.sj_base.specs.declared.static_node.StaticNode.{StaticNode}
 use Rattle.sj_base.specs.declared.static_node.ValueType.TheVariants.{Decimal as decimal_type}
 use Rattle.sj_base.specs.Path.{item_at, member_at}
 use Rattle.sj_object.specs.Pairs.{value_at}
 use Rattle.sj_object.specs.declared.entry.Entry.{Entry}
 use Rattle.sj_owned.specs.Views.{value_tree, value_kind, items_view, members_view, items_inside}
-use Rattle.sj_owned.specs.declared.value.Value.{Value, Static, Decimal, Array, Object, the_lemmas}
+use Rattle.sj_owned.specs.declared.value.Value.{Value, Decimal, Array, Object, the_lemmas}
 
 module _ {K D : Type 0} (text : K → List ℕ) (literal : D → List ℕ) where
-  pub tree-Static : (n : StaticNode) → value_tree text literal (Static n) ≡ static_tree n
-  tree-Static n = search (rules, the_lemmas)
-
   pub tree-Array : (v : Vec (Value K D) Global) → value_tree text literal (Array v) ≡ list (items_view text literal v.items)
   tree-Array v = search (rules, the_lemmas)
 

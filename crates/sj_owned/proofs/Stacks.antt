@@ -1,7 +1,6 @@
 -- The stack of a document that is built, as parts are pushed and popped.
-use Rattle.std.proofs.Common.{◌≡◌, ℕ, zero, suc, ◌-◌, ◌<◌, List, [], ◌∷◌, ◌++◌, Option, Some, None, take, drop, length, map, refl, sym, ap, ◌∙◌, append-nil, arith}
+use Rattle.std.proofs.Common.{◌≡◌, ℕ, zero, suc, ◌-◌, ◌<◌, List, [], ◌∷◌, ◌++◌, take, drop, length, map, refl, sym, ap, ◌∙◌, arith}
 use Rattle.std.proofs.lemmas.List.{reverse-append}
-use Rattle.std.specs.Option.{option_to_list}
 use Rattle.sj_base.specs.Tree.{Tree, Members}
 use Rattle.sj_owned.specs.inside.Building.{Shown, text, built, shown_tree, part_shown, stack, members_from, drop_pairs, add_pair}
 use Rattle.sj_owned.specs.inside.Kept.{gathered}
@@ -10,11 +9,6 @@ use Rattle.sj_owned.specs.declared.build.Part.{Part}
 module _ {V : Type 0} (tree : V → Tree) where
   pub stack-pushed : (ps : List (Part V)) (p : Part V) → stack tree (ps ++ p ∷ []) ≡ part_shown tree p ∷ stack tree ps
   stack-pushed ps p = ap (map (part_shown tree)) (reverse-append ps (p ∷ []))
-
-  -- what a pop leaves
-  pub stack-popped : (old new : List (Part V)) (p : Option (Part V)) → old ≡ new ++ option_to_list p → stack tree old ≡ map (part_shown tree) (option_to_list p) ++ stack tree new
-  stack-popped old new None is = ap (stack tree) (is ∙ append-nil new)
-  stack-popped old new (Some p) is = ap (stack tree) is ∙ stack-pushed new p
 
 pub one_fewer : (n : ℕ) → 0 < n → n ≡ suc (n - 1)
 one_fewer n some = omega arith

@@ -1,5 +1,5 @@
 -- What reads a value takes a token at least, so the number of steps in a container doesn't matter once it is large enough.
-use Rattle.std.proofs.Common.{◌≡◌, ℕ, zero, suc, ◌<◌, ◌≤◌, Bool, true, false, List, [], ◌∷◌, length, Option, Some, None, Ok, Err, refl, sym, ap, ◌∙◌, subst, arith}
+use Rattle.std.proofs.Common.{◌≡◌, ℕ, zero, suc, ◌<◌, ◌≤◌, Bool, true, false, List, [], ◌∷◌, length, Option, Some, None, Ok, Err, refl, ap, subst, arith}
 use Rattle.std.specs.Prelude.{◌==◌, if◌then◌else◌}
 use Rattle.sj_base.specs.declared.error.ErrorType.{ErrorType}
 use Rattle.sj_base.specs.declared.error.ErrorType.TheVariants.{InternalError, ExpectedArrayContent, ExpectedObjectContent, ExpectedObjectKey, ExpectedObjectColon, ExpectedArrayComma, ExpectedMapComma}
@@ -7,9 +7,8 @@ use Rattle.sj_base.specs.Tree.{Tree, list, object, Items, no_items, item, Member
 use Rattle.sj_parse.specs.declared.stop.Stop.{Stop}
 use Rattle.sj_parse.specs.Token.{Token}
 use Rattle.sj_parse.specs.Escapes.{stop}
-use Rattle.sj_parse.specs.Descent.{Left, left, scalar_stop, begins_scalar, more_items, more_members, value}
+use Rattle.sj_parse.specs.Descent.{Left, left, scalar_stop, begins_scalar}
 use Rattle.sj_parse.specs.inside.Trees.{Reading, with_rest, mapped, on_token, judged, decoded, token_tree, tree_of_value, tree_of_item_end, tree_of_more_items, tree_of_items, tree_of_member, tree_of_expected_member, tree_of_member_end, tree_of_more_members, tree_of_members, no_tree, tree_value}
-use Rattle.sj_parse.proofs.Forget.{forget, forget-tree_value, forget-more_items, forget-more_members}
 
 -- fewer tokens are left than the number, where something was read
 abbrev pub LeavesFewer : {A : Type 0} → ℕ → Reading A → Type 0
@@ -194,9 +193,3 @@ tree_of_more_items-enough limit = enough_items (tree_value limit) (takes_token l
 
 pub tree_of_more_members-enough : (limit n m last : ℕ) (ts : List Token) → length ts ≤ n → length ts ≤ m → tree_of_more_members (tree_value limit) n last ts ≡ tree_of_more_members (tree_value limit) m last ts
 tree_of_more_members-enough limit = enough_members (tree_value limit) (takes_token limit)
-
-pub more_items-enough : (limit n m last : ℕ) (ts : List Token) → length ts ≤ n → length ts ≤ m → more_items (value limit) n last ts ≡ more_items (value limit) m last ts
-more_items-enough limit n m last ts a b = forget-more_items (value limit) (tree_value limit) (forget-tree_value limit) n last ts ∙ ap (λ r. forget r) (tree_of_more_items-enough limit n m last ts a b) ∙ sym (forget-more_items (value limit) (tree_value limit) (forget-tree_value limit) m last ts)
-
-pub more_members-enough : (limit n m last : ℕ) (ts : List Token) → length ts ≤ n → length ts ≤ m → more_members (value limit) n last ts ≡ more_members (value limit) m last ts
-more_members-enough limit n m last ts a b = forget-more_members (value limit) (tree_value limit) (forget-tree_value limit) n last ts ∙ ap (λ r. forget r) (tree_of_more_members-enough limit n m last ts a b) ∙ sym (forget-more_members (value limit) (tree_value limit) (forget-tree_value limit) m last ts)

@@ -125,8 +125,8 @@ impl<'de> Deserializer<'de> {
         self.tape.as_value()
     }
 
-    /// Returns a view of the value whose first node comes next, and stays before it. A key is a string here. To test the
-    /// condition, call [`Deserializer::is_at_end`].
+    /// Returns a view of the value whose first node comes next, and stays before it. A node has to be left, which
+    /// [`Deserializer::is_at_end`] tells. The key of a member has a node of its own, a string.
     pub fn next_value(&self) -> Value<'_, 'de>
         requires { deserializer_next self.now < length (deserializer_nodes self.now) }
         ensures nodes { (rest : List Node) × (drop (deserializer_next self.now) (deserializer_nodes self.now) ≡ value_nodes result ++ rest) }

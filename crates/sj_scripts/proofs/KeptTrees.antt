@@ -8,9 +8,9 @@ use Rattle.sj_base.specs.Tree.{Tree, null, boolean, integer, decimal, string, li
 use Rattle.sj_base.proofs.Kept.{kept_member, kept_with, list_parts, object_parts, item_parts}
 use Rattle.sj_scripts.specs.inside.KeptValues.{is_kept, are_kept_items, are_kept_members}
 
-pub none_found : (o : Option Tree) → not (is_some o) ≡ true → o ≡ None
+pub none_found : {A : Type 0} (o : Option A) → not (is_some o) ≡ true → o ≡ None
 none_found None h = refl
-none_found (Some t) h = absurd cc
+none_found (Some a) h = absurd cc
 
 mutual
   pub kept-found : (t : Tree) → is_kept t ≡ true → IsKept t

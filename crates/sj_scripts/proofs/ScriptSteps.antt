@@ -1,7 +1,6 @@
 -- Reading the parts of a path and the commands of a script one after the other, as loops do.
-use Rattle.std.proofs.Common.{◌≡◌, ℕ, suc, ◌+◌, ◌<◌, List, [], ◌∷◌, ◌++◌, length, get_or, drop, Result, Ok, Err, refl, sym, ap, ◌∙◌, append_assoc}
-use Rattle.std.proofs.lemmas.List.{drop_more}
-use Rattle.sj_base.specs.Tree.{Tree, item}
+use Rattle.std.proofs.Common.{◌≡◌, ℕ, suc, ◌+◌, List, [], ◌∷◌, ◌++◌, length, Result, Ok, Err, refl, sym, ap, ◌∙◌, append_assoc}
+use Rattle.sj_base.specs.Tree.{Tree}
 use Rattle.sj_base.specs.Path.{Part}
 use Rattle.sj_scripts.specs.declared.script.CommandFault.{CommandFault}
 use Rattle.sj_scripts.specs.declared.script.CommandFault.TheVariants.{WrongCount}
@@ -31,10 +30,6 @@ with_value a v = a >>= λ a. Ok (a.0, a.1, v)
 
 abbrev with_both : Result (List Part) CommandFault → Result (List ℕ) CommandFault → Tree → Result (List Part × List ℕ × Tree) CommandFault
 with_both path k v = path >>= λ p. k >>= λ s. Ok (p, s, v)
-
--- the items from that place on, where one is left
-items_left : (ds : List OwnedValue) (i : ℕ) (d : OwnedValue) → i < length ds → d ≡ get_or ds i d → items_view (drop i ds) ≡ item (owned_tree d) (items_view (drop (i + 1) ds))
-items_left ds i d lt is = ap items_view (drop_more ds i d lt) ∙ ap (λ e. item (owned_tree e) (items_view (drop (i + 1) ds))) (sym is)
 
 -- ---- the commands of a script
 

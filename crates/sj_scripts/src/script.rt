@@ -208,7 +208,7 @@ impl Script {
         self.commands.is_empty()
     }
 
-    /// Returns the command at this index, from 0. `place` has to be below [`Script::len`].
+    /// Returns the command at this index, from 0, which has to be below [`Script::len`].
     pub fn command(&self, place: usize) -> &Command
         requires { place < length (steps_of self.now) }
         ensures { slice_get (steps_of self.now) place ≡ Some (command_view result.now) }

@@ -115,8 +115,8 @@ impl<'i> Tape<'i> {
         }
     }
 
-    /// Returns a view of the value whose nodes begin at this index. The key of a member is a string here. To test the
-    /// condition, compare the index with the length of [`Tape::nodes`].
+    /// Returns a view of the value whose nodes begin at this index, which has to be below the length of [`Tape::nodes`]. The
+    /// key of a member has a node of its own, a string.
     pub fn value_at(&self, index: usize) -> Value<'_, 'i>
         requires { index < length (tape_nodes self.now) }
         ensures nodes { (rest : List Node) × (drop index (tape_nodes self.now) ≡ value_nodes result ++ rest) }

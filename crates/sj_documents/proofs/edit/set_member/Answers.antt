@@ -1,17 +1,15 @@
-use Rattle.std.proofs.Common.{◌≡◌, Option, Some, None, is_some, false, refl, sym, ◌∙◌}
+use Rattle.std.proofs.Common.{ap, sym, ◌∙◌}
+use Rattle.std.specs.Prelude.{not}
 use Rattle.sj_scripts.specs.Values.{owned_tree}
+use Rattle.sj_scripts.proofs.KeptTrees.{none_found}
 use Rattle.sj_documents.proofs.BackEdits.{member_set, member_not_set}
 use Rattle.sj_documents.proofs.Parts.{object_again}
 use Rattle.sj_documents.proofs.edit.set_member.Goals as goal
 
-no_value : {V : Type 0} (found : Option V) → is_some found ≡ false → found ≡ None
-no_value (Some v) is = absurd cc
-no_value None is = refl
-
 pub returns-then-not-contains_key : goal.returns-then-not-contains_key
 returns-then-not-contains_key g c =
     let is = sym c.in-Some.ensures.value in
-    let none = member_not_set g.K.ObjectKey.text g.D.Literal.literal c.args.part.now c.in-Some.members.now is c.deref-name.result.now (owned_tree c.args.value) (no_value _ (sym c.contains_key.ensures ∙ c.if-not-contains_key.true)) in
+    let none = member_not_set g.K.ObjectKey.text g.D.Literal.literal c.args.part.now c.in-Some.members.now is c.deref-name.result.now (owned_tree c.args.value) (none_found _ (ap not (sym c.contains_key.ensures ∙ c.if-not-contains_key.true))) in
     rw (sym c.deref-name.ensures) (none.0, object_again g.K.ObjectKey.text g.D.Literal.literal c.args.part.now c.in-Some.members.now c.deref-name.result.now is ∙ none.1)
 
 pub returns-in-Some-get_mut : goal.returns-in-Some-get_mut
