@@ -16,8 +16,8 @@ use Rattle.sj_owned.proofs.Members.{value_member}
 use Rattle.sj_owned.proofs.Writes.{tree_of_members, object_set, array_set}
 use Rattle.sj_scripts.specs.Command.{◌>>=◌}
 use Rattle.sj_documents.specs.Step.{Word, Rewrite, part_at, reply_of, write_at}
-use Rattle.sj_scripts.specs.declared.read_error.ReadError.{ReadError}
-use Rattle.sj_scripts.specs.declared.read_error.ReadError.TheVariants.{Memory, Refused}
+use Rattle.sj_scripts.specs.declared.memory_or.MemoryOr.{MemoryOr}
+use Rattle.sj_scripts.specs.declared.memory_or.MemoryOr.TheVariants.{Memory, Refused}
 use Rattle.sj_documents.specs.declared.refusal.Refusal.{Refusal}
 use Rattle.sj_documents.specs.inside.Documents.{IsEdited}
 
@@ -98,7 +98,7 @@ module _ (t u : Tree) (p : Part) (rest : List Part) (change : Rewrite) (there : 
       ∙ found_twice (part_at u rest) change (λ new. put t (p ∷ rest) new) (λ new. put u rest new) (λ new. put t (p ∷ []) new) (λ new. child_changed (λ v. put v rest new) u t p there)
 
   -- an edit below is an edit of the whole
-  pub edited_below : {V : Type 0} (tree : V → Tree) (r : Result (Option V) (ReadError Refusal)) (t2 u2 : Tree) → t2 ≡ put t (p ∷ []) u2
+  pub edited_below : {V : Type 0} (tree : V → Tree) (r : Result (Option V) (MemoryOr Refusal)) (t2 u2 : Tree) → t2 ≡ put t (p ∷ []) u2
       → IsEdited tree r u u2 (write_at u rest change) → IsEdited tree r t t2 (write_at t (p ∷ rest) change)
   edited_below tree (Ok found) t2 u2 is edited =
       write_below ∙ ap (λ w. w >>= done (λ new. put t (p ∷ []) new)) edited ∙ ap (λ new. done (λ _. new) (reply_of (option_map tree found), u2)) (sym is)
@@ -121,7 +121,7 @@ module _ {K D : Type 0} (text : K → List ℕ) (literal : D → List ℕ) (v : 
     pub object_again : value_tree text literal (Object es) ≡ value_tree text literal v
     object_again = ap (value_tree text literal) (made_of_members v es is)
 
-    pub member_edited : (m w : Value K D) (rest : List Part) (change : Rewrite) (r : Result (Option (Value K D)) (ReadError Refusal)) → Some m ≡ value_at text es k
+    pub member_edited : (m w : Value K D) (rest : List Part) (change : Rewrite) (r : Result (Option (Value K D)) (MemoryOr Refusal)) → Some m ≡ value_at text es k
         → IsEdited (value_tree text literal) r (value_tree text literal m) (value_tree text literal w) (write_at (value_tree text literal m) rest change)
         → IsEdited (value_tree text literal) r (value_tree text literal v) (value_tree text literal (Object (set_value text es k w))) (write_at (value_tree text literal v) (key k ∷ rest) change)
     member_edited m w rest change r found edited =
@@ -148,7 +148,7 @@ module _ {K D : Type 0} (text : K → List ℕ) (literal : D → List ℕ) (v : 
     array_child : child (value_tree text literal v) (place i) ≡ item_at (items_view text literal vs.items) i
     array_child = ap (λ t. child t (place i)) (sym array_again ∙ tree-Array text literal vs)
 
-    pub item_edited : (m w : Value K D) (rest : List Part) (change : Rewrite) (r : Result (Option (Value K D)) (ReadError Refusal)) → i < length vs.items → m ≡ get_or vs.items i m
+    pub item_edited : (m w : Value K D) (rest : List Part) (change : Rewrite) (r : Result (Option (Value K D)) (MemoryOr Refusal)) → i < length vs.items → m ≡ get_or vs.items i m
         → IsEdited (value_tree text literal) r (value_tree text literal m) (value_tree text literal w) (write_at (value_tree text literal m) rest change)
         → IsEdited (value_tree text literal) r (value_tree text literal v) (value_tree text literal (Array (with_item vs i w))) (write_at (value_tree text literal v) (place i ∷ rest) change)
     item_edited m w rest change r within found edited =

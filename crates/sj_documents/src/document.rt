@@ -20,7 +20,7 @@ use crate::reads::{contains_at, find, len_at, put_answer, put_found, put_keys_at
 use sj_base::put_string;
 use sj_object::ObjectKey;
 use sj_owned::{Literal, OwnedValue, Value};
-use sj_scripts::{PathPart, ReadError, ScriptValue};
+use sj_scripts::{MemoryOr, PathPart, ScriptValue};
 use std::alloc::{AllocError, Global};
 
 /// A document in one of the forms that a run keeps it in. A call that takes `out` appends to it, and on an error appends
@@ -266,8 +266,8 @@ impl<K: ScriptText<D> + Drop, D: Literal + Drop> Document for Value<K, D> {
         let Inverse { path, change } = inverse;
         match edit_at(alloc, self, &path, Edit::Back(change)) {
             Ok(_) => Ok(true),
-            Err(ReadError::Refused(_)) => Ok(false),
-            Err(ReadError::Memory) => Err(AllocError),
+            Err(MemoryOr::Refused(_)) => Ok(false),
+            Err(MemoryOr::Memory) => Err(AllocError),
         }
     }
 
@@ -298,11 +298,11 @@ fn make_write<K: ScriptText<D> + Drop, D: Literal + Drop>(
             put_found(change.found(), out)?;
             Ok(Some(Inverse { path, change }))
         }
-        Err(ReadError::Refused(refusal)) => {
+        Err(MemoryOr::Refused(refusal)) => {
             put_string(out, refusal.name())?;
             Ok(None)
         }
-        Err(ReadError::Memory) => Err(AllocError),
+        Err(MemoryOr::Memory) => Err(AllocError),
     }
 }
 

@@ -15,7 +15,7 @@ use crate::refusal::Refusal;
 use sj_base::{AccessError, DecimalBuf, DecimalCow, TryCopy};
 use sj_object::{Object, ObjectKey};
 use sj_owned::{FromString, Literal, OwnedValue, Value, from_borrowed};
-use sj_scripts::{PathPart, ReadError};
+use sj_scripts::{MemoryOr, PathPart};
 use std::alloc::{AllocError, Global};
 use std::borrow::CowStr;
 use std::mem;
@@ -154,7 +154,7 @@ pub(crate) fn edit_at<K: ScriptText<D> + Drop, D: Literal + Drop>(
     document: &mut Value<K, D>,
     path: &[PathPart],
     edit: Edit<'_>,
-) -> Result<Option<Value<K, D>>, ReadError<Refusal>>
+) -> Result<Option<Value<K, D>>, MemoryOr<Refusal>>
     ensures { IsEdited (value_tree K.text D.literal) result (value_tree K.text D.literal document.old) (value_tree K.text D.literal document.new)
         (write_at (value_tree K.text D.literal document.old) (path_view path.now) (change_of edit.entry)) }
 {
@@ -164,20 +164,20 @@ pub(crate) fn edit_at<K: ScriptText<D> + Drop, D: Literal + Drop>(
     match part {
         PathPart::Key(name) => {
             let Some(members) = document.as_object_mut() else {
-                return Err(ReadError::Refused(Refusal::NoSuchPath));
+                return Err(MemoryOr::Refused(Refusal::NoSuchPath));
             };
             match members.get_mut(name) {
                 Some(member) => edit_at(alloc, member, rest, edit),
-                None => Err(ReadError::Refused(Refusal::NoSuchPath)),
+                None => Err(MemoryOr::Refused(Refusal::NoSuchPath)),
             }
         }
         PathPart::Item(place) => {
             let Some(items) = document.as_array_mut() else {
-                return Err(ReadError::Refused(Refusal::NoSuchPath));
+                return Err(MemoryOr::Refused(Refusal::NoSuchPath));
             };
             match items.get_mut(*place as usize) {
                 Some(item) => edit_at(alloc, item, rest, edit),
-                None => Err(ReadError::Refused(Refusal::NoSuchPath)),
+                None => Err(MemoryOr::Refused(Refusal::NoSuchPath)),
             }
         }
     }
@@ -187,7 +187,7 @@ fn edit_part<K: ScriptText<D> + Drop, D: Literal + Drop>(
     alloc: Global,
     part: &mut Value<K, D>,
     edit: Edit<'_>,
-) -> Result<Option<Value<K, D>>, ReadError<Refusal>>
+) -> Result<Option<Value<K, D>>, MemoryOr<Refusal>>
     ensures { IsEdited (value_tree K.text D.literal) result (value_tree K.text D.literal part.old) (value_tree K.text D.literal part.new)
         (change_of edit.entry (value_tree K.text D.literal part.old)) }
 {
@@ -197,7 +197,7 @@ fn edit_part<K: ScriptText<D> + Drop, D: Literal + Drop>(
             if change_part(alloc, part, change)? {
                 Ok(None)
             } else {
-                Err(ReadError::Refused(Refusal::NoSuchPath))
+                Err(MemoryOr::Refused(Refusal::NoSuchPath))
             }
         }
     }
@@ -207,7 +207,7 @@ fn write_part<K: ScriptText<D> + Drop, D: Literal + Drop>(
     alloc: Global,
     part: &mut Value<K, D>,
     write: Write<'_>,
-) -> Result<Option<Value<K, D>>, ReadError<Refusal>>
+) -> Result<Option<Value<K, D>>, MemoryOr<Refusal>>
     ensures { IsEdited (value_tree K.text D.literal) result (value_tree K.text D.literal part.old) (value_tree K.text D.literal part.new)
         (rewrite_of write.entry (value_tree K.text D.literal part.old)) }
 {
@@ -215,16 +215,16 @@ fn write_part<K: ScriptText<D> + Drop, D: Literal + Drop>(
         Write::Insert { key, value, fits } => insert_member(alloc, part, key, value, fits),
         Write::Remove { key, .. } => match part.remove(key) {
             Ok(old) => Ok(old),
-            Err(_) => Err(ReadError::Refused(Refusal::NotAnObject)),
+            Err(_) => Err(MemoryOr::Refused(Refusal::NotAnObject)),
         },
         Write::Push { value, fits } => push_last(alloc, part, value, fits),
         Write::Pop => match part.pop() {
             Ok(last) => Ok(last),
-            Err(_) => Err(ReadError::Refused(Refusal::NotAnArray)),
+            Err(_) => Err(MemoryOr::Refused(Refusal::NotAnArray)),
         },
         Write::Set { value, fits } => {
             if !fits {
-                return Err(ReadError::Refused(Refusal::TooDeep));
+                return Err(MemoryOr::Refused(Refusal::TooDeep));
             }
             let new = K::from_owned(alloc, value.try_clone()?)?;
             Ok(Some(mem::replace(part, new)))
@@ -238,21 +238,21 @@ fn insert_member<K: ScriptText<D> + Drop, D: Literal + Drop>(
     key: &str,
     value: &OwnedValue,
     fits: bool,
-) -> Result<Option<Value<K, D>>, ReadError<Refusal>>
+) -> Result<Option<Value<K, D>>, MemoryOr<Refusal>>
     ensures { IsEdited (value_tree K.text D.literal) result (value_tree K.text D.literal part.old) (value_tree K.text D.literal part.new)
         (insertion fits key.now (owned_tree value.now) (value_tree K.text D.literal part.old)) }
 {
     if !part.is_object() {
-        return Err(ReadError::Refused(Refusal::NotAnObject));
+        return Err(MemoryOr::Refused(Refusal::NotAnObject));
     }
     if !fits {
-        return Err(ReadError::Refused(Refusal::TooDeep));
+        return Err(MemoryOr::Refused(Refusal::TooDeep));
     }
     let name = K::from_string(String::from_str(alloc, key)?);
     let new = K::from_owned(alloc, value.try_clone()?)?;
     match part.insert(name, new) {
         Ok(old) => Ok(old),
-        Err(_) => Err(ReadError::Memory),
+        Err(_) => Err(MemoryOr::Memory),
     }
 }
 
@@ -261,19 +261,19 @@ fn push_last<K: ScriptText<D> + Drop, D: Literal + Drop>(
     part: &mut Value<K, D>,
     value: &OwnedValue,
     fits: bool,
-) -> Result<Option<Value<K, D>>, ReadError<Refusal>>
+) -> Result<Option<Value<K, D>>, MemoryOr<Refusal>>
     ensures { IsEdited (value_tree K.text D.literal) result (value_tree K.text D.literal part.old) (value_tree K.text D.literal part.new)
         (pushing fits (owned_tree value.now) (value_tree K.text D.literal part.old)) }
 {
     if !part.is_array() {
-        return Err(ReadError::Refused(Refusal::NotAnArray));
+        return Err(MemoryOr::Refused(Refusal::NotAnArray));
     }
     if !fits {
-        return Err(ReadError::Refused(Refusal::TooDeep));
+        return Err(MemoryOr::Refused(Refusal::TooDeep));
     }
     match part.push(K::from_owned(alloc, value.try_clone()?)?) {
         Ok(()) => Ok(None),
-        Err(_) => Err(ReadError::Memory),
+        Err(_) => Err(MemoryOr::Memory),
     }
 }
 

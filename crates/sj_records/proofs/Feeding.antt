@@ -72,5 +72,9 @@ module _ (job : Job) where
       let none = ended-none (line ++ rest) (HasNoLineFeed-append line rest f.clean free) in
       rw (f.ended_is, none, append-nil f.done) f.wrote
 
+  -- So all lines are done.
+  pub Feeding-done : (a b : Option (List ℕ)) (stream line rest : List ℕ) (f : Feeding job a b stream line rest) → HasNoLineFeed rest → f.done ≡ ended stream
+  Feeding-done a b stream line rest f free = sym (f.ended_is ∙ ap (λ ls. f.done ++ ls) (ended-none (line ++ rest) (HasNoLineFeed-append line rest f.clean free)) ∙ append-nil f.done)
+
   pub Feeding-kept : (a b : Option (List ℕ)) (stream line rest : List ℕ) → Feeding job a b stream line rest → HasNoLineFeed rest → line ++ rest ≡ unended stream
   Feeding-kept a b stream line rest f free = sym (f.unended_is ∙ unended-none (line ++ rest) (HasNoLineFeed-append line rest f.clean free))

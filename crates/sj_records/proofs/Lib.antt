@@ -1,4 +1,5 @@
 pub mod Cut
+pub mod Texts
 pub mod Written
 pub mod Total
 pub mod Feeding

@@ -13,6 +13,7 @@ use Rattle.sj_records.specs.Record.{record_of}
 use Rattle.sj_scripts.specs.Script.{commands_view}
 use Rattle.sj_documents.specs.inside.Documents.{separator, items_left}
 use Rattle.sj_records.specs.inside.Reloads.{record_from, IsPrinted, Reloads, Runs}
+use Rattle.sj_records.specs.Texts.{reread, reloads}
 
 -- the text of a record whose first commands are still to be run
 pub record_begun : (job : Job) (s : State) (cs : List Step) (out : List ℕ)
@@ -67,22 +68,24 @@ none_left : (b : Bool) → items_left b no_items ≡ []
 none_left true = refl
 none_left false = refl
 
--- Since the state was `first`, the commands before `left` were run, and their replies were appended to `before`.
-pub record Running (job : Job) (first : State) (cs left : List Step) (began is_first : Bool) (before out : List ℕ) : Type 0 where
+-- Since the state was `first`, the commands before `left` were run, and their replies were appended to `before`. The texts are
+-- those that their reloads are to read.
+pub record Running (job : Job) (first : State) (cs left : List Step) (began is_first : Bool) (before out : List ℕ) (texts : List (List ℕ)) : Type 0 where
   pub ran : List Step
   pub parts : cs ≡ ran ++ left
   pub within : length left ≤ length cs
   pub written : out ++ record_from job (after job first ran) left is_first ≡ before ++ record_from job first cs began
+  pub read : reloads job first cs ≡ texts ++ reloads job (after job first ran) left
 
 module _ (job : Job) (first : State) (cs : List Step) (began : Bool) (before : List ℕ) where
-  pub Running-begin : (r : Running job first cs cs began began before before) × (after job first r.ran ≡ first)
-  Running-begin = (record { ran = []; parts = refl; within = omega arith; written = refl }, refl)
+  pub Running-begin : (r : Running job first cs cs began began before before []) × (after job first r.ran ≡ first)
+  Running-begin = (record { ran = []; parts = refl; within = omega arith; written = refl; read = refl }, refl)
 
   -- one more command
-  pub Running-more : (left rest : List Step) (c : Step) (b : Bool) (out mid new : List ℕ) (r : Running job first cs left began b before out) → left ≡ c ∷ rest
-      → mid ≡ out ++ separator b → new ≡ mid ++ text (step job (after job first r.ran) c).0
-      → (m : Running job first cs rest began false before new) × (after job first m.ran ≡ (step job (after job first r.ran) c).1)
-  Running-more left rest c b out mid new r is between replied =
+  pub Running-more : (left rest : List Step) (c : Step) (b : Bool) (out mid new : List ℕ) (texts : List (List ℕ)) (r : Running job first cs left began b before out []) → left ≡ c ∷ rest
+      → mid ≡ out ++ separator b → new ≡ mid ++ text (step job (after job first r.ran) c).0 → reread (after job first r.ran) c ≡ texts
+      → (m : Running job first cs rest began false before new texts) × (after job first m.ran ≡ (step job (after job first r.ran) c).1)
+  Running-more left rest c b out mid new texts r is between replied reads =
       let s = after job first r.ran in
       let u = (step job s c).1 in
       let reached : after job first (r.ran ++ c ∷ []) ≡ u = after_join job first r.ran (c ∷ []) in
@@ -100,31 +103,34 @@ module _ (job : Job) (first : State) (cs : List Step) (began : Bool) (before : L
           parts = r.parts ∙ ap (λ ls. r.ran ++ ls) is ∙ sym (append_assoc r.ran (c ∷ []) rest);
           within = omega arith;
           written = ap (λ (v : State). new ++ record_from job v rest false) reached ∙ now ∙ r.written;
+          read = r.read ∙ ap (λ ls. reloads job s ls) is ∙ ap (λ ts. ts ++ reloads job u rest) reads ∙ ap (λ (v : State). texts ++ reloads job v rest) (sym reached);
         },
         reached,
       )
 
   -- up to a reload
-  pub Running-stop : (left : List Step) (b : Bool) (history : List Inverse) (printed out : List ℕ) (r : Running job first cs left began b before out) → b ≡ false → length left < length cs → IsPrinted (after job first r.ran).tree printed
-      → StandFor job.keeping (after job first r.ran).tree history (after job first r.ran) → Reloads job first cs left began history printed before out
+  pub Running-stop : (left : List Step) (b : Bool) (history : List Inverse) (printed out : List ℕ) (r : Running job first cs left began b before out (printed ∷ [])) → b ≡ false → length left < length cs → IsPrinted (after job first r.ran).tree printed
+      → StandFor job.keeping (after job first r.ran).tree history (after job first r.ran) → Reloads job first cs left began history printed before out []
   Running-stop left b history printed out r later fewer is_printed stands =
-      record { ran = r.ran; parts = r.parts; fewer = fewer; is_printed = is_printed; stands = stands; written = ap (λ (b : Bool). out ++ record_from job (after job first r.ran) left b) (sym later) ∙ r.written }
+      record { ran = r.ran; parts = r.parts; fewer = fewer; is_printed = is_printed; stands = stands; written = ap (λ (b : Bool). out ++ record_from job (after job first r.ran) left b) (sym later) ∙ r.written; read = r.read }
 
   -- up to the end
-  pub Running-end : (left : List Step) (b : Bool) (t : Tree) (out named shown new : List ℕ) (r : Running job first cs left began b before out) → left ≡ [] → (after job first r.ran).tree ≡ t
-      → named ≡ out ++ codes "],\"document\":" → shown ≡ named ++ text t → new ≡ shown ++ 0x7d ∷ [] → new ≡ before ++ record_from job first cs began
+  pub Running-end : (left : List Step) (b : Bool) (t : Tree) (out named shown new : List ℕ) (r : Running job first cs left began b before out []) → left ≡ [] → (after job first r.ran).tree ≡ t
+      → named ≡ out ++ codes "],\"document\":" → shown ≡ named ++ text t → new ≡ shown ++ 0x7d ∷ [] → (new ≡ before ++ record_from job first cs began) × (reloads job first cs ≡ [])
   Running-end left b t out named shown new r none is names shows ends =
       let s = after job first r.ran in
       let apart : ((out ++ codes "],\"document\":") ++ text t) ++ 0x7d ∷ [] ≡ out ++ (codes "],\"document\":" ++ (text t ++ 0x7d ∷ [])) = simp (append_assoc) in
       let last : out ++ record_from job s [] b ≡ out ++ (codes "],\"document\":" ++ (text t ++ 0x7d ∷ [])) =
-      ap₂ (λ (bs : List ℕ) (u : Tree). out ++ (bs ++ (codes "],\"document\":" ++ (text u ++ 0x7d ∷ [])))) (none_left b) is in
-      ends ∙ ap (λ bs. bs ++ 0x7d ∷ []) (shows ∙ ap (λ bs. bs ++ text t) names) ∙ apart ∙ sym last ∙ ap (λ ls. out ++ record_from job s ls b) (sym none) ∙ r.written
+      ap₂ (λ (bs : List ℕ) (u : Tree). out ++ (bs ++ (codes "],\"document\":" ++ (text u ++ 0x7d ∷ [])))) (none_left b) is in (
+        ends ∙ ap (λ bs. bs ++ 0x7d ∷ []) (shows ∙ ap (λ bs. bs ++ text t) names) ∙ apart ∙ sym last ∙ ap (λ ls. out ++ record_from job s ls b) (sym none) ∙ r.written,
+        r.read ∙ ap (λ ls. reloads job s ls) none,
+      )
 
 -- the commands behind a reload, after those before it
-pub Runs-on : (job : Job) (s : State) (cs left : List Step) (b : Bool) (next : Option (List Command)) (history history2 : List Inverse) (printed printed2 old mid new : List ℕ) (r : Reloads job s cs left b history printed old mid)
-    → Runs job (after job s r.ran) left false next history2 printed2 mid new → Runs job s cs b next history2 printed2 old new
-Runs-on job s cs left b None history history2 printed printed2 old mid new r done = done ∙ r.written
-Runs-on job s cs left b (Some next) history history2 printed printed2 old mid new r more =
+pub Runs-on : (job : Job) (s : State) (cs left : List Step) (b : Bool) (next : Option (List Command)) (history history2 : List Inverse) (printed printed2 old mid new : List ℕ) (texts texts2 : List (List ℕ)) (r : Reloads job s cs left b history printed old mid texts)
+    → Runs job (after job s r.ran) left false next history2 printed2 mid new texts2 → Runs job s cs b next history2 printed2 old new (texts ++ printed ∷ texts2)
+Runs-on job s cs left b None history history2 printed printed2 old mid new texts texts2 r done = (done.0 ∙ r.written, r.read ∙ ap (λ ts. texts ++ printed ∷ ts) done.1)
+Runs-on job s cs left b (Some next) history history2 printed printed2 old mid new texts texts2 r more =
     let reached = after_join job s r.ran more.ran in
     let first = r.fewer in
     let then = more.fewer in
@@ -135,6 +141,8 @@ Runs-on job s cs left b (Some next) history history2 printed printed2 old mid ne
       is_printed = subst (λ (u : State). IsPrinted u.tree printed2) (sym reached) more.is_printed;
       stands = subst (λ (u : State). StandFor job.keeping u.tree history2 u) (sym reached) more.stands;
       written = ap (λ (u : State). new ++ record_from job u (commands_view next) false) reached ∙ more.written ∙ r.written;
+      read = r.read ∙ ap (λ ts. texts ++ printed ∷ ts) more.read ∙ sym (append_assoc texts (printed ∷ texts2) (printed2 ∷ reloads job (after job (after job s r.ran) more.ran) (commands_view next)))
+          ∙ ap (λ (u : State). (texts ++ printed ∷ texts2) ++ printed2 ∷ reloads job u (commands_view next)) (sym reached);
     }
 
 -- the number of commands behind a reload, and one more
@@ -142,6 +150,6 @@ abbrev pub left_len : Option (List Command) → ℕ
 left_len None = 0
 left_len (Some left) = suc (length (commands_view left))
 
-pub fewer_left : (job : Job) (s : State) (cs : List Step) (b : Bool) (next : Option (List Command)) (history : List Inverse) (printed old new : List ℕ) → Runs job s cs b next history printed old new → left_len next ≤ length cs
-fewer_left job s cs b None history printed old new done = omega arith
-fewer_left job s cs b (Some next) history printed old new more = let fewer = more.fewer in omega arith
+pub fewer_left : (job : Job) (s : State) (cs : List Step) (b : Bool) (next : Option (List Command)) (history : List Inverse) (printed old new : List ℕ) (texts : List (List ℕ)) → Runs job s cs b next history printed old new texts → left_len next ≤ length cs
+fewer_left job s cs b None history printed old new texts done = omega arith
+fewer_left job s cs b (Some next) history printed old new texts more = let fewer = more.fewer in omega arith

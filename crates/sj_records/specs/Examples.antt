@@ -17,6 +17,7 @@ use Rattle.sj_parse.specs.Descent.{value}
 use Rattle.sj_parse.specs.Fault.{generic}
 use Rattle.sj_records.specs.History.{bases_from}
 use Rattle.sj_records.specs.Record.{outcome, IsRecord}
+use Rattle.sj_records.specs.Texts.{reloads}
 use Rattle.sj_scripts.specs.Examples.{one, two, word, number, empty_list, empty_object, repeated_key, a_is_1}
 
 -- lines
@@ -137,6 +138,11 @@ repeats_undone = refl
 nothing_undone : text (outcome (owned (push [] (number 1) ∷ remove [] (codes "z") ∷ undo ∷ undo ∷ [])) a_is_1) ≡ codes "{\"replies\":[\"NotAnArray\",[],true,false],\"document\":{\"a\":1}}"
 unfolding digits
 nothing_undone = refl
+
+-- [["reload_pp"],["remove",[],"a"],["reload"]] reads two texts
+texts_reloaded : reloads (owned []) (begun (owned []) a_is_1) (reload_pp ∷ remove [] (codes "a") ∷ reload ∷ []) ≡ codes "{\n  \"a\": 1\n}" ∷ codes "{}" ∷ []
+unfolding digits
+texts_reloaded = refl
 
 -- inverses bring back one base after the other, the newest first
 two_bases : bases_from ((place 0 ∷ [], set_part (number 7)) ∷ ([], drop_item) ∷ []) (list (two (number 8) (number 9))) ≡ Some (list (two (number 7) (number 9)) ∷ list (one (number 7)) ∷ [])

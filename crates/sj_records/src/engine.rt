@@ -5,8 +5,10 @@ ghost use Rattle.sj_parse.specs.Answers.{buffer_limit};
 ghost use Rattle.sj_records.specs.Lines.{ended, unended, if_any};
 ghost use Rattle.sj_records.specs.Run.{Transfers, LeavesOutput, ReadsFor, WritesFor};
 ghost use Rattle.sj_records.specs.Job.{job_of};
+ghost use Rattle.sj_records.specs.Texts.{HasReadLines, HasReadStream};
 ghost use Rattle.sj_records.specs.inside.Progress.{HasNoLineFeed, LeavesLines, LeavesBytes, task_job};
 
+use crate::counted_buffers::CountedBuffers;
 use crate::form::Form;
 use crate::run_error::RunError;
 use crate::task::{Scratch, Task, make_record};
@@ -16,6 +18,8 @@ use sj_scripts::Script;
 use sj_tape::Tape;
 use std::alloc::{AllocError, Global};
 use std::io::ErrorKind;
+use std::marker::Brand;
+use std::sync::ledger::{Blank, Ledger};
 
 /// Splits a piece at its first line feed, into the bytes before it and those behind it, or else returns all of it.
 fn split_line<'p>(piece: &'p mut [u8]) -> (&'p mut [u8], Option<&'p mut [u8]>)
@@ -50,19 +54,20 @@ struct Pending {
 }
 
 /// Writes the record of a line. The line is rewritten, and the tape filled anew.
-fn write_record<'de, W: Sink>(
+fn write_record<'de, W: Sink, L: Ledger>(
     alloc: Global,
     writer: &mut W,
-    buffers: &mut Buffers,
+    buffers: &mut CountedBuffers<L>,
     scratch: &mut Scratch,
     tape: &mut Tape<'de>,
     line: &'de mut [u8],
     task: Task<'_>,
 ) -> Result<(), RunError>
-    requires { buffer_limit buffers.old ≡ task.depth }
+    requires { buffers.old.limit ≡ task.depth }
     ensures stands { LeavesLines result (task_job task.entry) (W.contents writer.old) (W.contents writer.new)
         [] (line.entry.now ∷ []) }
-    ensures limit { buffer_limit buffers.new ≡ buffer_limit buffers.old }
+    ensures read { OnOk result (HasReadLines (task_job task.entry) buffers.old buffers.new (line.entry.now ∷ [])) }
+    ensures limit { buffers.new.limit ≡ buffers.old.limit }
     ensures writes { WritesFor result (W.calls writer.old) (W.calls writer.new) }
 {
     make_record(alloc, buffers, scratch, tape, line, task)?;
@@ -70,17 +75,18 @@ fn write_record<'de, W: Sink>(
 }
 
 /// Writes the record of the pending line, which is rewritten.
-fn write_pending<W: Sink>(
+fn write_pending<W: Sink, L: Ledger>(
     alloc: Global,
     writer: &mut W,
-    buffers: &mut Buffers,
+    buffers: &mut CountedBuffers<L>,
     pending: &mut Pending,
     task: Task<'_>,
 ) -> Result<(), RunError>
-    requires { buffer_limit buffers.old ≡ task.depth }
+    requires { buffers.old.limit ≡ task.depth }
     ensures stands { LeavesLines result (task_job task.entry) (W.contents writer.old) (W.contents writer.new)
         [] (pending.old.line.items ∷ []) }
-    ensures limit { buffer_limit buffers.new ≡ buffer_limit buffers.old }
+    ensures read { OnOk result (HasReadLines (task_job task.entry) buffers.old buffers.new (pending.old.line.items ∷ [])) }
+    ensures limit { buffers.new.limit ≡ buffers.old.limit }
     ensures writes { WritesFor result (W.calls writer.old) (W.calls writer.new) }
 {
     let Pending { line, scratch } = pending;
@@ -97,20 +103,22 @@ fn write_pending<W: Sink>(
 
 /// Writes the record of the pending line, of which `end` is the last part, and clears the line. Both are rewritten. The
 /// tape is filled anew if `end` is the whole line.
-fn complete_line<'p, W: Sink>(
+fn complete_line<'p, W: Sink, L: Ledger>(
     alloc: Global,
     writer: &mut W,
-    buffers: &mut Buffers,
+    buffers: &mut CountedBuffers<L>,
     pending: &mut Pending,
     tape: &mut Tape<'p>,
     end: &'p mut [u8],
     task: Task<'_>,
 ) -> Result<(), RunError>
-    requires { buffer_limit buffers.old ≡ task.depth }
+    requires { buffers.old.limit ≡ task.depth }
     ensures stands { LeavesLines result (task_job task.entry) (W.contents writer.old) (W.contents writer.new)
         [] ((pending.old.line.items ++ end.entry.now) ∷ []) }
+    ensures read { OnOk result (HasReadLines (task_job task.entry) buffers.old buffers.new
+        ((pending.old.line.items ++ end.entry.now) ∷ [])) }
     ensures cleared { OnOk result (pending.new.line.items ≡ []) }
-    ensures limit { buffer_limit buffers.new ≡ buffer_limit buffers.old }
+    ensures limit { buffers.new.limit ≡ buffers.old.limit }
     ensures writes { WritesFor result (W.calls writer.old) (W.calls writer.new) }
 {
     if pending.line.is_empty() {
@@ -132,21 +140,23 @@ fn complete_line<'p, W: Sink>(
 
 /// Writes the record of each line that the piece ends, and keeps the bytes behind the last line feed. The piece is
 /// rewritten.
-fn process_piece<W: Sink>(
+fn process_piece<W: Sink, L: Ledger>(
     alloc: Global,
     writer: &mut W,
-    buffers: &mut Buffers,
+    buffers: &mut CountedBuffers<L>,
     pending: &mut Pending,
     piece: &mut [u8],
     task: Task<'_>,
 ) -> Result<(), RunError>
     requires clean { HasNoLineFeed pending.old.line.items }
-    requires limit { buffer_limit buffers.old ≡ task.depth }
+    requires limit { buffers.old.limit ≡ task.depth }
     ensures stands { let lines = ended (pending.old.line.items ++ piece.old) in
         LeavesLines result (task_job task.entry) (W.contents writer.old) (W.contents writer.new) lines lines }
     ensures kept { OnOk result
         (pending.new.line.items ≡ unended (pending.old.line.items ++ piece.old)) }
-    ensures limit { buffer_limit buffers.new ≡ buffer_limit buffers.old }
+    ensures read { OnOk result (HasReadLines (task_job task.entry) buffers.old buffers.new
+        (ended (pending.old.line.items ++ piece.old))) }
+    ensures limit { buffers.new.limit ≡ buffers.old.limit }
     ensures writes { WritesFor result (W.calls writer.old) (W.calls writer.new) }
 {
     // Its nodes borrow from the lines of the piece.
@@ -164,17 +174,18 @@ fn process_piece<W: Sink>(
 }
 
 /// Writes the record of a last line that no line feed ends. The line is rewritten.
-fn finish<W: Sink>(
+fn finish<W: Sink, L: Ledger>(
     alloc: Global,
     writer: &mut W,
-    buffers: &mut Buffers,
+    buffers: &mut CountedBuffers<L>,
     pending: &mut Pending,
     task: Task<'_>,
 ) -> Result<(), RunError>
-    requires { buffer_limit buffers.old ≡ task.depth }
+    requires { buffers.old.limit ≡ task.depth }
     ensures stands { LeavesLines result (task_job task.entry) (W.contents writer.old) (W.contents writer.new)
         [] (if_any pending.old.line.items) }
-    ensures limit { buffer_limit buffers.new ≡ buffer_limit buffers.old }
+    ensures read { OnOk result (HasReadLines (task_job task.entry) buffers.old buffers.new (if_any pending.old.line.items)) }
+    ensures limit { buffers.new.limit ≡ buffers.old.limit }
     ensures writes { WritesFor result (W.calls writer.old) (W.calls writer.new) }
 {
     if pending.line.is_empty() {
@@ -196,23 +207,25 @@ fn zeros(alloc: Global, len: usize) -> Result<Vec<u8>, AllocError>
 }
 
 /// `run_with` with at most `max_reads` reads.
-fn run_within<R: Source, W: Sink>(
+fn run_within<R: Source, W: Sink, L: Ledger>(
     alloc: Global,
     reader: &mut R,
     writer: &mut W,
-    buffers: &mut Buffers,
+    buffers: &mut CountedBuffers<L>,
     task: Task<'_>,
     max_reads: u64,
 ) -> Result<(), RunError>
-    requires { buffer_limit buffers.old ≡ task.depth }
+    requires { buffers.old.limit ≡ task.depth }
     ensures stands { Transfers (R.remaining reader.old) (R.remaining reader.new)
         (W.contents writer.old) (W.contents writer.new)
         (LeavesOutput result (task_job task.entry)) }
     ensures at_end { OnOk result (IsAtEnd (R.remaining reader.new)) }
+    ensures read { OnOk result (HasReadStream (task_job task.entry) (R.remaining reader.old) (R.remaining reader.new)
+        buffers.old buffers.new) }
     ensures reads { ReadsFor max_reads result (R.calls reader.old) (R.calls reader.new) }
     ensures bound { (R.calls reader.new).made ≤ (R.calls reader.old).made + max_reads }
     ensures writes { WritesFor result (W.calls writer.old) (W.calls writer.new) }
-    ensures limit { buffer_limit buffers.new ≡ buffer_limit buffers.old }
+    ensures limit { buffers.new.limit ≡ buffers.old.limit }
 {
     let mut pending = Pending {
         line: Vec::new(alloc),
@@ -265,8 +278,31 @@ pub fn run<R: Source, W: Sink>(
     ensures bound { (R.calls reader.new).made ≤ (R.calls reader.old).made + 2 ^ 62 }
     ensures writes { WritesFor result (W.calls writer.old) (W.calls writer.new) }
 {
-    let mut buffers = Buffers::with_max_depth(alloc, 0, depth)?;
-    run_with(alloc, reader, writer, script, form, &mut buffers)
+    let buffers = Buffers::with_max_depth(alloc, 0, depth)?;
+    run_in::<R, W, Brand>(alloc, reader, writer, script, form, buffers, Blank::new(1))
+}
+
+/// Does what [`run`] does, in these buffers. The blank opens the count of the texts that are read.
+fn run_in<R: Source, W: Sink, L: Ledger>(
+    alloc: Global,
+    reader: &mut R,
+    writer: &mut W,
+    script: &Script,
+    form: Form,
+    buffers: Buffers,
+    texts: Blank,
+) -> Result<(), RunError>
+    requires { (texts.name ≡ L.name) × (texts.parts ≡ L.parts) × (texts.parts ≡ 1) }
+    ensures stands { Transfers (R.remaining reader.old) (R.remaining reader.new)
+        (W.contents writer.old) (W.contents writer.new)
+        (LeavesOutput result (job_of script.now (buffer_limit buffers) form)) }
+    ensures at_end { OnOk result (IsAtEnd (R.remaining reader.new)) }
+    ensures reads { ReadsFor (2 ^ 62) result (R.calls reader.old) (R.calls reader.new) }
+    ensures bound { (R.calls reader.new).made ≤ (R.calls reader.old).made + 2 ^ 62 }
+    ensures writes { WritesFor result (W.calls writer.old) (W.calls writer.new) }
+{
+    let mut counted = CountedBuffers::<L>::new(buffers, texts);
+    run_with(alloc, reader, writer, script, form, &mut counted)
 }
 
 /// Does what [`run`] does, under the limit of levels of the buffers, whose room is used for each line. Runs that use the same
@@ -277,23 +313,26 @@ pub fn run<R: Source, W: Sink>(
 /// # Errors
 ///
 /// See [`RunError`] for each error and what is written before it. The buffers can be used again after each.
-pub fn run_with<R: Source, W: Sink>(
+pub fn run_with<R: Source, W: Sink, L: Ledger>(
     alloc: Global,
     reader: &mut R,
     writer: &mut W,
     script: &Script,
     form: Form,
-    buffers: &mut Buffers,
+    buffers: &mut CountedBuffers<L>,
 ) -> Result<(), RunError>
     // As of `run`, with the limit of the buffers in the place of `depth`.
     ensures stands { Transfers (R.remaining reader.old) (R.remaining reader.new)
         (W.contents writer.old) (W.contents writer.new)
-        (LeavesOutput result (job_of script.now (buffer_limit buffers.old) form)) }
+        (LeavesOutput result (job_of script.now buffers.old.limit form)) }
     ensures at_end { OnOk result (IsAtEnd (R.remaining reader.new)) }
+    // Which texts were read by the buffers, on `Ok`: those of the lines.
+    ensures read { OnOk result (HasReadStream (job_of script.now buffers.old.limit form) (R.remaining reader.old)
+        (R.remaining reader.new) buffers.old buffers.new) }
     ensures reads { ReadsFor (2 ^ 62) result (R.calls reader.old) (R.calls reader.new) }
     ensures bound { (R.calls reader.new).made ≤ (R.calls reader.old).made + 2 ^ 62 }
     ensures writes { WritesFor result (W.calls writer.old) (W.calls writer.new) }
-    ensures limit { buffer_limit buffers.new ≡ buffer_limit buffers.old }
+    ensures limit { buffers.new.limit ≡ buffers.old.limit }
 {
     let task = Task {
         script,

@@ -5,18 +5,20 @@ ghost use Rattle.sj_base.specs.Spelling.{longest};
 ghost use Rattle.sj_base.specs.Tree.{Tree};
 ghost use Rattle.sj_base.specs.Keep.{keep};
 ghost use Rattle.sj_base.specs.Text.{text as text_of};
-ghost use Rattle.sj_parse.specs.Answers.{IsTapeOf, buffer_limit};
+ghost use Rattle.sj_parse.specs.Answers.{IsTapeOf};
 ghost use Rattle.sj_parse.specs.Fault.{fault};
 ghost use Rattle.sj_records.specs.History.{StandFor, Applied};
 ghost use Rattle.sj_records.specs.Record.{IsRecord, outcome, fault_record, character_of};
+ghost use Rattle.sj_records.specs.Texts.{if_read, reread, reloads, HasRead, HasReadLines};
 ghost use Rattle.sj_owned.specs.Views.{value_tree};
 ghost use Rattle.sj_scripts.specs.Script.{command_view, commands_view};
-ghost use Rattle.sj_documents.specs.Step.{State, start, reload_reply};
+ghost use Rattle.sj_documents.specs.Step.{State, begun, start, reload_reply};
 ghost use Rattle.sj_tape.specs.Views.{tape_nodes, nodes_tree};
 ghost use Rattle.sj_scripts.specs.inside.ReadErrors.{IfRefused};
 ghost use Rattle.sj_records.specs.inside.Progress.{task_job};
 ghost use Rattle.sj_records.specs.inside.Reloads.{IsReadable, IsPrinted, Runs};
 
+use crate::counted_buffers::CountedBuffers;
 use crate::form::Form;
 use crate::history::{apply, put_bool};
 use sj_base::laws::printing_reads_back;
@@ -25,12 +27,12 @@ use sj_documents::{Document, Inverse, LazyDocument, put_separator};
 use sj_object::MakeKey;
 use sj_owned::{MakeLiteral, Value, build_tape, build_value};
 use sj_parse::laws::printed_texts;
-use sj_parse::{Buffers, fill_tape};
-use sj_scripts::{Command, ReadError, Script};
+use sj_scripts::{Command, MemoryOr, Script};
 use sj_tape::Tape;
 use std::alloc::{AllocError, Global};
 use std::borrow::CowStr;
 use std::mem;
+use std::sync::ledger::Ledger;
 
 /// What is done to each line.
 #[derive(Clone, Copy)]
@@ -78,18 +80,19 @@ impl Scratch {
 
 /// Makes the record of a line, and a line feed, in place of the record and the history of the line before. The line is rewritten. The
 /// tape is filled anew.
-pub(crate) fn make_record<'de>(
+pub(crate) fn make_record<'de, L: Ledger>(
     alloc: Global,
-    buffers: &mut Buffers,
+    buffers: &mut CountedBuffers<L>,
     scratch: &mut Scratch,
     tape: &mut Tape<'de>,
     line: &'de mut [u8],
     task: Task<'_>,
 ) -> Result<(), AllocError>
-    requires { buffer_limit buffers.old ≡ task.depth }
+    requires { buffers.old.limit ≡ task.depth }
     ensures holds { OnOk result ((bytes : List ℕ) × (scratch.new.out.items ≡ bytes ++ 0x0a ∷ [])
         × IsRecord (task_job task.entry) line.entry.now bytes) }
-    ensures limit { buffer_limit buffers.new ≡ buffer_limit buffers.old }
+    ensures read { OnOk result (HasReadLines (task_job task.entry) buffers.old buffers.new (line.entry.now ∷ [])) }
+    ensures limit { buffers.new.limit ≡ buffers.old.limit }
 {
     let Scratch { room, out } = scratch;
     room.history.clear();
@@ -99,75 +102,67 @@ pub(crate) fn make_record<'de>(
     Ok(())
 }
 
-fn put_record<'de>(
+fn put_record<'de, L: Ledger>(
     alloc: Global,
-    buffers: &mut Buffers,
+    buffers: &mut CountedBuffers<L>,
     room: &mut Room,
     tape: &mut Tape<'de>,
     out: &mut Vec<u8>,
     line: &'de mut [u8],
     task: Task<'_>,
 ) -> Result<(), AllocError>
-    requires limit { buffer_limit buffers.old ≡ task.depth }
+    requires limit { buffers.old.limit ≡ task.depth }
     requires new_line { room.old.history.items ≡ [] }
     ensures holds { OnOk result ((bytes : List ℕ) × (out.new.items ≡ out.old.items ++ bytes)
         × IsRecord (task_job task.entry) line.entry.now bytes) }
-    ensures limit { buffer_limit buffers.new ≡ buffer_limit buffers.old }
+    ensures read { OnOk result (HasReadLines (task_job task.entry) buffers.old buffers.new (line.entry.now ∷ [])) }
+    ensures limit { buffers.new.limit ≡ buffers.old.limit }
 {
     match read_tape(alloc, buffers, tape, line) {
         Ok(()) => put_document_record(alloc, buffers, room, tape, task, out),
-        Err(ReadError::Refused(fault)) => put_fault_record(fault, out),
-        Err(ReadError::Memory) => Err(AllocError),
+        Err(MemoryOr::Refused(fault)) => put_fault_record(fault, out),
+        Err(MemoryOr::Memory) => Err(AllocError),
     }
 }
 
 /// Reads a line into the tape, under the limit of the buffers. The line is rewritten. The buffers keep its positions until the
 /// next one is read.
-fn read_tape<'de>(
+fn read_tape<'de, L: Ledger>(
     alloc: Global,
-    buffers: &mut Buffers,
+    buffers: &mut CountedBuffers<L>,
     tape: &mut Tape<'de>,
     line: &'de mut [u8],
-) -> Result<(), ReadError<Error>>
-    ensures found { OnOk result (IsTapeOf line.entry.now (buffer_limit buffers.old) (tape_nodes tape.new)) }
+) -> Result<(), MemoryOr<Error>>
+    ensures found { OnOk result (IsTapeOf line.entry.now buffers.old.limit (tape_nodes tape.new)) }
     ensures not_empty { OnOk result (tape_nodes tape.new ≢ []) }
-    ensures refused { IfErr result (λ e. IfRefused e (λ why. fault line.entry.now (buffer_limit buffers.old) ≡ Some why)) }
-    ensures limit { buffer_limit buffers.new ≡ buffer_limit buffers.old }
+    ensures refused { IfErr result (λ e. IfRefused e (λ why. fault line.entry.now buffers.old.limit ≡ Some why)) }
+    ensures read { OnOk result (HasRead buffers.old buffers.new (line.entry.now ∷ [])) }
+    ensures read_and_refused { IfErr result (λ e. IfRefused e (λ why. HasRead buffers.old buffers.new (line.entry.now ∷ []))) }
+    ensures limit { buffers.new.limit ≡ buffers.old.limit }
 {
-    release(alloc, buffers)?;
-    fill_tape(line, buffers, tape)?;
-    Ok(())
-}
-
-/// The most positions of a line after which the room for positions is kept.
-const KEPT_POSITIONS: usize = 1 << 20;
-
-/// Gives back the room that the line before took, if it was a long one.
-fn release(alloc: Global, buffers: &mut Buffers) -> Result<(), AllocError>
-    ensures { buffer_limit buffers.new ≡ buffer_limit buffers.old }
-{
-    if buffers.structural_indexes().len() > KEPT_POSITIONS {
-        *buffers = Buffers::with_max_depth(alloc, 0, buffers.max_depth())?;
-    }
+    buffers.release(alloc)?;
+    buffers.read(line, tape)?;
     Ok(())
 }
 
 /// Appends the record of the document of a tape, in the task's form.
-fn put_document_record(
+fn put_document_record<L: Ledger>(
     alloc: Global,
-    buffers: &mut Buffers,
+    buffers: &mut CountedBuffers<L>,
     room: &mut Room,
     tape: &mut Tape<'_>,
     task: Task<'_>,
     out: &mut Vec<u8>,
 ) -> Result<(), AllocError>
-    requires limit { buffer_limit buffers.old ≡ task.depth }
+    requires limit { buffers.old.limit ≡ task.depth }
     requires new_line { room.old.history.items ≡ [] }
     requires not_empty { tape_nodes tape.old ≢ [] }
     requires readable { IsReadable task.depth (nodes_tree (tape_nodes tape.old)) }
     ensures holds { OnOk result (out.new.items ≡ out.old.items
         ++ text_of (outcome (task_job task.entry) (nodes_tree (tape_nodes tape.old)))) }
-    ensures limit { buffer_limit buffers.new ≡ buffer_limit buffers.old }
+    ensures read { let job = task_job task.entry in
+        OnOk result (HasRead buffers.old buffers.new (reloads job (begun job (nodes_tree (tape_nodes tape.old))) job.script)) }
+    ensures limit { buffers.new.limit ≡ buffers.old.limit }
 {
     out.extend_from_slice(b"{\"replies\":[")?;
     let commands = task.script.commands();
@@ -206,20 +201,21 @@ fn build<'de, K: MakeKey<'de> + Drop, D: MakeLiteral<'de> + Drop>(
 }
 
 /// Reads the text that was printed last, and runs commands on its document, as `run_on_tape`.
-fn run_on_text<'s>(
+fn run_on_text<'s, L: Ledger>(
     alloc: Global,
-    buffers: &mut Buffers,
+    buffers: &mut CountedBuffers<L>,
     room: &mut Room,
     task: Task<'_>,
     commands: &'s [Command],
     out: &mut Vec<u8>,
 ) -> Result<Option<&'s [Command]>, AllocError>
-    requires limit { buffer_limit buffers.old ≡ task.depth }
+    requires limit { buffers.old.limit ≡ task.depth }
     requires readable { (t : Tree) × IsReadable task.depth t × IsPrinted t room.old.printed.items }
     ensures runs { IfOk result (λ left. (s : State) → IsReadable task.entry.depth s.tree → IsPrinted s.tree room.old.printed.items
         → StandFor (task_job task.entry).keeping s.tree room.old.history.items s
-        → Runs (task_job task.entry) s (commands_view commands.now) false (option_copied left) room.new.history.items room.new.printed.items out.old.items out.new.items) }
-    ensures limit { buffer_limit buffers.new ≡ buffer_limit buffers.old }
+        → Runs (task_job task.entry) s (commands_view commands.now) false (option_copied left) room.new.history.items room.new.printed.items out.old.items out.new.items []) }
+    ensures read { OnOk result (HasRead buffers.old buffers.new (room.old.printed.items ∷ [])) }
+    ensures limit { buffers.new.limit ≡ buffers.old.limit }
 {
     printing_reads_back();
     printed_texts();
@@ -231,8 +227,8 @@ fn run_on_text<'s>(
     let mut tape = Tape::empty(alloc);
     match read_tape(alloc, buffers, &mut tape, printed) {
         Ok(()) => {}
-        Err(ReadError::Refused(_)) => unreachable!(),
-        Err(ReadError::Memory) => return Err(AllocError),
+        Err(MemoryOr::Refused(_)) => unreachable!(),
+        Err(MemoryOr::Memory) => return Err(AllocError),
     }
     let left = run_on_tape(&mut tape, task, commands, false, history, next, out)?;
     drop(tape);
@@ -257,7 +253,7 @@ fn run_on_tape<'s>(
     requires { tape_nodes tape.old ≢ [] }
     ensures { IfOk result (λ left. (s : State)
         → StandFor (task_job task.entry).keeping (start (nodes_tree (tape_nodes tape.old)) (task_job task.entry).keeping) history.old.items s
-        → Runs (task_job task.entry) s (commands_view commands.now) is_first (option_copied left) history.new.items text.new.items out.old.items out.new.items) }
+        → Runs (task_job task.entry) s (commands_view commands.now) is_first (option_copied left) history.new.items text.new.items out.old.items out.new.items []) }
 {
     let alloc = *out.allocator();
     match task.form {
@@ -288,7 +284,7 @@ fn run_commands<'s, T: Document>(
 ) -> Result<Option<&'s [Command]>, AllocError>
     requires { T.keeping ≡ (task_job task).keeping }
     ensures { IfOk result (λ left. (s : State) → StandFor T.keeping (T.tree document.old) history.old.items s
-        → Runs (task_job task.entry) s (commands_view commands.now) is_first (option_copied left) history.new.items text.new.items out.old.items out.new.items) }
+        → Runs (task_job task.entry) s (commands_view commands.now) is_first (option_copied left) history.new.items text.new.items out.old.items out.new.items []) }
 {
     let mut left = commands;
     let mut is_next_first = is_first;
@@ -319,6 +315,8 @@ fn run_command<T: Document>(
     ensures applied { OnOk result ((s : State) → StandFor T.keeping (T.tree document.old) history.old.items s
         → Applied T.keeping depth s (command_view command.now) out.old.items out.new.items (T.tree document.new) history.new.items) }
     ensures printed { IfOk result (λ is_readable. is_readable ≡ true → IsPrinted (T.tree document.new) text.new.items) }
+    ensures reread { IfOk result (λ is_readable. (s : State) → s.tree ≡ T.tree document.old
+        → reread s (command_view command.now) ≡ if_read is_readable text.new.items) }
 {
     match command {
         Command::Reload => {

@@ -4,8 +4,8 @@ use Rattle.sj_base.specs.Tree.{Tree}
 use Rattle.sj_base.specs.Path.{Part}
 use Rattle.sj_scripts.specs.declared.script.CommandFault.{CommandFault}
 use Rattle.sj_scripts.specs.declared.script.CommandFault.TheVariants.{WrongCount}
-use Rattle.sj_scripts.specs.declared.read_error.ReadError.{ReadError}
-use Rattle.sj_scripts.specs.declared.read_error.ReadError.TheVariants as errors
+use Rattle.sj_scripts.specs.declared.memory_or.MemoryOr.{MemoryOr}
+use Rattle.sj_scripts.specs.declared.memory_or.MemoryOr.TheVariants as errors
 use Rattle.sj_scripts.specs.Command.{Step, Refusal, ◌>>=◌, as_path, as_key, path_alone, path_and_key, path_and_value, path_key_value, nullary, command_of, commands_from}
 use Rattle.sj_scripts.specs.inside.ReadErrors.{IsFaultOf}
 use Rattle.sj_scripts.specs.declared.script.Command.{Command}
@@ -79,14 +79,14 @@ value_behind_key (a ∷ b ∷ e ∷ []) d = refl
 value_behind_key (a ∷ b ∷ e ∷ f ∷ ds) d = refl
 
 module _ (whole ds : List OwnedValue) (d : OwnedValue) (is : whole ≡ ds ++ d ∷ []) where
-  pub value_fault : (e : ReadError CommandFault) → IsFaultOf e (path_alone (items_view ds)) → IsFaultOf e (path_and_value (items_view whole))
+  pub value_fault : (e : MemoryOr CommandFault) → IsFaultOf e (path_alone (items_view ds)) → IsFaultOf e (path_and_value (items_view whole))
   value_fault errors.Memory fault = tt
   value_fault (errors.Refused f) fault = rw (is, value_behind ds d, fault) refl
 
   pub value_read : (path : List Part) (v : OwnedValue) → path_alone (items_view ds) ≡ Ok path → v ≡ d → path_and_value (items_view whole) ≡ Ok (path, owned_tree v)
   value_read path v found same = rw (is, value_behind ds d, found, same) refl
 
-  pub key_value_fault : (e : ReadError CommandFault) → IsFaultOf e (path_and_key (items_view ds)) → IsFaultOf e (path_key_value (items_view whole))
+  pub key_value_fault : (e : MemoryOr CommandFault) → IsFaultOf e (path_and_key (items_view ds)) → IsFaultOf e (path_key_value (items_view whole))
   key_value_fault errors.Memory fault = tt
   key_value_fault (errors.Refused f) fault = rw (is, value_behind_key ds d, fault) refl
 
@@ -94,11 +94,11 @@ module _ (whole ds : List OwnedValue) (d : OwnedValue) (is : whole ≡ ds ++ d �
   key_value_read path k v found same = rw (is, value_behind_key ds d, found, same) refl
 
 module _ (whole ds : List OwnedValue) (d : OwnedValue) (is : whole ≡ ds ++ d ∷ []) where
-  pub key_path_fault : (e : ReadError CommandFault) → IsFaultOf e (path_alone (items_view ds)) → IsFaultOf e (path_and_key (items_view whole))
+  pub key_path_fault : (e : MemoryOr CommandFault) → IsFaultOf e (path_alone (items_view ds)) → IsFaultOf e (path_and_key (items_view whole))
   key_path_fault errors.Memory fault = tt
   key_path_fault (errors.Refused f) fault = rw (is, key_behind ds d, fault) refl
 
-  pub key_fault : (e : ReadError CommandFault) (path : List Part) → path_alone (items_view ds) ≡ Ok path → IsFaultOf e (as_key (owned_tree d)) → IsFaultOf e (path_and_key (items_view whole))
+  pub key_fault : (e : MemoryOr CommandFault) (path : List Part) → path_alone (items_view ds) ≡ Ok path → IsFaultOf e (as_key (owned_tree d)) → IsFaultOf e (path_and_key (items_view whole))
   key_fault errors.Memory path found fault = tt
   key_fault (errors.Refused f) path found fault = rw (is, key_behind ds d, found, fault) refl
 

@@ -8,47 +8,47 @@ ghost use Rattle.sj_scripts.specs.inside.Views.{items_view};
 ghost use Rattle.sj_scripts.specs.Script.{part_view, path_view, command_view, commands_view};
 ghost use Rattle.sj_scripts.specs.inside.ReadErrors.{GivesCommand, GivesSteps};
 
+use crate::memory_or::MemoryOr;
 use crate::path::PathPart;
-use crate::read_error::ReadError;
 use crate::script::{Command, CommandFault, ScriptFault};
 use crate::script_value::ScriptValue;
 use sj_base::StaticNode;
 use sj_owned::OwnedValue;
 use std::alloc::Global;
 
-fn read_part(document: &OwnedValue) -> Result<PathPart, ReadError<CommandFault>>
+fn read_part(document: &OwnedValue) -> Result<PathPart, MemoryOr<CommandFault>>
     ensures { GivesCommand part_view result (as_part (owned_tree document.now)) }
 {
     match document {
         OwnedValue::String(key) => Ok(PathPart::Key(key.clone()?)),
         OwnedValue::Static(scalar) => read_index(*scalar),
-        _ => Err(ReadError::Refused(CommandFault::BadPath)),
+        _ => Err(MemoryOr::Refused(CommandFault::BadPath)),
     }
 }
 
-fn read_index(scalar: StaticNode) -> Result<PathPart, ReadError<CommandFault>>
+fn read_index(scalar: StaticNode) -> Result<PathPart, MemoryOr<CommandFault>>
     ensures { GivesCommand part_view result (as_part (static_tree scalar)) }
 {
     match scalar {
         StaticNode::U64(place) => Ok(PathPart::Item(place)),
         StaticNode::I64(place) if place >= 0 => Ok(PathPart::Item(place as u64)),
-        _ => Err(ReadError::Refused(CommandFault::BadPath)),
+        _ => Err(MemoryOr::Refused(CommandFault::BadPath)),
     }
 }
 
-fn read_path(alloc: Global, document: &OwnedValue) -> Result<Vec<PathPart>, ReadError<CommandFault>>
+fn read_path(alloc: Global, document: &OwnedValue) -> Result<Vec<PathPart>, MemoryOr<CommandFault>>
     ensures { GivesCommand (λ path. path_view path.items) result (as_path (owned_tree document.now)) }
 {
     match document {
         OwnedValue::Array(items) => read_path_parts(alloc, items),
-        _ => Err(ReadError::Refused(CommandFault::BadPath)),
+        _ => Err(MemoryOr::Refused(CommandFault::BadPath)),
     }
 }
 
 fn read_path_parts(
     alloc: Global,
     items: &[OwnedValue],
-) -> Result<Vec<PathPart>, ReadError<CommandFault>>
+) -> Result<Vec<PathPart>, MemoryOr<CommandFault>>
     ensures { GivesCommand (λ path. path_view path.items) result (as_parts (items_view items.now)) }
 {
     let mut path = Vec::new(alloc);
@@ -58,12 +58,12 @@ fn read_path_parts(
     Ok(path)
 }
 
-fn read_key(document: &OwnedValue) -> Result<String, ReadError<CommandFault>>
+fn read_key(document: &OwnedValue) -> Result<String, MemoryOr<CommandFault>>
     ensures { GivesCommand string_bytes result (as_key (owned_tree document.now)) }
 {
     match document {
         OwnedValue::String(key) => Ok(key.clone()?),
-        _ => Err(ReadError::Refused(CommandFault::BadKey)),
+        _ => Err(MemoryOr::Refused(CommandFault::BadKey)),
     }
 }
 
@@ -71,11 +71,11 @@ fn read_key(document: &OwnedValue) -> Result<String, ReadError<CommandFault>>
 fn read_path_alone(
     alloc: Global,
     arguments: &[OwnedValue],
-) -> Result<Vec<PathPart>, ReadError<CommandFault>>
+) -> Result<Vec<PathPart>, MemoryOr<CommandFault>>
     ensures { GivesCommand (λ path. path_view path.items) result (path_alone (items_view arguments.now)) }
 {
     if arguments.len() != 1 {
-        return Err(ReadError::Refused(CommandFault::WrongCount));
+        return Err(MemoryOr::Refused(CommandFault::WrongCount));
     }
     read_path(alloc, &arguments[0])
 }
@@ -84,11 +84,11 @@ fn read_path_alone(
 fn read_path_and_key(
     alloc: Global,
     arguments: &[OwnedValue],
-) -> Result<(Vec<PathPart>, String), ReadError<CommandFault>>
+) -> Result<(Vec<PathPart>, String), MemoryOr<CommandFault>>
     ensures { GivesCommand (λ a. (path_view a.0.items, string_bytes a.1)) result (path_and_key (items_view arguments.now)) }
 {
     let Some((key, front)) = arguments.split_last() else {
-        return Err(ReadError::Refused(CommandFault::WrongCount));
+        return Err(MemoryOr::Refused(CommandFault::WrongCount));
     };
     let path = read_path_alone(alloc, front)?;
     Ok((path, read_key(key)?))
@@ -98,11 +98,11 @@ fn read_path_and_key(
 fn read_path_and_value(
     alloc: Global,
     mut arguments: Vec<OwnedValue>,
-) -> Result<(Vec<PathPart>, ScriptValue), ReadError<CommandFault>>
+) -> Result<(Vec<PathPart>, ScriptValue), MemoryOr<CommandFault>>
     ensures { GivesCommand (λ a. (path_view a.0.items, owned_tree a.1.value)) result (path_and_value (items_view arguments.items)) }
 {
     let Some(value) = arguments.pop() else {
-        return Err(ReadError::Refused(CommandFault::WrongCount));
+        return Err(MemoryOr::Refused(CommandFault::WrongCount));
     };
     let path = read_path_alone(alloc, &arguments)?;
     Ok((path, ScriptValue::new(value)?))
@@ -112,12 +112,12 @@ fn read_path_and_value(
 fn read_path_key_value(
     alloc: Global,
     mut arguments: Vec<OwnedValue>,
-) -> Result<(Vec<PathPart>, String, ScriptValue), ReadError<CommandFault>>
+) -> Result<(Vec<PathPart>, String, ScriptValue), MemoryOr<CommandFault>>
     ensures { GivesCommand (λ a. (path_view a.0.items, string_bytes a.1, owned_tree a.2.value)) result
         (path_key_value (items_view arguments.items)) }
 {
     let Some(value) = arguments.pop() else {
-        return Err(ReadError::Refused(CommandFault::WrongCount));
+        return Err(MemoryOr::Refused(CommandFault::WrongCount));
     };
     let (path, key) = read_path_and_key(alloc, &arguments)?;
     Ok((path, key, ScriptValue::new(value)?))
@@ -127,21 +127,21 @@ fn read_path_key_value(
 fn read_nullary(
     command: Command,
     arguments: &[OwnedValue],
-) -> Result<Command, ReadError<CommandFault>>
+) -> Result<Command, MemoryOr<CommandFault>>
     ensures { GivesCommand command_view result (nullary (command_view command) (items_view arguments.now)) }
 {
     if !arguments.is_empty() {
-        return Err(ReadError::Refused(CommandFault::WrongCount));
+        return Err(MemoryOr::Refused(CommandFault::WrongCount));
     }
     Ok(command)
 }
 
-fn read_command(alloc: Global, document: OwnedValue) -> Result<Command, ReadError<CommandFault>>
+fn read_command(alloc: Global, document: OwnedValue) -> Result<Command, MemoryOr<CommandFault>>
     ensures { GivesCommand command_view result (command_of (owned_tree document)) }
 {
     match document {
         OwnedValue::Array(items) => read_command_items(alloc, items),
-        _ => Err(ReadError::Refused(CommandFault::NotAnArray)),
+        _ => Err(MemoryOr::Refused(CommandFault::NotAnArray)),
     }
 }
 
@@ -149,15 +149,15 @@ fn read_command(alloc: Global, document: OwnedValue) -> Result<Command, ReadErro
 fn read_command_items(
     alloc: Global,
     mut items: Vec<OwnedValue>,
-) -> Result<Command, ReadError<CommandFault>>
+) -> Result<Command, MemoryOr<CommandFault>>
     ensures { GivesCommand command_view result (command_of (list (items_view items.items))) }
 {
     if items.is_empty() {
-        return Err(ReadError::Refused(CommandFault::NoName));
+        return Err(MemoryOr::Refused(CommandFault::NoName));
     }
     match items.remove(0) {
         OwnedValue::String(name) => read_named_command(alloc, &name, items),
-        _ => Err(ReadError::Refused(CommandFault::NoName)),
+        _ => Err(MemoryOr::Refused(CommandFault::NoName)),
     }
 }
 
@@ -165,7 +165,7 @@ fn read_named_command(
     alloc: Global,
     name: &str,
     arguments: Vec<OwnedValue>,
-) -> Result<Command, ReadError<CommandFault>>
+) -> Result<Command, MemoryOr<CommandFault>>
     ensures { GivesCommand command_view result (named name.now (items_view arguments.items)) }
 {
     match name {
@@ -197,7 +197,7 @@ fn read_named_command(
         "undo" => read_nullary(Command::Undo, &arguments),
         "reload" => read_nullary(Command::Reload, &arguments),
         "reload_pp" => read_nullary(Command::ReloadPp, &arguments),
-        _ => Err(ReadError::Refused(CommandFault::UnknownName)),
+        _ => Err(MemoryOr::Refused(CommandFault::UnknownName)),
     }
 }
 
@@ -223,8 +223,8 @@ fn read_command_list(alloc: Global, items: Vec<OwnedValue>) -> Result<Vec<Comman
     for (place, item) in items.into_iter().enumerate() {
         match read_command(alloc, item) {
             Ok(command) => commands.push(command)?,
-            Err(ReadError::Refused(fault)) => return Err(ScriptFault::Command { place, fault }),
-            Err(ReadError::Memory) => return Err(ScriptFault::Memory),
+            Err(MemoryOr::Refused(fault)) => return Err(ScriptFault::Command { place, fault }),
+            Err(MemoryOr::Memory) => return Err(ScriptFault::Memory),
         }
     }
     Ok(commands)

@@ -4,12 +4,12 @@
 #![tactic(auto)]
 
 mod commands;
+mod memory_or;
 mod path;
-mod read_error;
 mod script;
 mod script_value;
 
+pub use memory_or::MemoryOr;
 pub use path::PathPart;
-pub use read_error::ReadError;
 pub use script::{Command, CommandFault, Script, ScriptFault};
 pub use script_value::ScriptValue;

@@ -5,22 +5,23 @@ use super::readers::Pieces;
 use super::{FORMS, script_of};
 use sj_base::Counted;
 use sj_parse::Buffers;
-use sj_records::{Form, RunError, Script, run_with};
+use sj_records::{CountedBuffers, Form, RunError, Script, run_with};
 use std::alloc::Global;
 use std::io::{Read, Write};
 use std::marker::Brand;
+use std::mem::size_of;
 use std::process::Abort;
 use std::sync::ledger::{Blank, Ledger};
 use std::test::Fail;
 
 // A run with counts, which the blanks open.
-fn counted_run_with<I: Read + Drop, O: Write + Drop, L: Ledger, M: Ledger>(
+fn counted_run_with<I: Read + Drop, O: Write + Drop, L: Ledger, M: Ledger, N: Ledger>(
     alloc: Global,
     input: I,
     output: &mut O,
     script: &Script,
     form: Form,
-    buffers: &mut Buffers,
+    buffers: &mut CountedBuffers<N>,
     reads: Blank,
     writes: Blank,
 ) -> Result<(), RunError>
@@ -35,15 +36,15 @@ fn counted_run_with<I: Read + Drop, O: Write + Drop, L: Ledger, M: Ledger>(
     result
 }
 
-fn run_with_on<I: Read + Drop, O: Write + Drop>(
+fn run_with_on<I: Read + Drop, O: Write + Drop, N: Ledger>(
     alloc: Global,
     input: I,
     output: &mut O,
     script: &Script,
     form: Form,
-    buffers: &mut Buffers,
+    buffers: &mut CountedBuffers<N>,
 ) -> Result<(), RunError> {
-    counted_run_with::<I, O, Brand, Brand>(
+    counted_run_with::<I, O, Brand, Brand, N>(
         alloc,
         input,
         output,
@@ -56,8 +57,8 @@ fn run_with_on<I: Read + Drop, O: Write + Drop>(
 }
 
 // Looks for the records of a stream in one form, in these buffers.
-fn expect_with(
-    buffers: &mut Buffers,
+fn expect_with<N: Ledger>(
+    buffers: &mut CountedBuffers<N>,
     form: Form,
     rt: &impl Abort,
     alloc: Global,
@@ -77,32 +78,70 @@ fn expect_with(
     );
 }
 
+// Two streams, twice, in buffers whose texts the blank counts.
+fn expect_streams<N: Ledger>(
+    rt: &impl Abort,
+    alloc: Global,
+    form: Form,
+    texts: Blank,
+) -> Result<(), Fail>
+    requires { (texts.name ≡ N.name) × (texts.parts ≡ N.parts) × (texts.parts ≡ 1) }
+{
+    let mut buffers = CountedBuffers::<N>::new(Buffers::with_max_depth(alloc, 0, 1)?, texts);
+    for _ in 0..2 {
+        expect_with(
+            &mut buffers,
+            form,
+            rt,
+            alloc,
+            r#"[["push",[],[]],["push",[],3]]"#,
+            "[1, 2]\n[\n[]",
+            concat!(
+                r#"{"replies":["TooDeep",[]],"document":[1,2,3]}"#,
+                "\n",
+                r#"{"error":"Syntax","index":0,"character":"["}"#,
+                "\n",
+                r#"{"replies":["TooDeep",[]],"document":[3]}"#,
+                "\n"
+            ),
+        );
+        expect_with(&mut buffers, form, rt, alloc, "[]", "", "");
+    }
+    assert_eq!(rt; buffers.max_depth(), 1);
+    Ok(())
+}
+
 #[test]
 fn streams_in_the_same_buffers(rt: HostRuntime) -> Result<(), Fail> {
     let alloc = rt.alloc();
     for form in FORMS {
-        let mut buffers = Buffers::with_max_depth(alloc, 0, 1)?;
-        for _ in 0..2 {
-            expect_with(
-                &mut buffers,
-                form,
-                &rt,
-                alloc,
-                r#"[["push",[],[]],["push",[],3]]"#,
-                "[1, 2]\n[\n[]",
-                concat!(
-                    r#"{"replies":["TooDeep",[]],"document":[1,2,3]}"#,
-                    "\n",
-                    r#"{"error":"Syntax","index":0,"character":"["}"#,
-                    "\n",
-                    r#"{"replies":["TooDeep",[]],"document":[3]}"#,
-                    "\n"
-                ),
-            );
-            expect_with(&mut buffers, form, &rt, alloc, "[]", "", "");
-        }
-        assert_eq!(rt; buffers.max_depth(), 1);
+        expect_streams::<Brand>(&rt, alloc, form, Blank::new(1))?;
     }
+    Ok(())
+}
+
+// Looks for the record of a script with a reload, and for the positions that it leaves in buffers whose texts the blank counts.
+fn expect_positions<N: Ledger>(
+    rt: &impl Abort,
+    alloc: Global,
+    form: Form,
+    record: &str,
+    positions: &[u32],
+    texts: Blank,
+) -> Result<(), Fail>
+    requires { (texts.name ≡ N.name) × (texts.parts ≡ N.parts) × (texts.parts ≡ 1) }
+{
+    let mut buffers = CountedBuffers::<N>::new(Buffers::new(alloc, 0)?, texts);
+    expect_with(
+        &mut buffers,
+        form,
+        rt,
+        alloc,
+        r#"[["reload"],["len",[]]]"#,
+        r#"{"a":1,"a":2}"#,
+        record,
+    );
+    assert_eq!(rt; buffers.structural_indexes(), positions, "{form:?}");
     Ok(())
 }
 
@@ -124,17 +163,12 @@ fn positions_behind_a_reload(rt: HostRuntime) -> Result<(), Fail> {
             lazy,
         ),
     ] {
-        let mut buffers = Buffers::new(alloc, 0)?;
-        expect_with(
-            &mut buffers,
-            form,
-            &rt,
-            alloc,
-            r#"[["reload"],["len",[]]]"#,
-            r#"{"a":1,"a":2}"#,
-            record,
-        );
-        assert_eq!(rt; buffers.structural_indexes(), positions, "{form:?}");
+        expect_positions::<Brand>(&rt, alloc, form, record, positions, Blank::new(1))?;
     }
     Ok(())
+}
+
+#[test]
+fn count_of_texts_takes_no_room(rt: HostRuntime) {
+    assert_eq!(rt; size_of::<CountedBuffers<Brand>>(), size_of::<Buffers>());
 }

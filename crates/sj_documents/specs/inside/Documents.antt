@@ -14,8 +14,8 @@ use Rattle.sj_documents.specs.declared.edit.Write.{Write}
 use Rattle.sj_documents.specs.declared.edit.Write.TheVariants.{Insert, Remove, Push, Pop, Set}
 use Rattle.sj_documents.specs.declared.refusal.Refusal.{Refusal}
 use Rattle.sj_documents.specs.declared.refusal.Refusal.TheVariants.{NoSuchPath, NotAnObject, NotAnArray, NotAContainer, TooDeep}
-use Rattle.sj_scripts.specs.declared.read_error.ReadError.{ReadError}
-use Rattle.sj_scripts.specs.declared.read_error.ReadError.TheVariants.{Memory, Refused}
+use Rattle.sj_scripts.specs.declared.memory_or.MemoryOr.{MemoryOr}
+use Rattle.sj_scripts.specs.declared.memory_or.MemoryOr.TheVariants.{Memory, Refused}
 use Rattle.std.specs.declared.alloc.AllocError.{AllocError}
 use Rattle.sj_base.specs.declared.fault.AccessError.{AccessError}
 use Rattle.sj_base.specs.Text.{text, items_text, more_items_text}
@@ -89,7 +89,7 @@ IsChanged (Err e) t u change = u ≡ t
 
 -- What an edit of the tree t leaves: what it replaced or took out and the new tree, or a refusal and the old tree. Want of
 -- memory leaves the old tree.
-abbrev pub IsEdited : {V : Type 0} → (V → Tree) → Result (Option V) (ReadError Refusal) → Tree → Tree → Result (Tree × Tree) Word → Type 0
+abbrev pub IsEdited : {V : Type 0} → (V → Tree) → Result (Option V) (MemoryOr Refusal) → Tree → Tree → Result (Tree × Tree) Word → Type 0
 IsEdited tree (Ok found) t u w = w ≡ Ok (reply_of (option_map tree found), u)
 IsEdited tree (Err (Refused why)) t u w = (w ≡ Err (refusal_name why)) × (u ≡ t)
 IsEdited tree (Err Memory) t u w = u ≡ t

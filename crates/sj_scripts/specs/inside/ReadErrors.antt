@@ -6,8 +6,8 @@ use Rattle.sj_base.specs.Spelling.{Document}
 use Rattle.sj_base.specs.Keep.{keep}
 use Rattle.sj_base.specs.declared.error.Error.{Error}
 use Rattle.sj_base.specs.declared.error.ErrorType.TheVariants.{OutOfMemory}
-use Rattle.sj_scripts.specs.declared.read_error.ReadError.{ReadError}
-use Rattle.sj_scripts.specs.declared.read_error.ReadError.TheVariants.{Memory, Refused}
+use Rattle.sj_scripts.specs.declared.memory_or.MemoryOr.{MemoryOr}
+use Rattle.sj_scripts.specs.declared.memory_or.MemoryOr.TheVariants.{Memory, Refused}
 use Rattle.sj_scripts.specs.declared.script.ScriptFault.{ScriptFault}
 use Rattle.sj_scripts.specs.declared.script.ScriptFault.TheVariants as faults
 use Rattle.sj_scripts.specs.Command.{Refusal, not_an_array, command}
@@ -17,12 +17,12 @@ abbrev pub IsReadTree : List ℕ → ℕ → Tree → Type 0
 IsReadTree line limit u = (t : Tree) × Document line limit t × (u ≡ keep t)
 
 -- for a refusal, and not for want of memory
-abbrev pub IfRefused : {T : Type 0} → ReadError T → (T → Type 0) → Type 0
+abbrev pub IfRefused : {T : Type 0} → MemoryOr T → (T → Type 0) → Type 0
 IfRefused Memory P = ⊤
 IfRefused (Refused why) P = P why
 
 -- What the error of a reading call is carried on as: want of memory, or the fault of the text.
-abbrev pub IsReadError : Error → ReadError Error → Type 0
+abbrev pub IsReadError : Error → MemoryOr Error → Type 0
 IsReadError e Memory = e.error ≡ OutOfMemory
 IsReadError e (Refused why) = (why ≡ e) × (e.error ≢ OutOfMemory)
 
@@ -33,11 +33,11 @@ IsScriptFault e (faults.Command place fault) = ⊥
 IsScriptFault e faults.Memory = e.error ≡ OutOfMemory
 
 -- The error is that of the tree.
-abbrev pub IsFaultOf : {A F : Type 0} → ReadError F → Result A F → Type 0
+abbrev pub IsFaultOf : {A F : Type 0} → MemoryOr F → Result A F → Type 0
 IsFaultOf Memory read = ⊤
 IsFaultOf (Refused fault) read = read ≡ Err fault
 
-abbrev pub GivesCommand : {X A F : Type 0} → (X → A) → Result X (ReadError F) → Result A F → Type 0
+abbrev pub GivesCommand : {X A F : Type 0} → (X → A) → Result X (MemoryOr F) → Result A F → Type 0
 GivesCommand view (Ok x) read = read ≡ Ok (view x)
 GivesCommand view (Err e) read = IsFaultOf e read
 

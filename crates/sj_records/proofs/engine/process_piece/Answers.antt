@@ -1,13 +1,16 @@
-use Rattle.std.proofs.Common.{ℕ, List, ◌++◌, refl, sym, ap, ◌∙◌}
+use Rattle.std.proofs.Common.{ℕ, List, ◌++◌, refl, sym, ap, subst, ◌∙◌}
 use Rattle.std.proofs.lemmas.Result.{err_from_is_err_and}
 use Rattle.sj_records.specs.inside.Progress.{task_job}
-use Rattle.sj_records.proofs.Feeding.{Feeding-begin, Feeding-line, Feeding-failed, Feeding-stopped, Feeding-end, Feeding-kept}
+use Rattle.sj_records.proofs.Feeding.{Feeding-begin, Feeding-line, Feeding-failed, Feeding-stopped, Feeding-end, Feeding-done, Feeding-kept}
+use Rattle.sj_records.specs.Texts.{HasReadLines}
+use Rattle.sj_records.proofs.Texts.{HasReadLines-nothing, HasReadLines-then}
 use Rattle.sj_records.proofs.Written.{Wrote-nothing}
 use Rattle.sj_records.proofs.engine.process_piece.Goals as goal
 
 pub loop-behind-init : goal.loop-behind-init
 loop-behind-init g c = record {
   feeding = Feeding-begin (task_job c.args.task) (g.W.Sink.contents c.args.writer.now) c.args.pending.now.line.items c.args.piece.now c.requires.clean;
+  read = HasReadLines-nothing (task_job c.args.task) c.args.buffers.now;
   limit = refl;
   written = refl;
 }
@@ -24,6 +27,7 @@ loop-behind-preserved g c =
     let parts = rw c.in-Some.is at c.split_line-end.ensures.parts in
     record {
       feeding = Feeding-line (task_job c.args.task) _ _ _ _ _ _ _ _ _ c.loop-behind.invariant.feeding parts c.split_line-end.ensures.free done.stands done.cleared;
+      read = HasReadLines-then (task_job c.args.task) _ _ _ c.loop-behind.invariant.feeding.done _ c.loop-behind.invariant.read done.read;
       limit = done.limit ∙ c.loop-behind.invariant.limit;
       written = done.writes ∙ c.loop-behind.invariant.written;
     }
@@ -37,6 +41,11 @@ pub returns-in_default-clause-stands : goal.returns-in_default-clause-stands
 returns-in_default-clause-stands g c =
     let all = rw c.in_default.is at c.split_line-end.ensures.parts in
     Feeding-end (task_job c.args.task) _ _ _ _ _ c.loop-behind.invariant.feeding (rw all c.split_line-end.ensures.free)
+
+pub returns-in_default-clause-read : goal.returns-in_default-clause-read
+returns-in_default-clause-read g c =
+    let all = rw c.in_default.is at c.split_line-end.ensures.parts in
+    subst (λ (ls : List (List ℕ)). HasReadLines (task_job c.args.task) c.args.buffers.now c.loop-behind.buffers ls) (Feeding-done (task_job c.args.task) _ _ _ _ _ c.loop-behind.invariant.feeding (rw all c.split_line-end.ensures.free)) c.loop-behind.invariant.read
 
 pub returns-in_default-clause-kept : goal.returns-in_default-clause-kept
 returns-in_default-clause-kept g c =

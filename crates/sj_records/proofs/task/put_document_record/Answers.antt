@@ -1,4 +1,4 @@
-use Rattle.std.proofs.Common.{ℕ, List, true, false, refl, ap, subst, ◌∙◌, arith}
+use Rattle.std.proofs.Common.{ℕ, List, [], ◌∷◌, ◌++◌, true, false, refl, sym, ap, subst, ◌∙◌, arith}
 use Rattle.std.specs.Option.{option_copied}
 use Rattle.sj_tape.specs.Views.{tape_nodes, nodes_tree}
 use Rattle.sj_scripts.specs.Command.{Step}
@@ -6,9 +6,11 @@ use Rattle.sj_scripts.specs.Script.{commands_view}
 use Rattle.sj_documents.specs.Step.{begun, after}
 use Rattle.sj_records.specs.inside.Progress.{task_job}
 use Rattle.sj_records.specs.inside.Reloads.{Runs}
+use Rattle.sj_records.specs.Texts.{HasRead}
 use Rattle.sj_records.proofs.Histories.{begun_stands}
 use Rattle.sj_records.proofs.Readable.{reached_again}
 use Rattle.sj_records.proofs.RecordText.{record_begun, Runs-on, left_len, fewer_left}
+use Rattle.sj_records.proofs.Texts.{HasRead-nothing, HasRead-then}
 use Rattle.sj_records.proofs.task.put_document_record.Goals as goal
 
 pub loop-left-init : goal.loop-left-init
@@ -16,26 +18,26 @@ loop-left-init c =
     let job = task_job c.args.task in
     let t = nodes_tree (tape_nodes c.args.tape.now) in
     let runs = c.in_ok-left.ensures (begun job t) (begun_stands job t c.args.room.now.history.items c.requires.new_line) in
-    let scripted = subst (λ (cs : List Step). Runs job (begun job t) cs true (option_copied c.in_ok-left.left) c.run_on_tape.new.history.items c.run_on_tape.new.text.items c.extend_from_slice.new.self.items c.run_on_tape.new.out.items) c.commands-commands.ensures.commands runs in
-    (subst (λ (bs : List ℕ). Runs job (begun job t) job.script true (option_copied c.in_ok-left.left) c.run_on_tape.new.history.items c.run_on_tape.new.text.items bs c.run_on_tape.new.out.items) c.in_ok-extend_from_slice.ensures.items scripted, refl)
+    let scripted = subst (λ (cs : List Step). Runs job (begun job t) cs true (option_copied c.in_ok-left.left) c.run_on_tape.new.history.items c.run_on_tape.new.text.items c.extend_from_slice.new.self.items c.run_on_tape.new.out.items []) c.commands-commands.ensures.commands runs in
+    ([], subst (λ (bs : List ℕ). Runs job (begun job t) job.script true (option_copied c.in_ok-left.left) c.run_on_tape.new.history.items c.run_on_tape.new.text.items bs c.run_on_tape.new.out.items []) c.in_ok-extend_from_slice.ensures.items scripted, HasRead-nothing c.args.buffers.now, refl)
 
 pub run_on_text-requires-clause-readable : goal.run_on_text-requires-clause-readable
 run_on_text-requires-clause-readable c =
     let job = task_job c.args.task in
     let t = nodes_tree (tape_nodes c.args.tape.now) in
-    let r = rw c.in-Some.is at c.loop-left.invariant.0 in
-    let again = reached_again job t _ _ _ _ _ r c.commands-commands.ensures.accepted c.requires.readable in
+    let r = rw c.in-Some.is at c.loop-left.invariant.1 in
+    let again = reached_again job t _ _ _ _ _ _ r c.commands-commands.ensures.accepted c.requires.readable in
     ((after job (begun job t) r.ran).tree, again.0, r.is_printed)
 
 pub loop-left-smaller : goal.loop-left-smaller
 loop-left-smaller c =
     let job = task_job c.args.task in
     let t = nodes_tree (tape_nodes c.args.tape.now) in
-    let r = rw c.in-Some.is at c.loop-left.invariant.0 in
-    let again = reached_again job t _ _ _ _ _ r c.commands-commands.ensures.accepted c.requires.readable in
+    let r = rw c.in-Some.is at c.loop-left.invariant.1 in
+    let again = reached_again job t _ _ _ _ _ _ r c.commands-commands.ensures.accepted c.requires.readable in
     let s = after job (begun job t) r.ran in
     let runs = c.in_ok-left-2.ensures.runs s again.0 r.is_printed r.stands in
-    let fewer = fewer_left job s (commands_view c.in-Some.commands.now) false (option_copied c.in_ok-left-2.left) _ _ _ _ runs in
+    let fewer = fewer_left job s (commands_view c.in-Some.commands.now) false (option_copied c.in_ok-left-2.left) _ _ _ _ _ runs in
     let before = ap (λ o. left_len (option_copied o)) c.in-Some.is in
     omega arith
 
@@ -43,14 +45,25 @@ pub loop-left-preserved : goal.loop-left-preserved
 loop-left-preserved c =
     let job = task_job c.args.task in
     let t = nodes_tree (tape_nodes c.args.tape.now) in
-    let r = rw c.in-Some.is at c.loop-left.invariant.0 in
-    let again = reached_again job t _ _ _ _ _ r c.commands-commands.ensures.accepted c.requires.readable in
+    let r = rw c.in-Some.is at c.loop-left.invariant.1 in
+    let again = reached_again job t _ _ _ _ _ _ r c.commands-commands.ensures.accepted c.requires.readable in
     let runs = c.in_ok-left-2.ensures.runs (after job (begun job t) r.ran) again.0 r.is_printed r.stands in
-    (Runs-on job (begun job t) job.script (commands_view c.in-Some.commands.now) true (option_copied c.in_ok-left-2.left) _ _ _ _ _ _ _ r runs, c.in_ok-left-2.ensures.limit ∙ c.loop-left.invariant.1)
+    let so_far = c.loop-left.invariant in
+    let printed = c.loop-left.room.printed.items in (
+      so_far.0 ++ printed ∷ [],
+      Runs-on job (begun job t) job.script (commands_view c.in-Some.commands.now) true (option_copied c.in_ok-left-2.left) _ _ _ _ _ _ _ so_far.0 [] r runs,
+      HasRead-then c.args.buffers.now c.loop-left.buffers c.run_on_text.new.buffers so_far.0 (printed ∷ []) so_far.2 c.in_ok-left-2.ensures.read,
+      c.in_ok-left-2.ensures.limit ∙ so_far.3,
+    )
 
 pub returns-clause-holds : goal.returns-clause-holds
 returns-clause-holds c =
     let job = task_job c.args.task in
     let t = nodes_tree (tape_nodes c.args.tape.now) in
-    let ended = rw c.in_default.is at c.loop-left.invariant.0 in
-    ended ∙ record_begun job (begun job t) job.script c.args.out.now.items
+    let ended = rw c.in_default.is at c.loop-left.invariant.1 in
+    ended.0 ∙ record_begun job (begun job t) job.script c.args.out.now.items
+
+pub returns-clause-read : goal.returns-clause-read
+returns-clause-read c =
+    let ended = rw c.in_default.is at c.loop-left.invariant.1 in
+    subst (λ (ts : List (List ℕ)). HasRead c.args.buffers.now c.loop-left.buffers ts) (sym ended.1) c.loop-left.invariant.2

@@ -1,4 +1,4 @@
-use Rattle.std.proofs.Common.{◌≡◌, ℕ, Some, inl, inr, refl, sym, subst, ap}
+use Rattle.std.proofs.Common.{◌≡◌, ℕ, [], ◌∷◌, Some, inl, inr, refl, sym, subst, ap}
 use Rattle.std.proofs.lemmas.Result.{on_ok_weaker}
 use Rattle.sj_base.specs.Spelling.{Document}
 use Rattle.sj_base.specs.Text.{text}
@@ -10,7 +10,10 @@ use Rattle.sj_tape.specs.Views.{tape_nodes, nodes_tree}
 use Rattle.sj_tape.proofs.Listings.{tree_from}
 use Rattle.sj_records.specs.Record.{outcome, fault_record}
 use Rattle.sj_records.specs.inside.Progress.{task_job}
+use Rattle.sj_documents.specs.Step.{begun}
 use Rattle.sj_records.specs.inside.Reloads.{IsReadable}
+use Rattle.sj_records.specs.Texts.{reloads}
+use Rattle.sj_records.proofs.Texts.{if_ok, HasRead-then, HasReadLines-one}
 use Rattle.sj_records.proofs.task.put_record.Goals as goal
 
 pub put_document_record-requires-clause-readable : goal.put_document_record-requires-clause-readable
@@ -35,3 +38,23 @@ returns-in-Err-Refused-clause-holds c =
     let why = c.in-Err-Refused.fault in
     let first = subst (λ (limit : ℕ). fault c.args.line.now limit ≡ Some why) c.requires.limit (rw c.in-Err-Refused.field-0-is at c.in-Err-Refused.ensures.refused) in
     on_ok_weaker c.put_fault_record.result (λ put. (text (fault_record why), put, inr (why, first, refl))) (rw c.in-Err-Refused.fault-is at c.put_fault_record.ensures)
+
+pub returns-in-Ok-clause-read : goal.returns-in-Ok-clause-read
+returns-in-Ok-clause-read c =
+    let job = task_job c.args.task in
+    let line = c.args.line.now in
+    let found = c.in-Ok.ensures.found in
+    let nodes = tape_nodes c.read_tape.new.tape in
+    let texts = reloads job (begun job (nodes_tree nodes)) job.script in
+    let document = subst (λ (limit : ℕ). Document line limit found.0) c.requires.limit found.1 in
+    let is : nodes_tree nodes ≡ found.0 = tree_from (entries nodes) found.0 found.2 in
+    on_ok_weaker c.put_document_record.result (λ read. HasReadLines-one job c.args.buffers.now c.put_document_record.new.buffers line (line ∷ texts) (inl (found.0, document, ap (λ t. line ∷ reloads job (begun job t) job.script) is))
+    (HasRead-then c.args.buffers.now c.read_tape.new.buffers c.put_document_record.new.buffers (line ∷ []) texts c.in-Ok.ensures.read read)) c.put_document_record.ensures.read
+
+pub returns-in-Err-Refused-clause-read : goal.returns-in-Err-Refused-clause-read
+returns-in-Err-Refused-clause-read c =
+    let line = c.args.line.now in
+    let why = c.in-Err-Refused.fault in
+    let first = subst (λ (limit : ℕ). fault line limit ≡ Some why) c.requires.limit (rw c.in-Err-Refused.field-0-is at c.in-Err-Refused.ensures.refused) in
+    let read = rw c.in-Err-Refused.field-0-is at c.in-Err-Refused.ensures.read_and_refused in
+    if_ok c.put_fault_record.result (HasReadLines-one (task_job c.args.task) c.args.buffers.now c.read_tape.new.buffers line (line ∷ []) (inr (why, first, refl)) read)

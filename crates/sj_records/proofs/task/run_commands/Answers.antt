@@ -4,6 +4,7 @@ use Rattle.sj_base.specs.Tree.{Tree}
 use Rattle.sj_scripts.specs.Script.{command_view, commands_view}
 use Rattle.sj_documents.specs.Step.{State, after}
 use Rattle.sj_records.specs.History.{StandFor}
+use Rattle.sj_records.specs.Texts.{if_read}
 use Rattle.sj_records.specs.inside.Progress.{task_job}
 use Rattle.sj_records.specs.inside.Reloads.{IsPrinted}
 use Rattle.sj_records.proofs.RecordText.{step-on, stands_again, Running-begin, Running-more, Running-stop, Running-end}
@@ -22,7 +23,7 @@ loop-command-preserved g c = λ s at.
     let is : commands_view c.loop-command.left.now ≡ command_view c.in-Some.command.now ∷ commands_view c.in-Some.behind.now = ap commands_view c.in-Some.ensures.cases.0 in
     let now = after job s so_far.0.ran in
     let done = step-on job now g.T.Document.keeping (g.T.Document.tree c.run_command.new.document) c.run_command.new.history.items _ _ (command_view c.in-Some.command.now) c.requires (c.in_ok-is_read_again.ensures.applied now so_far.1) in
-    let more = Running-more job s cs c.args.is_first c.args.out.now.items _ (commands_view c.in-Some.behind.now) (command_view c.in-Some.command.now) _ _ _ _ so_far.0 is c.in_ok-put_separator.ensures done.0 in
+    let more = Running-more job s cs c.args.is_first c.args.out.now.items _ (commands_view c.in-Some.behind.now) (command_view c.in-Some.command.now) _ _ _ _ [] so_far.0 is c.in_ok-put_separator.ensures done.0 (c.in_ok-is_read_again.ensures.reread now so_far.1.0 ∙ ap (λ b. if_read b c.run_command.new.text.items) c.if-not-is_read_again.true) in
     (more.0, subst (λ (u : State). StandFor g.T.Document.keeping (g.T.Document.tree c.run_command.new.document) c.run_command.new.history.items u) (sym more.1) done.1)
 
 pub returns-then-is_read_again : goal.returns-then-is_read_again
@@ -35,7 +36,7 @@ returns-then-is_read_again g c = λ s at.
     let is : left ≡ command_view c.in-Some.command.now ∷ behind = ap commands_view c.in-Some.ensures.cases.0 in
     let now = after job s so_far.0.ran in
     let done = step-on job now g.T.Document.keeping (g.T.Document.tree c.run_command.new.document) c.run_command.new.history.items _ _ (command_view c.in-Some.command.now) c.requires (c.in_ok-is_read_again.ensures.applied now so_far.1) in
-    let more = Running-more job s cs c.args.is_first c.args.out.now.items left behind (command_view c.in-Some.command.now) _ _ _ _ so_far.0 is c.in_ok-put_separator.ensures done.0 in
+    let more = Running-more job s cs c.args.is_first c.args.out.now.items left behind (command_view c.in-Some.command.now) _ _ _ _ (c.run_command.new.text.items ∷ []) so_far.0 is c.in_ok-put_separator.ensures done.0 (c.in_ok-is_read_again.ensures.reread now so_far.1.0 ∙ ap (λ b. if_read b c.run_command.new.text.items) c.if-is_read_again.true) in
     let stands = subst (λ (u : State). StandFor g.T.Document.keeping (g.T.Document.tree c.run_command.new.document) c.run_command.new.history.items u) (sym more.1) done.1 in
     let again = stands_again _ _ (g.T.Document.tree c.run_command.new.document) c.run_command.new.history.items (after job s more.0.ran) c.requires stands in
     let printed = subst (λ (t : Tree). IsPrinted t c.run_command.new.text.items) (sym stands.0) (c.in_ok-is_read_again.ensures.printed c.if-is_read_again.true) in

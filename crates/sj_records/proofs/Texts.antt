@@ -1,0 +1,62 @@
+-- Texts that are read one after the other.
+use Rattle.std.proofs.Common.{◌≡◌, ℕ, ◌+◌, ◌≤◌, Bool, true, false, List, [], ◌∷◌, ◌++◌, length, nat_le, Result, Ok, Err, refl, sym, ap, ap₂, subst, ◌∙◌, append_assoc, arith}
+use Rattle.std.specs.Prelude.{OnOk}
+use Rattle.std.proofs.lemmas.List.{append-nil, length-append}
+use Rattle.sj_base.specs.Spelling.{longest}
+use Rattle.sj_parse.specs.Answers.{positions_behind, scanned}
+use Rattle.sj_documents.specs.Step.{Job}
+use Rattle.sj_records.specs.Texts.{if_read, AreTextsOf, AreTexts, BufferState, LeavesPositions, HasRead, HasReadLines}
+
+-- what holds whatever a call answers
+pub if_ok : {A E P : Type 0} (r : Result A E) → P → OnOk r P
+if_ok (Ok x) h = h
+if_ok (Err e) h = tt
+
+-- ---- the positions that are left
+
+-- Where a text was read, those before don't matter.
+whatever_before : (bytes : List ℕ) (others : List (List ℕ)) (a b c : List ℕ) → LeavesPositions (bytes ∷ others) b c → LeavesPositions (bytes ∷ others) a c
+whatever_before bytes [] a b c h = h
+whatever_before bytes (next ∷ others) a b c h = whatever_before next others a b c h
+
+positions-then : (xs ys : List (List ℕ)) (a b c : List ℕ) → LeavesPositions xs a b → LeavesPositions ys b c → LeavesPositions (xs ++ ys) a c
+positions-then xs [] a b c h k = rw append-nil (subst (λ (p : List ℕ). LeavesPositions xs a p) (sym k) h)
+positions-then [] (y ∷ ys) a b c h k = whatever_before y ys a b c k
+positions-then (x ∷ []) (y ∷ ys) a b c h k = whatever_before y ys a b c k
+positions-then (x ∷ next ∷ xs) (y ∷ ys) a b c h k = positions-then (next ∷ xs) (y ∷ ys) a b c h k
+
+-- of a text that was scanned
+pub positions-scanned : (bytes old new : List ℕ) → new ≡ scanned bytes → LeavesPositions (bytes ∷ []) old new
+positions-scanned bytes old new is = λ short faultless. is ∙ ap (positions_behind bytes) faultless
+
+-- ---- texts
+
+pub HasRead-nothing : (a : BufferState) → HasRead a a []
+HasRead-nothing a = (omega arith, refl)
+
+pub HasRead-then : (a b c : BufferState) (xs ys : List (List ℕ)) → HasRead a b xs → HasRead b c ys → HasRead a c (xs ++ ys)
+HasRead-then a b c xs ys h k =
+    let all : length (xs ++ ys) ≡ length xs + length ys = length-append xs ys in
+    let first = h.0 in
+    let then = k.0 in
+    (omega arith, positions-then xs ys a.positions b.positions c.positions h.1 k.1)
+
+-- the text of a reload, which is read if its reply says so
+pub printed-read : (bytes printed : List ℕ) (is_readable : Bool) → printed ≡ bytes → is_readable ≡ nat_le (length printed) longest → if_read (nat_le (length bytes) longest) bytes ≡ if_read is_readable printed
+printed-read bytes printed is_readable is readable = sym (ap₂ if_read (readable ∙ ap (λ (l : List ℕ). nat_le (length l) longest) is) is)
+
+-- ---- those of lines
+
+module _ (job : Job) where
+  AreTexts-append : (ls ms x y : List (List ℕ)) → AreTexts job ls x → AreTexts job ms y → AreTexts job (ls ++ ms) (x ++ y)
+  AreTexts-append [] ms x y h k = rw h k
+  AreTexts-append (l ∷ ls) ms x y h k = (h.0, h.1 ++ y, ap (λ ts. ts ++ y) h.2 ∙ append_assoc h.0 h.1 y, h.3, AreTexts-append ls ms h.1 y h.4 k)
+
+  pub HasReadLines-nothing : (a : BufferState) → HasReadLines job a a []
+  HasReadLines-nothing a = ([], refl, HasRead-nothing a)
+
+  pub HasReadLines-one : (a b : BufferState) (line : List ℕ) (texts : List (List ℕ)) → AreTextsOf job line texts → HasRead a b texts → HasReadLines job a b (line ∷ [])
+  HasReadLines-one a b line texts are read = (texts, (texts, [], sym (append-nil texts), are, refl), read)
+
+  pub HasReadLines-then : (a b c : BufferState) (ls ms : List (List ℕ)) → HasReadLines job a b ls → HasReadLines job b c ms → HasReadLines job a c (ls ++ ms)
+  HasReadLines-then a b c ls ms h k = (h.0 ++ k.0, AreTexts-append ls ms h.0 k.0 h.1 k.1, HasRead-then a b c h.0 k.0 h.2 k.2)

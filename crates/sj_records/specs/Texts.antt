@@ -1,0 +1,67 @@
+-- The texts that a run reads, and what reading them leaves in its buffers.
+use Rattle.std.specs.Prelude.{◌≡◌, ℕ, ◌+◌, ◌≤◌, nat_le, Bool, true, false, List, [], ◌∷◌, ◌++◌, length, Option, None}
+use Rattle.std.specs.Io.KnownBytes.{Consumes}
+use Rattle.sj_base.specs.Spelling.{longest}
+use Rattle.sj_base.specs.Text.{text, pretty}
+use Rattle.sj_scan.specs.Positions.{positions}
+use Rattle.sj_scan.specs.Scan.{scan_fault}
+use Rattle.sj_scripts.specs.Command.{Step, reload, reload_pp}
+use Rattle.sj_scripts.specs.Reading.{ComesOf}
+use Rattle.sj_documents.specs.Step.{Job, State, begun, step}
+use Rattle.sj_records.specs.Lines.{lines}
+
+-- ---- which texts are read
+
+-- the text, where it is to be read
+abbrev pub if_read : Bool → List ℕ → List (List ℕ)
+if_read true bytes = bytes ∷ []
+if_read false bytes = []
+
+-- the text that a command reads: that of a reload, if it isn't too long, as the reply says
+abbrev pub reread : State → Step → List (List ℕ)
+reread s reload = let bytes = text s.tree in if_read (nat_le (length bytes) longest) bytes
+reread s reload_pp = let bytes = pretty s.tree in if_read (nat_le (length bytes) longest) bytes
+reread s _ = []
+
+-- those of these commands, in order
+abbrev pub reloads : Job → State → List Step → List (List ℕ)
+reloads job s [] = []
+reloads job s (c ∷ cs) = reread s c ++ reloads job (step job s c).1 cs
+
+-- The texts that are read for a line: the line itself, and where it is a document those of the script.
+abbrev pub AreTextsOf : Job → List ℕ → List (List ℕ) → Type 0
+AreTextsOf job line texts = ComesOf (λ t. line ∷ reloads job (begun job t) job.script) (λ e. line ∷ []) line job.limit texts
+
+-- for lines in order
+abbrev pub AreTexts : Job → List (List ℕ) → List (List ℕ) → Type 0
+AreTexts job [] texts = texts ≡ []
+AreTexts job (line ∷ others) texts =
+    (first rest : List (List ℕ)) × (texts ≡ first ++ rest) × AreTextsOf job line first × AreTexts job others rest
+
+-- ---- what reading leaves
+
+-- what the contracts of buffers speak of
+pub record BufferState : Type 0 where
+  pub count : ℕ  -- the texts that were read by them
+  pub limit : ℕ  -- the levels that a text may nest
+  pub positions : List ℕ  -- those of the text that was scanned last
+
+-- The positions are those of the last of these texts, where the tests on a whole text find no fault in it. Where no text was
+-- read they are as they were.
+abbrev pub LeavesPositions : List (List ℕ) → List ℕ → List ℕ → Type 0
+LeavesPositions [] old new = new ≡ old
+LeavesPositions (bytes ∷ []) old new = length bytes ≤ longest → scan_fault bytes ≡ None → new ≡ positions bytes
+LeavesPositions (bytes ∷ next ∷ others) old new = LeavesPositions (next ∷ others) old new
+
+-- These texts were read by the buffers, and no others.
+abbrev pub HasRead : BufferState → BufferState → List (List ℕ) → Type 0
+HasRead old new texts = (new.count ≡ old.count + length texts) × LeavesPositions texts old.positions new.positions
+
+-- the texts of these lines
+abbrev pub HasReadLines : Job → BufferState → BufferState → List (List ℕ) → Type 0
+HasReadLines job old new lines = (texts : List (List ℕ)) × AreTexts job lines texts × HasRead old new texts
+
+-- those of the lines of the bytes that were read
+abbrev pub HasReadStream : Job → Option (List ℕ) → Option (List ℕ) → BufferState → BufferState → Type 0
+HasReadStream job unread_old unread_new old new =
+    (input : List ℕ) × Consumes unread_old unread_new input × HasReadLines job old new (lines input)
