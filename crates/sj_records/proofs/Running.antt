@@ -1,5 +1,6 @@
 -- A run so far: what was read was cut into lines, each ended one was read as a text and answered, and the rest is kept.
 use Rattle.std.proofs.Common.{◌≡◌, ℕ, List, [], ◌++◌, length, Option, Result, Ok, Err, sym, ap, subst, ◌∙◌, append_assoc, arith}
+use Rattle.std.specs.Prelude.{OnOk}
 use Rattle.std.proofs.lemmas.List.{append-nil, take_all}
 use Rattle.std.specs.Io.KnownBytes.{Consumes, Keeps}
 use Rattle.std.proofs.KnownBytes.{Consumes-nil, Consumes-trans, Consumes-kept}
@@ -109,7 +110,10 @@ module _ (job : Job) where
   Running-ended r0 r1 r2 w0 w1 w2 b0 b1 line (Err TooManyReads) h read left = absurd left
 
   -- and the texts of all lines were read
-  pub Running-read : (r0 r1 r2 w0 w1 : Option (List ℕ)) (b0 b1 b2 : BufferState) (line : List ℕ) → Running job r0 r1 w0 w1 b0 b1 line → Consumes r1 r2 [] → HasReadLines job b1 b2 (if_any line) → HasReadStream job r0 r2 b0 b2
-  Running-read r0 r1 r2 w0 w1 b0 b1 b2 line h given read =
-      let consumed = rw append-nil at (Consumes-trans r0 r1 r2 h.input [] h.consumed given) in
-      (h.input, consumed, subst (λ (l : List ℕ). HasReadLines job b0 b2 (ended h.input ++ if_any l)) h.kept (HasReadLines-then job b0 b1 b2 (ended h.input) (if_any line) h.read read))
+  pub Running-read : (r0 r1 r2 w0 w1 w2 : Option (List ℕ)) (b0 b1 b2 : BufferState) (line : List ℕ) (result : Result Unit RunError) → Running job r0 r1 w0 w1 b0 b1 line → Consumes r1 r2 []
+      → LeavesLines result job w1 w2 [] (if_any line) → OnOk result (HasReadLines job b1 b2 (if_any line)) → OnOk result (HasReadStream job r0 r2 w0 w2 b0 b2)
+  Running-read r0 r1 r2 w0 w1 w2 b0 b1 b2 line (Ok done) h given left read =
+      let stands = Running-ended r0 r1 r2 w0 w1 w2 b0 b1 line (Ok done) h given left in
+      let texts = HasReadLines-then job b0 b1 b2 (ended h.input) (if_any line) h.read read in
+      (stands.0, stands.1, stands.2, stands.3, (stands.4, subst (λ (l : List ℕ). HasReadLines job b0 b2 (ended h.input ++ if_any l)) h.kept texts))
+  Running-read r0 r1 r2 w0 w1 w2 b0 b1 b2 line (Err e) h given left read = tt

@@ -3,7 +3,7 @@ use Rattle.std.proofs.Common.{◌≡◌, ℕ, ◌+◌, ◌≤◌, Bool, true, fa
 use Rattle.std.specs.Prelude.{OnOk}
 use Rattle.std.proofs.lemmas.List.{append-nil, length-append}
 use Rattle.sj_base.specs.Spelling.{longest}
-use Rattle.sj_parse.specs.Answers.{positions_behind, scanned}
+use Rattle.sj_parse.specs.Answers.{scanned}
 use Rattle.sj_documents.specs.Step.{Job}
 use Rattle.sj_records.specs.Texts.{if_read, AreTextsOf, AreTexts, BufferState, LeavesPositions, HasRead, HasReadLines}
 
@@ -27,7 +27,7 @@ positions-then (x ∷ next ∷ xs) (y ∷ ys) a b c h k = positions-then (next �
 
 -- of a text that was scanned
 pub positions-scanned : (bytes old new : List ℕ) → new ≡ scanned bytes → LeavesPositions (bytes ∷ []) old new
-positions-scanned bytes old new is = λ short faultless. is ∙ ap (positions_behind bytes) faultless
+positions-scanned bytes old new is = λ short. is
 
 -- ---- texts
 

@@ -144,6 +144,11 @@ texts_reloaded : reloads (owned []) (begun (owned []) a_is_1) (reload_pp ∷ rem
 unfolding digits
 texts_reloaded = refl
 
+-- in the lazy form with its repeats
+repeats_reread : reloads (lazy []) (begun (lazy []) repeated_key) (reload ∷ []) ≡ codes "{\"a\":1,\"a\":2}" ∷ []
+unfolding digits
+repeats_reread = refl
+
 -- inverses bring back one base after the other, the newest first
 two_bases : bases_from ((place 0 ∷ [], set_part (number 7)) ∷ ([], drop_item) ∷ []) (list (two (number 8) (number 9))) ≡ Some (list (two (number 7) (number 9)) ∷ list (one (number 7)) ∷ [])
 two_bases = refl

@@ -1,18 +1,18 @@
 -- The texts that a run reads, and what reading them leaves in its buffers.
-use Rattle.std.specs.Prelude.{◌≡◌, ℕ, ◌+◌, ◌≤◌, nat_le, Bool, true, false, List, [], ◌∷◌, ◌++◌, length, Option, None}
-use Rattle.std.specs.Io.KnownBytes.{Consumes}
+use Rattle.std.specs.Prelude.{◌≡◌, ℕ, ◌+◌, ◌≤◌, nat_le, Bool, true, false, List, [], ◌∷◌, ◌++◌, length, Option}
 use Rattle.sj_base.specs.Spelling.{longest}
 use Rattle.sj_base.specs.Text.{text, pretty}
-use Rattle.sj_scan.specs.Positions.{positions}
-use Rattle.sj_scan.specs.Scan.{scan_fault}
+use Rattle.sj_parse.specs.Answers.{scanned}
 use Rattle.sj_scripts.specs.Command.{Step, reload, reload_pp}
 use Rattle.sj_scripts.specs.Reading.{ComesOf}
 use Rattle.sj_documents.specs.Step.{Job, State, begun, step}
 use Rattle.sj_records.specs.Lines.{lines}
+use Rattle.sj_records.specs.Record.{IsOutput}
+use Rattle.sj_records.specs.Run.{Transfers}
 
 -- ---- which texts are read
 
--- the text, where it is to be read
+-- the text alone, if it is read, or none
 abbrev pub if_read : Bool → List ℕ → List (List ℕ)
 if_read true bytes = bytes ∷ []
 if_read false bytes = []
@@ -23,16 +23,16 @@ reread s reload = let bytes = text s.tree in if_read (nat_le (length bytes) long
 reread s reload_pp = let bytes = pretty s.tree in if_read (nat_le (length bytes) longest) bytes
 reread s _ = []
 
--- those of these commands, in order
+-- the texts that these commands read, in order
 abbrev pub reloads : Job → State → List Step → List (List ℕ)
 reloads job s [] = []
 reloads job s (c ∷ cs) = reread s c ++ reloads job (step job s c).1 cs
 
--- The texts that are read for a line: the line itself, and where it is a document those of the script.
+-- The texts that are read for a line: the line itself, and where it is a document, those that the script's reloads read.
 abbrev pub AreTextsOf : Job → List ℕ → List (List ℕ) → Type 0
 AreTextsOf job line texts = ComesOf (λ t. line ∷ reloads job (begun job t) job.script) (λ e. line ∷ []) line job.limit texts
 
--- for lines in order
+-- the texts of these lines, in order
 abbrev pub AreTexts : Job → List (List ℕ) → List (List ℕ) → Type 0
 AreTexts job [] texts = texts ≡ []
 AreTexts job (line ∷ others) texts =
@@ -40,28 +40,28 @@ AreTexts job (line ∷ others) texts =
 
 -- ---- what reading leaves
 
--- what the contracts of buffers speak of
+-- what contracts say of `CountedBuffers`
 pub record BufferState : Type 0 where
   pub count : ℕ  -- the texts that were read by them
   pub limit : ℕ  -- the levels that a text may nest
-  pub positions : List ℕ  -- those of the text that was scanned last
+  pub positions : List ℕ  -- those of the text that was scanned last, and none after a fault of the scan
 
--- The positions are those of the last of these texts, where the tests on a whole text find no fault in it. Where no text was
+-- The positions are those that a scan of the last of these texts leaves, unless it is too long to be scanned. Where no text was
 -- read they are as they were.
 abbrev pub LeavesPositions : List (List ℕ) → List ℕ → List ℕ → Type 0
 LeavesPositions [] old new = new ≡ old
-LeavesPositions (bytes ∷ []) old new = length bytes ≤ longest → scan_fault bytes ≡ None → new ≡ positions bytes
+LeavesPositions (bytes ∷ []) old new = length bytes ≤ longest → new ≡ scanned bytes
 LeavesPositions (bytes ∷ next ∷ others) old new = LeavesPositions (next ∷ others) old new
 
--- These texts were read by the buffers, and no others.
+-- The count rose by the number of these texts, and the last of them left the positions.
 abbrev pub HasRead : BufferState → BufferState → List (List ℕ) → Type 0
 HasRead old new texts = (new.count ≡ old.count + length texts) × LeavesPositions texts old.positions new.positions
 
--- the texts of these lines
+-- so for the texts of these lines
 abbrev pub HasReadLines : Job → BufferState → BufferState → List (List ℕ) → Type 0
 HasReadLines job old new lines = (texts : List (List ℕ)) × AreTexts job lines texts × HasRead old new texts
 
--- those of the lines of the bytes that were read
-abbrev pub HasReadStream : Job → Option (List ℕ) → Option (List ℕ) → BufferState → BufferState → Type 0
-HasReadStream job unread_old unread_new old new =
-    (input : List ℕ) × Consumes unread_old unread_new input × HasReadLines job old new (lines input)
+-- The bytes that were read came to the output that was written, and the texts of their lines were read by the buffers.
+abbrev pub HasReadStream : Job → Option (List ℕ) → Option (List ℕ) → Option (List ℕ) → Option (List ℕ) → BufferState → BufferState → Type 0
+HasReadStream job unread_old unread_new held_old held_new old new =
+    Transfers unread_old unread_new held_old held_new (λ input output. IsOutput job input output × HasReadLines job old new (lines input))

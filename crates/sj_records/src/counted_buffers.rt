@@ -83,7 +83,7 @@ impl<L: Ledger> CountedBuffers<L> {
         read
     }
 
-    /// Gives back the room for positions, if the text that was read last has many.
+    /// Gives back all room, and forgets the positions, if the text that was read last has more than [`KEPT_POSITIONS`].
     pub(crate) fn release(&mut self, alloc: Global) -> Result<(), AllocError>
         ensures count { self.new.count ≡ self.old.count }
         ensures limit { self.new.limit ≡ self.old.limit }

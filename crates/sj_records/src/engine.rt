@@ -221,7 +221,7 @@ fn run_within<R: Source, W: Sink, L: Ledger>(
         (LeavesOutput result (task_job task.entry)) }
     ensures at_end { OnOk result (IsAtEnd (R.remaining reader.new)) }
     ensures read { OnOk result (HasReadStream (task_job task.entry) (R.remaining reader.old) (R.remaining reader.new)
-        buffers.old buffers.new) }
+        (W.contents writer.old) (W.contents writer.new) buffers.old buffers.new) }
     ensures reads { ReadsFor max_reads result (R.calls reader.old) (R.calls reader.new) }
     ensures bound { (R.calls reader.new).made ≤ (R.calls reader.old).made + max_reads }
     ensures writes { WritesFor result (W.calls writer.old) (W.calls writer.new) }
@@ -308,7 +308,8 @@ fn run_in<R: Source, W: Sink, L: Ledger>(
 /// Does what [`run`] does, under the limit of levels of the buffers, whose room is used for each line. Runs that use the same
 /// buffers one after the other take room for them once.
 ///
-/// Room for more than 2^20 positions is given back before the next line is read.
+/// The count of the buffers rises by one for each line, and for each reload that replies `true`. They have the positions of the
+/// text that was read last. Room for more than 2^20 positions is given back before the next text is read.
 ///
 /// # Errors
 ///
@@ -326,9 +327,11 @@ pub fn run_with<R: Source, W: Sink, L: Ledger>(
         (W.contents writer.old) (W.contents writer.new)
         (LeavesOutput result (job_of script.now buffers.old.limit form)) }
     ensures at_end { OnOk result (IsAtEnd (R.remaining reader.new)) }
-    // Which texts were read by the buffers, on `Ok`: those of the lines.
-    ensures read { OnOk result (HasReadStream (job_of script.now buffers.old.limit form) (R.remaining reader.old)
-        (R.remaining reader.new) buffers.old buffers.new) }
+    // On `Ok`: how many texts the buffers have read, which are the lines and the texts of the reloads that replied `true`, and
+    // what positions the last one left.
+    ensures read { OnOk result (HasReadStream (job_of script.now buffers.old.limit form)
+        (R.remaining reader.old) (R.remaining reader.new) (W.contents writer.old) (W.contents writer.new)
+        buffers.old buffers.new) }
     ensures reads { ReadsFor (2 ^ 62) result (R.calls reader.old) (R.calls reader.new) }
     ensures bound { (R.calls reader.new).made ≤ (R.calls reader.old).made + 2 ^ 62 }
     ensures writes { WritesFor result (W.calls writer.old) (W.calls writer.new) }

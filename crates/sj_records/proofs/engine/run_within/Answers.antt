@@ -5,7 +5,7 @@ use Rattle.std.specs.IoError.{error_kind}
 use Rattle.std.specs.declared.io.ErrorKind.TheVariants.{Interrupted}
 use Rattle.std.specs.Io.KnownBytes.{Consumes}
 use Rattle.std.proofs.lemmas.List.{take_at}
-use Rattle.std.proofs.lemmas.Result.{err_from_is_err_and, on_ok_weaker}
+use Rattle.std.proofs.lemmas.Result.{err_from_is_err_and}
 use Rattle.sj_records.specs.inside.Progress.{task_job}
 use Rattle.sj_records.proofs.Counts.{GoesOn-some, GoesOn-interrupted, GoesOn-then}
 use Rattle.sj_records.proofs.Running.{Running-clean, Running-idle, Running-more, Running-failed, Running-piece_failed, Running-ended, Running-read}
@@ -22,7 +22,7 @@ pub returns-in-Ok-eq0-clause-read : goal.returns-in-Ok-eq0-clause-read
 returns-in-Ok-eq0-clause-read g c =
     let given = rw c.in-Ok-eq0.is at c.read.ensures.bytes in
     let nothing : Consumes (g.R.Source.remaining c.loop.reader) (g.R.Source.remaining c.read.new.self) [] = rw c.in-Ok-eq0.field-0-test at given.0 in
-    on_ok_weaker c.finish.result (λ read. Running-read (task_job c.args.task) _ _ _ _ _ _ _ _ c.loop.pending.line.items c.loop.invariant.running nothing read) c.finish.ensures.read
+    Running-read (task_job c.args.task) _ _ _ _ _ _ _ _ _ c.loop.pending.line.items c.finish.result c.loop.invariant.running nothing c.finish.ensures.stands c.finish.ensures.read
 
 pub process_piece-requires : goal.process_piece-requires
 process_piece-requires g c = record {
