@@ -1,7 +1,7 @@
 -- Lines of a stream that comes in pieces.
-use Rattle.std.proofs.Common.{◌≡◌, ℕ, Bool, true, false, cond, eqb, List, [], ◌∷◌, ◌++◌, refl, ap, ap₂, ◌∙◌, arith}
+use Rattle.std.proofs.Common.{◌≡◌, ℕ, Bool, true, false, cond, eqb, List, [], ◌∷◌, ◌++◌, ◌≢◌, refl, ap, ap₂, ◌∙◌, arith}
 use Rattle.std.proofs.lemmas.Bool.{eqb-false}
-use Rattle.sj_records.specs.Lines.{ended, unended, onto_first, onto_last}
+use Rattle.sj_records.specs.Lines.{ended, unended, if_any, onto_first, onto_last}
 use Rattle.sj_records.specs.inside.Progress.{HasNoLineFeed}
 
 -- a test that fails
@@ -61,3 +61,7 @@ ended-append (b ∷ xs) ys = ended_step b (eqb b 0x0a) (ended xs) (ended (xs ++ 
 pub unended-append : (xs ys : List ℕ) → unended (xs ++ ys) ≡ unended (unended xs ++ ys)
 unended-append [] ys = refl
 unended-append (b ∷ xs) ys = unended_step b (eqb b 0x0a) (ended xs) (ended (xs ++ ys)) (unended xs) (unended (xs ++ ys)) ys refl (ended-append xs ys) (unended-append xs ys)
+
+pub if_any-some : (bs : List ℕ) → bs ≢ [] → if_any bs ≡ bs ∷ []
+if_any-some [] some = absurd (some refl)
+if_any-some (b ∷ bs) some = refl

@@ -112,6 +112,7 @@ module _ (job : Job) where
   -- and the texts of all lines were read
   pub Running-read : (r0 r1 r2 w0 w1 w2 : Option (List ℕ)) (b0 b1 b2 : BufferState) (line : List ℕ) (result : Result Unit RunError) → Running job r0 r1 w0 w1 b0 b1 line → Consumes r1 r2 []
       → LeavesLines result job w1 w2 [] (if_any line) → OnOk result (HasReadLines job b1 b2 (if_any line)) → OnOk result (HasReadStream job r0 r2 w0 w2 b0 b2)
+  unfolding Running-ended
   Running-read r0 r1 r2 w0 w1 w2 b0 b1 b2 line (Ok done) h given left read =
       let stands = Running-ended r0 r1 r2 w0 w1 w2 b0 b1 line (Ok done) h given left in
       let texts = HasReadLines-then job b0 b1 b2 (ended h.input) (if_any line) h.read read in

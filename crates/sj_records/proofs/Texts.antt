@@ -1,11 +1,20 @@
 -- Texts that are read one after the other.
-use Rattle.std.proofs.Common.{◌≡◌, ℕ, ◌+◌, ◌≤◌, Bool, true, false, List, [], ◌∷◌, ◌++◌, length, nat_le, Result, Ok, Err, refl, sym, ap, ap₂, subst, ◌∙◌, append_assoc, arith}
-use Rattle.std.specs.Prelude.{OnOk}
+use Rattle.std.proofs.Common.{◌≡◌, ℕ, ◌+◌, ◌≤◌, Bool, List, [], ◌∷◌, ◌++◌, length, nat_le, Result, Ok, Err, inl, inr, refl, sym, ap, ap₂, subst, ◌∙◌, append_assoc, arith}
+use Rattle.std.specs.Prelude.{◌≢◌, ◌⊎◌, OnOk}
 use Rattle.std.proofs.lemmas.List.{append-nil, length-append}
 use Rattle.sj_base.specs.Spelling.{longest}
+use Rattle.sj_base.specs.declared.error.Error.{Error}
+use Rattle.sj_base.specs.declared.error.ErrorType.TheVariants.{OutOfMemory}
 use Rattle.sj_parse.specs.Answers.{scanned}
-use Rattle.sj_documents.specs.Step.{Job}
-use Rattle.sj_records.specs.Texts.{if_read, AreTextsOf, AreTexts, BufferState, LeavesPositions, HasRead, HasReadLines}
+use Rattle.sj_parse.specs.Fault.{generic}
+use Rattle.sj_scripts.specs.declared.memory_or.MemoryOr.{MemoryOr}
+use Rattle.sj_scripts.specs.declared.memory_or.MemoryOr.TheVariants.{Memory, Refused}
+use Rattle.sj_scripts.specs.declared.script.Command.{Command}
+use Rattle.sj_scripts.specs.declared.script.Command.TheVariants.{Get, Contains, TypeOf, Len, Keys, Insert, Remove, Push, Pop, SetAt, Undo, Reload, ReloadPp}
+use Rattle.sj_scripts.specs.Script.{command_view}
+use Rattle.sj_scripts.specs.inside.ReadErrors.{IfRefused, IsReadError}
+use Rattle.sj_documents.specs.Step.{Job, State}
+use Rattle.sj_records.specs.Texts.{if_read, reread, AreTextsOf, AreTexts, BufferState, LeavesPositions, HasRead, HasReadLines}
 
 -- what holds whatever a call answers
 pub if_ok : {A E P : Type 0} (r : Result A E) → P → OnOk r P
@@ -25,10 +34,6 @@ positions-then [] (y ∷ ys) a b c h k = whatever_before y ys a b c k
 positions-then (x ∷ []) (y ∷ ys) a b c h k = whatever_before y ys a b c k
 positions-then (x ∷ next ∷ xs) (y ∷ ys) a b c h k = positions-then (next ∷ xs) (y ∷ ys) a b c h k
 
--- of a text that was scanned
-pub positions-scanned : (bytes old new : List ℕ) → new ≡ scanned bytes → LeavesPositions (bytes ∷ []) old new
-positions-scanned bytes old new is = λ short. is
-
 -- ---- texts
 
 pub HasRead-nothing : (a : BufferState) → HasRead a a []
@@ -41,9 +46,34 @@ HasRead-then a b c xs ys h k =
     let then = k.0 in
     (omega arith, positions-then xs ys a.positions b.positions c.positions h.1 k.1)
 
+-- a text that was read without a fault, and one that was refused
+pub read_whole : (a b : BufferState) (bytes : List ℕ) → b.count ≡ a.count + 1 → (length bytes ≤ longest → b.positions ≡ scanned bytes) → HasRead a b (bytes ∷ [])
+read_whole a b bytes count left = (count, left)
+
+pub read_refused : (a b : BufferState) (bytes : List ℕ) (fault : Error) (e : MemoryOr Error) → IsReadError fault e → b.count ≡ a.count + 1
+    → (length bytes ≤ longest → (b.positions ≡ scanned bytes) ⊎ ((fault ≡ generic OutOfMemory) × (b.positions ≡ []))) → IfRefused e (λ why. HasRead a b (bytes ∷ []))
+read_refused a b bytes fault Memory is count left = tt
+read_refused a b bytes fault (Refused why) is count left = (count, λ short. elim (left short) [ inl same ↦ same | inr none ↦ absurd (is.1 (ap (λ (e : Error). e.error) none.0)) ])
+
 -- the text of a reload, which is read if its reply says so
-pub printed-read : (bytes printed : List ℕ) (is_readable : Bool) → printed ≡ bytes → is_readable ≡ nat_le (length printed) longest → if_read (nat_le (length bytes) longest) bytes ≡ if_read is_readable printed
-printed-read bytes printed is_readable is readable = sym (ap₂ if_read (readable ∙ ap (λ (l : List ℕ). nat_le (length l) longest) is) is)
+pub printed_read : (bytes printed : List ℕ) (is_readable : Bool) → printed ≡ bytes → is_readable ≡ nat_le (length printed) longest → if_read (nat_le (length bytes) longest) bytes ≡ if_read is_readable printed
+printed_read bytes printed is_readable is readable = sym (ap₂ if_read (readable ∙ ap (λ (l : List ℕ). nat_le (length l) longest) is) is)
+
+-- A command that is no reload reads none.
+pub none_reread : (c : Command) (s : State) → c ≢ Reload → c ≢ ReloadPp → reread s (command_view c) ≡ []
+none_reread (Get path) s a b = refl
+none_reread (Contains path k) s a b = refl
+none_reread (TypeOf path) s a b = refl
+none_reread (Len path) s a b = refl
+none_reread (Keys path) s a b = refl
+none_reread (Insert path k v) s a b = refl
+none_reread (Remove path k) s a b = refl
+none_reread (Push path v) s a b = refl
+none_reread (Pop path) s a b = refl
+none_reread (SetAt path v) s a b = refl
+none_reread Undo s a b = refl
+none_reread Reload s a b = absurd (a refl)
+none_reread ReloadPp s a b = absurd (b refl)
 
 -- ---- those of lines
 

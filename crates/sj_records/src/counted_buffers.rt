@@ -3,7 +3,6 @@ ghost use Rattle.std.specs.Prelude.{◌≡◌, ◌≢◌, ◌+◌, ◌≤◌, []
 ghost use Rattle.sj_base.specs.Spelling.{longest};
 ghost use Rattle.sj_parse.specs.Answers.{Answers, Leaves, buffer_limit, buffer_positions};
 ghost use Rattle.sj_parse.specs.Fault.{fault};
-ghost use Rattle.sj_records.specs.Texts.{BufferState};
 ghost use Rattle.sj_tape.specs.Views.{tape_nodes};
 
 use sj_base::Error;
@@ -27,6 +26,8 @@ pub struct CountedBuffers<L: Ledger> {
 
 impl<L: Ledger> Model for CountedBuffers<L> {
     ghost use Rattle.std.specs.Prelude.{◌<◌};
+    ghost use Rattle.sj_parse.specs.Answers.{buffer_limit, buffer_positions};
+    ghost use Rattle.sj_records.specs.Texts.{BufferState};
 
     ghost Value = { BufferState };
 

@@ -1,7 +1,16 @@
-use Rattle.std.proofs.Common.{List, ℕ, [], ◌∷◌, subst}
+use Rattle.std.proofs.Common.{◌≡◌, List, ℕ, [], ◌∷◌, ◌++◌, length, rules, sym, subst}
+use Rattle.std.proofs.lemmas.List.{nil_from_length}
+use Rattle.std.proofs.lemmas.Result.{on_ok_weaker}
 use Rattle.sj_records.specs.Texts.{HasReadLines}
 use Rattle.sj_records.specs.inside.Progress.{task_job, Wrote}
 use Rattle.sj_records.proofs.engine.complete_line.Goals as goal
+
+pub returns-then-is_empty-clause-read : goal.returns-then-is_empty-clause-read
+returns-then-is_empty-clause-read g c =
+    let zero : length c.args.pending.now.line.items ≡ 0 = search rules in
+    let none : c.args.pending.now.line.items ≡ [] = nil_from_length _ zero in
+    on_ok_weaker c.write_record.result (λ read. subst (λ (line : List ℕ). HasReadLines (task_job c.args.task) c.args.buffers.now c.write_record.new.buffers ((line ++ c.args.end.now) ∷ [])) (sym none) read)
+    c.write_record.ensures.read
 
 pub returns-clause-read : goal.returns-clause-read
 returns-clause-read g c =

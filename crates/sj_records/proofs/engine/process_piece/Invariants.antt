@@ -1,5 +1,4 @@
 use Rattle.std.proofs.Common.{◌≡◌, ◌++◌, length}
-use Rattle.sj_records.specs.Texts.{HasReadLines}
 use Rattle.sj_records.specs.inside.Progress.{task_job}
 use Rattle.sj_records.proofs.Feeding.{Feeding}
 use Rattle.sj_base.specs.Calls.{unsuccessful}
@@ -7,8 +6,7 @@ use Rattle.sj_records.proofs.engine.process_piece.Given as goal
 
 abbrev pub invariant-loop-behind : goal.invariant-loop-behind
 invariant-loop-behind g l = record {
-  feeding : Feeding (task_job l.task) (g.W.Sink.contents l.initial.writer) (g.W.Sink.contents l.writer) (l.initial.pending.line.items ++ l.initial.rest) l.pending.line.items l.rest;
-  read : HasReadLines (task_job l.task) l.initial.buffers l.buffers feeding.done;
+  feeding : Feeding (task_job l.task) (g.W.Sink.contents l.initial.writer) (g.W.Sink.contents l.writer) l.initial.buffers l.buffers (l.initial.pending.line.items ++ l.initial.rest) l.pending.line.items l.rest;
   limit : l.buffers.limit ≡ l.initial.buffers.limit;
   written : unsuccessful (g.W.Sink.calls l.writer) ≡ unsuccessful (g.W.Sink.calls l.initial.writer);
 }

@@ -22,7 +22,7 @@ pub returns-in-Ok-eq0-clause-read : goal.returns-in-Ok-eq0-clause-read
 returns-in-Ok-eq0-clause-read g c =
     let given = rw c.in-Ok-eq0.is at c.read.ensures.bytes in
     let nothing : Consumes (g.R.Source.remaining c.loop.reader) (g.R.Source.remaining c.read.new.self) [] = rw c.in-Ok-eq0.field-0-test at given.0 in
-    Running-read (task_job c.args.task) _ _ _ _ _ _ _ _ _ c.loop.pending.line.items c.finish.result c.loop.invariant.running nothing c.finish.ensures.stands c.finish.ensures.read
+    Running-read (task_job c.args.task) _ _ _ _ _ _ c.args.buffers.now c.loop.buffers c.finish.new.buffers c.loop.pending.line.items c.finish.result c.loop.invariant.running nothing c.finish.ensures.stands c.finish.ensures.read
 
 pub process_piece-requires : goal.process_piece-requires
 process_piece-requires g c = record {

@@ -1,4 +1,4 @@
-use Rattle.std.proofs.Common.{◌≡◌, ◌<◌, ◌∷◌, [], length, refl, sym, ap, subst, arith}
+use Rattle.std.proofs.Common.{◌≡◌, ◌<◌, ◌∷◌, [], length, refl, sym, ap, ◌∙◌, subst, arith}
 use Rattle.std.proofs.lemmas.List.{nil_from_length}
 use Rattle.sj_base.specs.Tree.{Tree}
 use Rattle.sj_scripts.specs.Script.{command_view, commands_view}
@@ -23,7 +23,7 @@ loop-command-preserved g c = λ s at.
     let is : commands_view c.loop-command.left.now ≡ command_view c.in-Some.command.now ∷ commands_view c.in-Some.behind.now = ap commands_view c.in-Some.ensures.cases.0 in
     let now = after job s so_far.0.ran in
     let done = step-on job now g.T.Document.keeping (g.T.Document.tree c.run_command.new.document) c.run_command.new.history.items _ _ (command_view c.in-Some.command.now) c.requires (c.in_ok-is_read_again.ensures.applied now so_far.1) in
-    let more = Running-more job s cs c.args.is_first c.args.out.now.items _ (commands_view c.in-Some.behind.now) (command_view c.in-Some.command.now) _ _ _ _ [] so_far.0 is c.in_ok-put_separator.ensures done.0 (c.in_ok-is_read_again.ensures.reread now so_far.1.0 ∙ ap (λ b. if_read b c.run_command.new.text.items) c.if-not-is_read_again.true) in
+    let more = Running-more job s cs c.args.is_first c.args.out.now.items _ (commands_view c.in-Some.behind.now) (command_view c.in-Some.command.now) _ _ _ _ [] so_far.0 is c.in_ok-put_separator.ensures done.0 (c.in_ok-is_read_again.ensures.reread now so_far.1.0 ∙ ap (λ b. if_read b c.run_command.new.text.items) c.if-is_read_again.false) in
     (more.0, subst (λ (u : State). StandFor g.T.Document.keeping (g.T.Document.tree c.run_command.new.document) c.run_command.new.history.items u) (sym more.1) done.1)
 
 pub returns-then-is_read_again : goal.returns-then-is_read_again

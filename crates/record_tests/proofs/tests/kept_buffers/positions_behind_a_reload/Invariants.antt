@@ -1,5 +1,5 @@
 use Rattle.record_tests.proofs.tests.kept_buffers.positions_behind_a_reload.Given as goal
 
 -- the texts are counted in a ledger of their own
-abbrev pub ghosts-expect_positions-N-Ledger : goal.ghosts-expect_positions-N-Ledger
-ghosts-expect_positions-N-Ledger a = record { name = a.texts.name; parts = a.texts.parts }
+abbrev pub ghosts-expect_positions : goal.ghosts-expect_positions
+ghosts-expect_positions a = record { name = a.texts.name; parts = a.texts.parts }
