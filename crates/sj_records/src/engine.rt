@@ -66,7 +66,7 @@ fn write_record<'de, W: Sink, L: Ledger>(
     requires { buffers.old.limit ≡ task.depth }
     ensures stands { LeavesLines result (task_job task.entry) (W.contents writer.old) (W.contents writer.new)
         [] (line.entry.now ∷ []) }
-    ensures read { OnOk result (HasReadLines (task_job task.entry) buffers.old buffers.new (line.entry.now ∷ [])) }
+    ensures texts { OnOk result (HasReadLines (task_job task.entry) buffers.old buffers.new (line.entry.now ∷ [])) }
     ensures limit { buffers.new.limit ≡ buffers.old.limit }
     ensures writes { WritesFor result (W.calls writer.old) (W.calls writer.new) }
 {
@@ -85,7 +85,7 @@ fn write_pending<W: Sink, L: Ledger>(
     requires { buffers.old.limit ≡ task.depth }
     ensures stands { LeavesLines result (task_job task.entry) (W.contents writer.old) (W.contents writer.new)
         [] (pending.old.line.items ∷ []) }
-    ensures read { OnOk result (HasReadLines (task_job task.entry) buffers.old buffers.new (pending.old.line.items ∷ [])) }
+    ensures texts { OnOk result (HasReadLines (task_job task.entry) buffers.old buffers.new (pending.old.line.items ∷ [])) }
     ensures limit { buffers.new.limit ≡ buffers.old.limit }
     ensures writes { WritesFor result (W.calls writer.old) (W.calls writer.new) }
 {
@@ -115,7 +115,7 @@ fn complete_line<'p, W: Sink, L: Ledger>(
     requires { buffers.old.limit ≡ task.depth }
     ensures stands { LeavesLines result (task_job task.entry) (W.contents writer.old) (W.contents writer.new)
         [] ((pending.old.line.items ++ end.entry.now) ∷ []) }
-    ensures read { OnOk result (HasReadLines (task_job task.entry) buffers.old buffers.new
+    ensures texts { OnOk result (HasReadLines (task_job task.entry) buffers.old buffers.new
         ((pending.old.line.items ++ end.entry.now) ∷ [])) }
     ensures cleared { OnOk result (pending.new.line.items ≡ []) }
     ensures limit { buffers.new.limit ≡ buffers.old.limit }
@@ -154,7 +154,7 @@ fn process_piece<W: Sink, L: Ledger>(
         LeavesLines result (task_job task.entry) (W.contents writer.old) (W.contents writer.new) lines lines }
     ensures kept { OnOk result
         (pending.new.line.items ≡ unended (pending.old.line.items ++ piece.old)) }
-    ensures read { OnOk result (HasReadLines (task_job task.entry) buffers.old buffers.new
+    ensures texts { OnOk result (HasReadLines (task_job task.entry) buffers.old buffers.new
         (ended (pending.old.line.items ++ piece.old))) }
     ensures limit { buffers.new.limit ≡ buffers.old.limit }
     ensures writes { WritesFor result (W.calls writer.old) (W.calls writer.new) }
@@ -184,7 +184,7 @@ fn finish<W: Sink, L: Ledger>(
     requires { buffers.old.limit ≡ task.depth }
     ensures stands { LeavesLines result (task_job task.entry) (W.contents writer.old) (W.contents writer.new)
         [] (if_any pending.old.line.items) }
-    ensures read { OnOk result (HasReadLines (task_job task.entry) buffers.old buffers.new (if_any pending.old.line.items)) }
+    ensures texts { OnOk result (HasReadLines (task_job task.entry) buffers.old buffers.new (if_any pending.old.line.items)) }
     ensures limit { buffers.new.limit ≡ buffers.old.limit }
     ensures writes { WritesFor result (W.calls writer.old) (W.calls writer.new) }
 {
@@ -220,7 +220,7 @@ fn run_within<R: Source, W: Sink, L: Ledger>(
         (W.contents writer.old) (W.contents writer.new)
         (LeavesOutput result (task_job task.entry)) }
     ensures at_end { OnOk result (IsAtEnd (R.remaining reader.new)) }
-    ensures read { OnOk result (HasReadStream (task_job task.entry) (R.remaining reader.old) (R.remaining reader.new)
+    ensures texts { OnOk result (HasReadStream (task_job task.entry) (R.remaining reader.old) (R.remaining reader.new)
         (W.contents writer.old) (W.contents writer.new) buffers.old buffers.new) }
     ensures reads { ReadsFor max_reads result (R.calls reader.old) (R.calls reader.new) }
     ensures bound { (R.calls reader.new).made ≤ (R.calls reader.old).made + max_reads }
@@ -329,7 +329,7 @@ pub fn run_with<R: Source, W: Sink, L: Ledger>(
     ensures at_end { OnOk result (IsAtEnd (R.remaining reader.new)) }
     // On `Ok`: how many texts the buffers have read, which are the lines and the texts of the reloads that replied `true`, and
     // what positions the last one left.
-    ensures read { OnOk result (HasReadStream (job_of script.now buffers.old.limit form)
+    ensures texts { OnOk result (HasReadStream (job_of script.now buffers.old.limit form)
         (R.remaining reader.old) (R.remaining reader.new) (W.contents writer.old) (W.contents writer.new)
         buffers.old buffers.new) }
     ensures reads { ReadsFor (2 ^ 62) result (R.calls reader.old) (R.calls reader.new) }

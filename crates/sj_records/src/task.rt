@@ -91,7 +91,7 @@ pub(crate) fn make_record<'de, L: Ledger>(
     requires { buffers.old.limit ≡ task.depth }
     ensures holds { OnOk result ((bytes : List ℕ) × (scratch.new.out.items ≡ bytes ++ 0x0a ∷ [])
         × IsRecord (task_job task.entry) line.entry.now bytes) }
-    ensures read { OnOk result (HasReadLines (task_job task.entry) buffers.old buffers.new (line.entry.now ∷ [])) }
+    ensures texts { OnOk result (HasReadLines (task_job task.entry) buffers.old buffers.new (line.entry.now ∷ [])) }
     ensures limit { buffers.new.limit ≡ buffers.old.limit }
 {
     let Scratch { room, out } = scratch;
@@ -115,7 +115,7 @@ fn put_record<'de, L: Ledger>(
     requires new_line { room.old.history.items ≡ [] }
     ensures holds { OnOk result ((bytes : List ℕ) × (out.new.items ≡ out.old.items ++ bytes)
         × IsRecord (task_job task.entry) line.entry.now bytes) }
-    ensures read { OnOk result (HasReadLines (task_job task.entry) buffers.old buffers.new (line.entry.now ∷ [])) }
+    ensures texts { OnOk result (HasReadLines (task_job task.entry) buffers.old buffers.new (line.entry.now ∷ [])) }
     ensures limit { buffers.new.limit ≡ buffers.old.limit }
 {
     match read_tape(alloc, buffers, tape, line) {
@@ -136,8 +136,8 @@ fn read_tape<'de, L: Ledger>(
     ensures found { OnOk result (IsTapeOf line.entry.now buffers.old.limit (tape_nodes tape.new)) }
     ensures not_empty { OnOk result (tape_nodes tape.new ≢ []) }
     ensures refused { IfErr result (λ e. IfRefused e (λ why. fault line.entry.now buffers.old.limit ≡ Some why)) }
-    ensures read { OnOk result (HasRead buffers.old buffers.new (line.entry.now ∷ [])) }
-    ensures read_and_refused { IfErr result (λ e. IfRefused e (λ why. HasRead buffers.old buffers.new (line.entry.now ∷ []))) }
+    ensures texts { OnOk result (HasRead buffers.old buffers.new (line.entry.now ∷ [])) }
+    ensures refused_texts { IfErr result (λ e. IfRefused e (λ why. HasRead buffers.old buffers.new (line.entry.now ∷ []))) }
     ensures limit { buffers.new.limit ≡ buffers.old.limit }
 {
     buffers.release(alloc)?;
@@ -160,7 +160,7 @@ fn put_document_record<L: Ledger>(
     requires readable { IsReadable task.depth (nodes_tree (tape_nodes tape.old)) }
     ensures holds { OnOk result (out.new.items ≡ out.old.items
         ++ text_of (outcome (task_job task.entry) (nodes_tree (tape_nodes tape.old)))) }
-    ensures read { let job = task_job task.entry in
+    ensures texts { let job = task_job task.entry in
         OnOk result (HasRead buffers.old buffers.new (reloads job (begun job (nodes_tree (tape_nodes tape.old))) job.script)) }
     ensures limit { buffers.new.limit ≡ buffers.old.limit }
 {
@@ -214,7 +214,7 @@ fn run_on_text<'s, L: Ledger>(
     ensures runs { IfOk result (λ left. (s : State) → IsReadable task.entry.depth s.tree → IsPrinted s.tree room.old.printed.items
         → StandFor (task_job task.entry).keeping s.tree room.old.history.items s
         → Runs (task_job task.entry) s (commands_view commands.now) false (option_copied left) room.new.history.items room.new.printed.items out.old.items out.new.items []) }
-    ensures read { OnOk result (HasRead buffers.old buffers.new (room.old.printed.items ∷ [])) }
+    ensures texts { OnOk result (HasRead buffers.old buffers.new (room.old.printed.items ∷ [])) }
     ensures limit { buffers.new.limit ≡ buffers.old.limit }
 {
     printing_reads_back();

@@ -23,7 +23,7 @@ loop-behind-preserved g c =
     let done = c.in_ok-complete_line.ensures in
     let parts = rw c.in-Some.is at c.split_line-end.ensures.parts in
     record {
-      feeding = Feeding-line (task_job c.args.task) _ _ _ _ _ _ _ _ _ _ _ _ c.loop-behind.invariant.feeding parts c.split_line-end.ensures.free done.stands done.read done.cleared;
+      feeding = Feeding-line (task_job c.args.task) _ _ _ _ _ _ _ _ _ _ _ _ c.loop-behind.invariant.feeding parts c.split_line-end.ensures.free done.stands done.texts done.cleared;
       limit = done.limit ∙ c.loop-behind.invariant.limit;
       written = done.writes ∙ c.loop-behind.invariant.written;
     }
@@ -38,8 +38,8 @@ returns-in_default-clause-stands g c =
     let all = rw c.in_default.is at c.split_line-end.ensures.parts in
     Feeding-end (task_job c.args.task) _ _ _ _ _ _ _ c.loop-behind.invariant.feeding (rw all c.split_line-end.ensures.free)
 
-pub returns-in_default-clause-read : goal.returns-in_default-clause-read
-returns-in_default-clause-read g c =
+pub returns-in_default-clause-texts : goal.returns-in_default-clause-texts
+returns-in_default-clause-texts g c =
     let all = rw c.in_default.is at c.split_line-end.ensures.parts in
     Feeding-read (task_job c.args.task) _ _ _ _ _ _ _ c.loop-behind.invariant.feeding (rw all c.split_line-end.ensures.free)
 

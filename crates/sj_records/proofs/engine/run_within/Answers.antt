@@ -18,11 +18,11 @@ returns-in-Ok-eq0-clause-stands g c =
     let nothing : Consumes (g.R.Source.remaining c.loop.reader) (g.R.Source.remaining c.read.new.self) [] = rw c.in-Ok-eq0.field-0-test at given.0 in
     Running-ended (task_job c.args.task) _ _ _ _ _ _ _ _ c.loop.pending.line.items c.finish.result c.loop.invariant.running nothing c.finish.ensures.stands
 
-pub returns-in-Ok-eq0-clause-read : goal.returns-in-Ok-eq0-clause-read
-returns-in-Ok-eq0-clause-read g c =
+pub returns-in-Ok-eq0-clause-texts : goal.returns-in-Ok-eq0-clause-texts
+returns-in-Ok-eq0-clause-texts g c =
     let given = rw c.in-Ok-eq0.is at c.read.ensures.bytes in
     let nothing : Consumes (g.R.Source.remaining c.loop.reader) (g.R.Source.remaining c.read.new.self) [] = rw c.in-Ok-eq0.field-0-test at given.0 in
-    Running-read (task_job c.args.task) _ _ _ _ _ _ c.args.buffers.now c.loop.buffers c.finish.new.buffers c.loop.pending.line.items c.finish.result c.loop.invariant.running nothing c.finish.ensures.stands c.finish.ensures.read
+    Running-read (task_job c.args.task) _ _ _ _ _ _ c.args.buffers.now c.loop.buffers c.finish.new.buffers c.loop.pending.line.items c.finish.result c.loop.invariant.running nothing c.finish.ensures.stands c.finish.ensures.texts
 
 pub process_piece-requires : goal.process_piece-requires
 process_piece-requires g c = record {
@@ -59,7 +59,7 @@ loop-preserved g c =
           let whole : w.deref_mut-in-Ok.result.now ≡ c.read.new.buf = w.deref_mut-in-Ok.ensures.value ∙ take_at c.read.new.buf (drop (length c.read.new.buf) c.loop.piece.items) c.loop.piece.len (omega arith) in
           let given : Consumes (g.R.Source.remaining c.loop.reader) (g.R.Source.remaining c.read.new.self) piece = rw whole w.in-Ok.ensures.bytes.0 in
           record {
-            running = rw (w.writer-is, w.pending-is, w.buffers-is) (Running-more (task_job c.args.task) _ _ _ _ _ _ _ _ _ c.loop.pending.line.items piece _ so_far.running given fed.stands fed.read fed.kept);
+            running = rw (w.writer-is, w.pending-is, w.buffers-is) (Running-more (task_job c.args.task) _ _ _ _ _ _ _ _ _ c.loop.pending.line.items piece _ so_far.running given fed.stands fed.texts fed.kept);
             goes_on = GoesOn-then (reads c.args.reader.now) (reads c.loop.reader) (reads c.read.new.self) so_far.goes_on (GoesOn-some (reads c.loop.reader) (reads c.read.new.self) c.read.new.buf w.in-Ok.taken (omega arith) w.in-Ok.ensures.ok_counts);
             made = w.in-Ok.ensures.made ∙ omega arith;
             written = rw w.writer-is (fed.writes ∙ so_far.written);

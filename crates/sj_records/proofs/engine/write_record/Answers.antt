@@ -9,5 +9,5 @@ returns-clause-stands g c =
     let made = c.in_ok-make_record.ensures.holds in
     LeavesLines-written (task_job c.args.task) _ _ c.args.line.now made.0 _ c.write_all.result (c.deref.ensures.value ∙ made.1) made.2 c.write_all.ensures.stands
 
-pub returns-clause-read : goal.returns-clause-read
-returns-clause-read g c = if_ok c.write_all.result c.in_ok-make_record.ensures.read
+pub returns-clause-texts : goal.returns-clause-texts
+returns-clause-texts g c = if_ok c.write_all.result c.in_ok-make_record.ensures.texts

@@ -52,7 +52,7 @@ loop-left-preserved g c =
     let printed = c.loop-left.room.printed.items in (
       so_far.0 ++ printed ∷ [],
       Runs-on job (begun job t) job.script (commands_view c.in-Some.commands.now) true (option_copied c.in_ok-left-2.left) _ _ _ _ _ _ _ so_far.0 [] r runs,
-      HasRead-then c.args.buffers.now c.loop-left.buffers c.run_on_text.new.buffers so_far.0 (printed ∷ []) so_far.2 c.in_ok-left-2.ensures.read,
+      HasRead-then c.args.buffers.now c.loop-left.buffers c.run_on_text.new.buffers so_far.0 (printed ∷ []) so_far.2 c.in_ok-left-2.ensures.texts,
       c.in_ok-left-2.ensures.limit ∙ so_far.3,
     )
 
@@ -63,7 +63,7 @@ returns-clause-holds g c =
     let ended = rw c.in_default.is at c.loop-left.invariant.1 in
     ended.0 ∙ record_begun job (begun job t) job.script c.args.out.now.items
 
-pub returns-clause-read : goal.returns-clause-read
-returns-clause-read g c =
+pub returns-clause-texts : goal.returns-clause-texts
+returns-clause-texts g c =
     let ended = rw c.in_default.is at c.loop-left.invariant.1 in
     subst (λ (ts : List (List ℕ)). HasRead c.args.buffers.now c.loop-left.buffers ts) (sym ended.1) c.loop-left.invariant.2

@@ -39,8 +39,8 @@ returns-in-Err-Refused-clause-holds g c =
     let first = subst (λ (limit : ℕ). fault c.args.line.now limit ≡ Some why) c.requires.limit (rw c.in-Err-Refused.field-0-is at c.in-Err-Refused.ensures.refused) in
     on_ok_weaker c.put_fault_record.result (λ put. (text (fault_record why), put, inr (why, first, refl))) (rw c.in-Err-Refused.fault-is at c.put_fault_record.ensures)
 
-pub returns-in-Ok-clause-read : goal.returns-in-Ok-clause-read
-returns-in-Ok-clause-read g c =
+pub returns-in-Ok-clause-texts : goal.returns-in-Ok-clause-texts
+returns-in-Ok-clause-texts g c =
     let job = task_job c.args.task in
     let line = c.args.line.now in
     let found = c.in-Ok.ensures.found in
@@ -49,12 +49,12 @@ returns-in-Ok-clause-read g c =
     let document = subst (λ (limit : ℕ). Document line limit found.0) c.requires.limit found.1 in
     let is : nodes_tree nodes ≡ found.0 = tree_from (entries nodes) found.0 found.2 in
     on_ok_weaker c.put_document_record.result (λ read. HasReadLines-one job c.args.buffers.now c.put_document_record.new.buffers line (line ∷ texts) (inl (found.0, document, ap (λ t. line ∷ reloads job (begun job t) job.script) is))
-    (HasRead-then c.args.buffers.now c.read_tape.new.buffers c.put_document_record.new.buffers (line ∷ []) texts c.in-Ok.ensures.read read)) c.put_document_record.ensures.read
+    (HasRead-then c.args.buffers.now c.read_tape.new.buffers c.put_document_record.new.buffers (line ∷ []) texts c.in-Ok.ensures.texts read)) c.put_document_record.ensures.texts
 
-pub returns-in-Err-Refused-clause-read : goal.returns-in-Err-Refused-clause-read
-returns-in-Err-Refused-clause-read g c =
+pub returns-in-Err-Refused-clause-texts : goal.returns-in-Err-Refused-clause-texts
+returns-in-Err-Refused-clause-texts g c =
     let line = c.args.line.now in
     let why = c.in-Err-Refused.fault in
     let first = subst (λ (limit : ℕ). fault line limit ≡ Some why) c.requires.limit (rw c.in-Err-Refused.field-0-is at c.in-Err-Refused.ensures.refused) in
-    let read = rw c.in-Err-Refused.field-0-is at c.in-Err-Refused.ensures.read_and_refused in
+    let read = rw c.in-Err-Refused.field-0-is at c.in-Err-Refused.ensures.refused_texts in
     if_ok c.put_fault_record.result (HasReadLines-one (task_job c.args.task) c.args.buffers.now c.read_tape.new.buffers line (line ∷ []) (inr (why, first, refl)) read)

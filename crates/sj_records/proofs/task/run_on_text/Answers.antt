@@ -31,5 +31,5 @@ returns-clause-runs g c = λ s readable printed stands.
     let runs = c.in_ok-left.ensures s (subst (λ (t : Tree). StandFor job.keeping t c.args.room.now.history.items s) begins stands) in
     rw c.swap.ensures.x_after runs
 
-pub returns-clause-read : goal.returns-clause-read
-returns-clause-read g c = subst (λ (bytes : List ℕ). HasRead c.args.buffers.now c.read_tape.new.buffers (bytes ∷ [])) c.deref_mut.ensures.value c.in-Ok.ensures.read
+pub returns-clause-texts : goal.returns-clause-texts
+returns-clause-texts g c = subst (λ (bytes : List ℕ). HasRead c.args.buffers.now c.read_tape.new.buffers (bytes ∷ [])) c.deref_mut.ensures.value c.in-Ok.ensures.texts
