@@ -120,17 +120,26 @@ fn streams_in_the_same_buffers(rt: HostRuntime) -> Result<(), Fail> {
     Ok(())
 }
 
-// Looks for the record of a script with a reload, and for the positions that it leaves in buffers whose texts the blank counts.
+// A script with a reload, and the positions that it leaves in buffers whose texts the blank counts. They are those of the text
+// that was read last, which is that of the reload.
 fn expect_positions<N: Ledger>(
     rt: &impl Abort,
     alloc: Global,
     form: Form,
-    record: &str,
-    positions: &[u32],
     texts: Blank,
 ) -> Result<(), Fail>
     requires { (texts.name ≡ N.name) × (texts.parts ≡ N.parts) × (texts.parts ≡ 1) }
 {
+    let (record, positions): (&str, &[u32]) = match form {
+        Form::Lazy => (
+            "{\"replies\":[true,2],\"document\":{\"a\":1,\"a\":2}}\n",
+            &[0, 1, 4, 5, 6, 7, 10, 11, 12],
+        ),
+        Form::Owned | Form::Borrowed => (
+            "{\"replies\":[true,1],\"document\":{\"a\":1}}\n",
+            &[0, 1, 4, 5, 6],
+        ),
+    };
     let mut buffers = CountedBuffers::<N>::new(Buffers::new(alloc, 0)?, texts);
     expect_with(
         &mut buffers,
@@ -145,25 +154,11 @@ fn expect_positions<N: Ledger>(
     Ok(())
 }
 
-// The positions are those of the text that was read last, which here is that of the reload.
 #[test]
 fn positions_behind_a_reload(rt: HostRuntime) -> Result<(), Fail> {
     let alloc = rt.alloc();
-    let owned: &[u32] = &[0, 1, 4, 5, 6];
-    let lazy: &[u32] = &[0, 1, 4, 5, 6, 7, 10, 11, 12];
-    for (form, record, positions) in [
-        (
-            Form::Owned,
-            "{\"replies\":[true,1],\"document\":{\"a\":1}}\n",
-            owned,
-        ),
-        (
-            Form::Lazy,
-            "{\"replies\":[true,2],\"document\":{\"a\":1,\"a\":2}}\n",
-            lazy,
-        ),
-    ] {
-        expect_positions::<Brand>(&rt, alloc, form, record, positions, Blank::new(1))?;
+    for form in FORMS {
+        expect_positions::<Brand>(&rt, alloc, form, Blank::new(1))?;
     }
     Ok(())
 }

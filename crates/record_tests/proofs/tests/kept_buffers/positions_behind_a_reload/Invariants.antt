@@ -2,4 +2,4 @@ use Rattle.record_tests.proofs.tests.kept_buffers.positions_behind_a_reload.Give
 
 -- the texts are counted in a ledger of their own
 abbrev pub ghosts-expect_positions : goal.ghosts-expect_positions
-ghosts-expect_positions a = record { name = a.texts.name; parts = a.texts.parts }
+ghosts-expect_positions g a = record { name = a.texts.name; parts = a.texts.parts }
