@@ -62,6 +62,7 @@ pub unended-append : (xs ys : List ℕ) → unended (xs ++ ys) ≡ unended (unen
 unended-append [] ys = refl
 unended-append (b ∷ xs) ys = unended_step b (eqb b 0x0a) (ended xs) (ended (xs ++ ys)) (unended xs) (unended (xs ++ ys)) ys refl (ended-append xs ys) (unended-append xs ys)
 
+-- A part that is not empty is a line.
 pub if_any-some : (bs : List ℕ) → bs ≢ [] → if_any bs ≡ bs ∷ []
 if_any-some [] some = absurd (some refl)
 if_any-some (b ∷ bs) some = refl

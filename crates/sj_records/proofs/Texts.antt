@@ -1,20 +1,12 @@
 -- Texts that are read one after the other.
-use Rattle.std.proofs.Common.{◌≡◌, ℕ, ◌+◌, ◌≤◌, Bool, List, [], ◌∷◌, ◌++◌, length, nat_le, Result, Ok, Err, inl, inr, refl, sym, ap, ap₂, subst, ◌∙◌, append_assoc, arith}
-use Rattle.std.specs.Prelude.{◌≢◌, ◌⊎◌, OnOk}
+use Rattle.std.proofs.Common.{◌≡◌, ℕ, ◌+◌, List, [], ◌∷◌, ◌++◌, length, Result, Ok, Err, refl, sym, ap, subst, ◌∙◌, append_assoc, arith}
+use Rattle.std.specs.Prelude.{◌≢◌, OnOk}
 use Rattle.std.proofs.lemmas.List.{append-nil, length-append}
-use Rattle.sj_base.specs.Spelling.{longest}
-use Rattle.sj_base.specs.declared.error.Error.{Error}
-use Rattle.sj_base.specs.declared.error.ErrorType.TheVariants.{OutOfMemory}
-use Rattle.sj_parse.specs.Answers.{scanned}
-use Rattle.sj_parse.specs.Fault.{generic}
-use Rattle.sj_scripts.specs.declared.memory_or.MemoryOr.{MemoryOr}
-use Rattle.sj_scripts.specs.declared.memory_or.MemoryOr.TheVariants.{Memory, Refused}
 use Rattle.sj_scripts.specs.declared.script.Command.{Command}
 use Rattle.sj_scripts.specs.declared.script.Command.TheVariants.{Get, Contains, TypeOf, Len, Keys, Insert, Remove, Push, Pop, SetAt, Undo, Reload, ReloadPp}
 use Rattle.sj_scripts.specs.Script.{command_view}
-use Rattle.sj_scripts.specs.inside.ReadErrors.{IfRefused, IsReadError}
 use Rattle.sj_documents.specs.Step.{Job, State}
-use Rattle.sj_records.specs.Texts.{if_read, reread, AreTextsOf, AreTexts, BufferState, LeavesPositions, HasRead, HasReadLines}
+use Rattle.sj_records.specs.Texts.{reread, AreTextsOf, AreTexts, BufferState, LeavesPositions, HasRead, HasReadLines}
 
 -- what holds whatever a call answers
 pub if_ok : {A E P : Type 0} (r : Result A E) → P → OnOk r P
@@ -45,19 +37,6 @@ HasRead-then a b c xs ys h k =
     let first = h.0 in
     let then = k.0 in
     (omega arith, positions-then xs ys a.positions b.positions c.positions h.1 k.1)
-
--- a text that was read without a fault, and one that was refused
-pub read_whole : (a b : BufferState) (bytes : List ℕ) → b.count ≡ a.count + 1 → (length bytes ≤ longest → b.positions ≡ scanned bytes) → HasRead a b (bytes ∷ [])
-read_whole a b bytes count left = (count, left)
-
-pub read_refused : (a b : BufferState) (bytes : List ℕ) (fault : Error) (e : MemoryOr Error) → IsReadError fault e → b.count ≡ a.count + 1
-    → (length bytes ≤ longest → (b.positions ≡ scanned bytes) ⊎ ((fault ≡ generic OutOfMemory) × (b.positions ≡ []))) → IfRefused e (λ why. HasRead a b (bytes ∷ []))
-read_refused a b bytes fault Memory is count left = tt
-read_refused a b bytes fault (Refused why) is count left = (count, λ short. elim (left short) [ inl same ↦ same | inr none ↦ absurd (is.1 (ap (λ (e : Error). e.error) none.0)) ])
-
--- the text of a reload, which is read if its reply says so
-pub printed_read : (bytes printed : List ℕ) (is_readable : Bool) → printed ≡ bytes → is_readable ≡ nat_le (length printed) longest → if_read (nat_le (length bytes) longest) bytes ≡ if_read is_readable printed
-printed_read bytes printed is_readable is readable = sym (ap₂ if_read (readable ∙ ap (λ (l : List ℕ). nat_le (length l) longest) is) is)
 
 -- A command that is no reload reads none.
 pub none_reread : (c : Command) (s : State) → c ≢ Reload → c ≢ ReloadPp → reread s (command_view c) ≡ []
