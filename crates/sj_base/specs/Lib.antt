@@ -6,6 +6,7 @@ pub mod Characters
 pub mod Spelling
 pub mod Keep
 pub mod Path
+pub mod Reads
 pub mod Alike
 pub mod Edit
 pub mod Text

@@ -1,0 +1,40 @@
+//! A slice whose contracts list the places that were read.
+ghost use Rattle.std.specs.Prelude.{◌≡◌, [], option_map, slice_get};
+ghost use Rattle.sj_base.specs.Reads.{noted, reads_items, reads_places};
+
+use crate::places::Places;
+
+/// A slice that is read one item at a time. Contracts list the places that were read, as
+/// [`Counted`](crate::Counted) has the counts of calls: at no cost at run time.
+///
+/// A function that is given a `&mut Reads` and nothing else of the slice can read no item without its place in that list.
+#[derive(Drop)]
+pub struct Reads<'p, T> {
+    items: &'p [T],
+    places: Places,
+}
+
+impl<'p, T> Reads<'p, T> {
+    /// Wraps a slice of which no item was read.
+    pub fn new(items: &'p [T]) -> Reads<'p, T>
+        ensures items { reads_items result ≡ items.now }
+        ensures places { reads_places result ≡ [] }
+    {
+        Reads {
+            items,
+            places: Places::none(),
+        }
+    }
+
+    /// Returns the item at that place, or `None` if the slice ends before it. Such a place isn't listed.
+    #[inline(always)]
+    pub fn at(&mut self, place: usize) -> Option<&'p T>
+        ensures item { option_map (λ item. item.now) result ≡ slice_get (reads_items self.old) place }
+        ensures items { reads_items self.new ≡ reads_items self.old }
+        ensures places { reads_places self.new ≡ noted (reads_items self.old) (reads_places self.old) place }
+    {
+        let item = self.items.get(place)?;
+        self.places = self.places.then(place);
+        Some(item)
+    }
+}
