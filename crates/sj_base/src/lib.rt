@@ -13,12 +13,12 @@ mod layout;
 mod number;
 mod output;
 mod place;
-mod places;
 mod put;
 mod reads;
 mod scalar;
 mod static_node;
 mod stream;
+mod trace;
 mod try_copy;
 
 pub use buffer::TextBuffer;
@@ -33,6 +33,7 @@ pub use reads::Reads;
 pub use scalar::Scalar;
 pub use static_node::{StaticNode, ValueType};
 pub use stream::{Counted, Sink, Source};
+pub use trace::Trace;
 pub use try_copy::TryCopy;
 
 /// The limit of nesting, in levels, of calls that aren't given one. A scalar has level 0.

@@ -2,16 +2,16 @@
 ghost use Rattle.std.specs.Prelude.{◌≡◌, [], option_map, slice_get};
 ghost use Rattle.sj_base.specs.Reads.{noted, reads_items, reads_places};
 
-use crate::places::Places;
+use crate::trace::Trace;
 
-/// A slice that is read one item at a time. Contracts list the places that were read, as
-/// [`Counted`](crate::Counted) has the counts of calls: at no cost at run time.
+/// A slice that is read one item at a time, and whose contracts list the places that were read.
 ///
-/// A function that is given a `&mut Reads` and nothing else of the slice can read no item without its place in that list.
-#[derive(Drop)]
+/// A function that has a slice by a `&mut Reads` alone reads no item without its place in that list. The list takes no room
+/// at run time.
+#[derive(Debug, Drop)]
 pub struct Reads<'p, T> {
     items: &'p [T],
-    places: Places,
+    places: Trace,
 }
 
 impl<'p, T> Reads<'p, T> {
@@ -20,10 +20,8 @@ impl<'p, T> Reads<'p, T> {
         ensures items { reads_items result ≡ items.now }
         ensures places { reads_places result ≡ [] }
     {
-        Reads {
-            items,
-            places: Places::none(),
-        }
+        let places = Trace::new();
+        Reads { items, places }
     }
 
     /// Returns the item at that place, or `None` if the slice ends before it. Such a place isn't listed.
