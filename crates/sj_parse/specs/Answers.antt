@@ -1,5 +1,5 @@
 -- What a call answers that reads a text, and what it leaves in its buffers.
-use Rattle.std.specs.Prelude.{◌≡◌, ℕ, List, [], ◌⊎◌, Option, Some, None, Result, Ok, Err, vec_capacity}
+use Rattle.std.specs.Prelude.{◌≡◌, ℕ, List, [], length, ◌⊎◌, Option, Some, None, Result, Ok, Err, vec_capacity}
 use Rattle.sj_base.specs.Tree.{Tree}
 use Rattle.sj_base.specs.Spelling.{Document}
 use Rattle.sj_base.specs.declared.error.Error.{Error}
@@ -33,6 +33,10 @@ Answers nodes bytes limit found (Ok x) = (found ≡ None) × IsTapeOf bytes limi
 Answers nodes bytes limit found (Err e) = IsErrorOf found e
 
 -- ---- buffers
+
+-- the number of texts that were read with them
+abbrev pub buffer_texts : Buffers → ℕ
+buffer_texts b = length b.texts.list
 
 abbrev pub buffer_positions : Buffers → List ℕ
 buffer_positions b = b.positions.items

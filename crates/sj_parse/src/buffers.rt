@@ -1,9 +1,9 @@
 //! The room that reading works in, kept from one text to the next.
-ghost use Rattle.std.specs.Prelude.{◌≡◌, ◌/◌, ◌≤◌, [], IfOk};
-ghost use Rattle.sj_parse.specs.Answers.{buffer_positions, buffer_limit, buffer_room};
+ghost use Rattle.std.specs.Prelude.{◌≡◌, ◌+◌, ◌/◌, ◌≤◌, [], IfOk};
+ghost use Rattle.sj_parse.specs.Answers.{buffer_texts, buffer_positions, buffer_limit, buffer_room};
 
 use crate::containers::Frame;
-use sj_base::DEFAULT_MAX_DEPTH;
+use sj_base::{DEFAULT_MAX_DEPTH, Trace};
 use std::alloc::{AllocError, Global};
 
 /// The number of bytes of input for which room for one position and one open container is reserved at once.
@@ -12,12 +12,15 @@ const BYTES_PER_POSITION: usize = 128;
 /// Room that one text after another is read in, and the limit of depth under which they are read. Port of
 /// `simd_json::Buffers`.
 ///
-/// Buffers can be used again after any error. Reading never shrinks their room for positions.
+/// Buffers can be used again after any error. Reading never shrinks their room for positions. Contracts count the texts that
+/// were read with them, refused ones included; the count takes no room at run time.
 #[derive(Debug, Drop)]
 pub struct Buffers {
     pub(crate) positions: Vec<u32>,
     pub(crate) stack: Vec<Frame>,
     pub(crate) max_depth: usize,
+    // The lengths of the texts that were read, in bytes.
+    texts: Trace,
 }
 
 impl Buffers {
@@ -30,6 +33,7 @@ impl Buffers {
     ///
     /// `AllocError` if there is no memory for this room.
     pub fn new(alloc: Global, input_len: usize) -> Result<Buffers, AllocError>
+        ensures texts { IfOk result (λ buffers. buffer_texts buffers ≡ 0) }
         ensures positions { IfOk result (λ buffers. buffer_positions buffers ≡ []) }
         ensures limit { IfOk result (λ buffers. buffer_limit buffers ≡ DEFAULT_MAX_DEPTH) }
         ensures room { IfOk result (λ buffers. input_len / 128 ≤ buffer_room buffers) }
@@ -50,6 +54,7 @@ impl Buffers {
         input_len: usize,
         max_depth: usize,
     ) -> Result<Buffers, AllocError>
+        ensures texts { IfOk result (λ buffers. buffer_texts buffers ≡ 0) }
         ensures positions { IfOk result (λ buffers. buffer_positions buffers ≡ []) }
         ensures limit { IfOk result (λ buffers. buffer_limit buffers ≡ max_depth) }
         ensures room { IfOk result (λ buffers. input_len / 128 ≤ buffer_room buffers) }
@@ -59,6 +64,7 @@ impl Buffers {
             positions: Vec::with_capacity(alloc, count)?,
             stack: Vec::with_capacity(alloc, count.min(max_depth))?,
             max_depth,
+            texts: Trace::new(),
         })
     }
 
@@ -67,6 +73,27 @@ impl Buffers {
         ensures { result ≡ buffer_limit self.now }
     {
         self.max_depth
+    }
+
+    /// Gives back all room, and forgets the positions.
+    pub fn release(&mut self)
+        ensures texts { buffer_texts self.new ≡ buffer_texts self.old }
+        ensures positions { buffer_positions self.new ≡ [] }
+        ensures limit { buffer_limit self.new ≡ buffer_limit self.old }
+    {
+        let alloc = self.allocator();
+        self.positions = Vec::new(alloc);
+        self.stack = Vec::new(alloc);
+    }
+
+    /// Counts a text of that many bytes.
+    pub(crate) fn count(&mut self, len: usize)
+        ensures texts { buffer_texts self.new ≡ buffer_texts self.old + 1 }
+        ensures positions { buffer_positions self.new ≡ buffer_positions self.old }
+        ensures limit { buffer_limit self.new ≡ buffer_limit self.old }
+        ensures room { buffer_room self.new ≡ buffer_room self.old }
+    {
+        self.texts = self.texts.then(len);
     }
 
     /// Returns the allocator of the buffers.

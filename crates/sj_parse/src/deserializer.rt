@@ -8,7 +8,7 @@ ghost use Rattle.sj_tape.specs.Listing.{listing};
 ghost use Rattle.sj_tape.specs.Nodes.{entries};
 ghost use Rattle.sj_tape.specs.Views.{tape_nodes, tape_tree, value_nodes, value_tree};
 ghost use Rattle.sj_parse.specs.Fault.{generic, fault};
-ghost use Rattle.sj_parse.specs.Answers.{Answers, Leaves, buffer_positions, buffer_limit, buffer_room, deserializer_nodes, deserializer_next};
+ghost use Rattle.sj_parse.specs.Answers.{Answers, Leaves, buffer_texts, buffer_positions, buffer_limit, buffer_room, deserializer_nodes, deserializer_next};
 
 use crate::Result;
 use crate::buffers::Buffers;
@@ -57,6 +57,7 @@ impl<'de> Deserializer<'de> {
         ensures too_large { longest < length s.entry.now → result ≡ Err (generic InputTooLarge) }
         ensures scanned { length s.entry.now ≤ longest → Leaves s.entry.now result (buffer_positions buffers.new) }
         ensures not_scanned { longest < length s.entry.now → buffer_positions buffers.new ≡ buffer_positions buffers.old }
+        ensures texts { buffer_texts buffers.new ≡ buffer_texts buffers.old + 1 }
         ensures limit { buffer_limit buffers.new ≡ buffer_limit buffers.old }
         ensures room { buffer_room buffers.old ≤ buffer_room buffers.new }
     {

@@ -10,7 +10,7 @@ ghost use Rattle.sj_scan.specs.Positions.{positions};
 ghost use Rattle.sj_scan.specs.Scan.{scan_fault};
 ghost use Rattle.sj_tape.specs.Views.{tape_nodes};
 ghost use Rattle.sj_parse.specs.Fault.{generic, scan_kind, fault, padding, padded_fault};
-ghost use Rattle.sj_parse.specs.Answers.{Answers, IsErrorOf, Leaves, buffer_positions, buffer_limit, buffer_room};
+ghost use Rattle.sj_parse.specs.Answers.{Answers, IsErrorOf, Leaves, buffer_texts, buffer_positions, buffer_limit, buffer_room};
 
 use crate::Result;
 use crate::buffers::Buffers;
@@ -65,6 +65,7 @@ pub fn to_tape_with_buffers<'de>(
     ensures too_large { longest < length s.entry.now → result ≡ Err (generic ErrorType.InputTooLarge) }
     ensures scanned { length s.entry.now ≤ longest → Leaves s.entry.now result (buffer_positions buffers.new) }
     ensures not_scanned { longest < length s.entry.now → buffer_positions buffers.new ≡ buffer_positions buffers.old }
+    ensures texts { buffer_texts buffers.new ≡ buffer_texts buffers.old + 1 }
     ensures limit { buffer_limit buffers.new ≡ buffer_limit buffers.old }
     ensures room { buffer_room buffers.old ≤ buffer_room buffers.new }
 {
@@ -90,6 +91,7 @@ pub fn fill_tape<'de>(s: &'de mut [u8], buffers: &mut Buffers, tape: &mut Tape<'
     ensures too_large { longest < length s.entry.now → result ≡ Err (generic ErrorType.InputTooLarge) }
     ensures scanned { length s.entry.now ≤ longest → Leaves s.entry.now result (buffer_positions buffers.new) }
     ensures not_scanned { longest < length s.entry.now → buffer_positions buffers.new ≡ buffer_positions buffers.old }
+    ensures texts { buffer_texts buffers.new ≡ buffer_texts buffers.old + 1 }
     ensures limit { buffer_limit buffers.new ≡ buffer_limit buffers.old }
     ensures room { buffer_room buffers.old ≤ buffer_room buffers.new }
 {
@@ -114,15 +116,18 @@ pub fn fill_tape_by<'de, S: Stage1>(
     ensures too_large { longest < length s.entry.now → result ≡ Err (generic ErrorType.InputTooLarge) }
     ensures scanned { length s.entry.now ≤ longest → Leaves s.entry.now result (buffer_positions buffers.new) }
     ensures not_scanned { longest < length s.entry.now → buffer_positions buffers.new ≡ buffer_positions buffers.old }
+    ensures texts { buffer_texts buffers.new ≡ buffer_texts buffers.old + 1 }
     ensures limit { buffer_limit buffers.new ≡ buffer_limit buffers.old }
     ensures room { buffer_room buffers.old ≤ buffer_room buffers.new }
 {
+    let len = s.len();
     let mut nodes = take_room(buffers.allocator(), tape);
     let read = read_nodes(scanner, s, buffers, &mut nodes);
     if read.is_err() {
         nodes.clear();
     }
     *tape = Tape::from_listing(nodes);
+    buffers.count(len);
     read
 }
 
@@ -152,10 +157,12 @@ pub fn fill_tape_padded<'de>(
         → result ≡ Err (generic ErrorType.InsufficientPadding) }
     ensures scanned { len ≤ longest → len + padding ≤ length s.entry.now → Leaves (take len s.entry.now) result (buffer_positions buffers.new) }
     ensures not_scanned { ((longest < len) ⊎ (length s.entry.now < len + padding)) → buffer_positions buffers.new ≡ buffer_positions buffers.old }
+    ensures texts { buffer_texts buffers.new ≡ buffer_texts buffers.old + 1 }
     ensures limit { buffer_limit buffers.new ≡ buffer_limit buffers.old }
     ensures room { buffer_room buffers.old ≤ buffer_room buffers.new }
 {
     if let Err(error) = test_padding(s, len) {
+        buffers.count(len);
         *tape = Tape::from_listing(take_room(buffers.allocator(), tape));
         return Err(error);
     }
@@ -186,6 +193,7 @@ fn read_nodes<'de, S: Stage1>(
     ensures too_large { longest < length s.entry.now → result ≡ Err (generic ErrorType.InputTooLarge) }
     ensures scanned { length s.entry.now ≤ longest → Leaves s.entry.now result (buffer_positions buffers.new) }
     ensures not_scanned { longest < length s.entry.now → buffer_positions buffers.new ≡ buffer_positions buffers.old }
+    ensures texts { buffer_texts buffers.new ≡ buffer_texts buffers.old }
     ensures limit { buffer_limit buffers.new ≡ buffer_limit buffers.old }
     ensures room { buffer_room buffers.old ≤ buffer_room buffers.new }
 {
@@ -193,6 +201,7 @@ fn read_nodes<'de, S: Stage1>(
         positions,
         stack,
         max_depth,
+        ..
     } = buffers;
     scan(scanner, s, positions)?;
     make_room(positions.len(), *max_depth, nodes, stack)?;
