@@ -22,7 +22,7 @@ impl Trace {
     pub fn new() -> Trace
         ensures { result.list ≡ [] }
     {
-        Trace::named()
+        Self::named()
     }
 
     /// Returns the trace with one more number.

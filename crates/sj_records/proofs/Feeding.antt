@@ -6,7 +6,8 @@ use Rattle.sj_records.specs.declared.run_error.RunError.{RunError}
 use Rattle.sj_records.specs.declared.run_error.RunError.TheVariants.{Memory, Write, Read, TooManyReads}
 use Rattle.sj_documents.specs.Step.{Job}
 use Rattle.sj_records.specs.inside.Progress.{HasNoLineFeed, Wrote, WroteSome, WrotePrefix, LeavesLines}
-use Rattle.sj_records.specs.Texts.{BufferState, HasReadLines}
+use Rattle.sj_parse.specs.declared.buffers.Buffers.{Buffers}
+use Rattle.sj_records.specs.Texts.{HasReadLines}
 use Rattle.sj_records.proofs.Texts.{HasReadLines-nothing, HasReadLines-then}
 use Rattle.sj_records.proofs.Cut.{ended-none, unended-none, ended-cut, unended-cut, HasNoLineFeed-append}
 use Rattle.sj_records.proofs.Written.{Wrote-nothing, Wrote-then, WroteSome-front, WroteSome-none, WrotePrefix-then, AreRecords-append}
@@ -14,7 +15,7 @@ use Rattle.sj_records.proofs.Total.{AreRecords-exist}
 
 -- Since the writer held `first` and the buffers were `before`, the lines `done` of the stream were read and answered, and
 -- `line ++ rest` is left.
-pub record Feeding (job : Job) (first now : Option (List ℕ)) (before after : BufferState) (stream line rest : List ℕ) : Type 0 where
+pub record Feeding (job : Job) (first now : Option (List ℕ)) (before after : Buffers) (stream line rest : List ℕ) : Type 0 where
   pub done : List (List ℕ)
   pub wrote : Wrote job first now done
   pub read : HasReadLines job before after done
@@ -23,7 +24,7 @@ pub record Feeding (job : Job) (first now : Option (List ℕ)) (before after : B
   pub clean : HasNoLineFeed line
 
 module _ (job : Job) where
-  pub Feeding-begin : (a : Option (List ℕ)) (s : BufferState) (line piece : List ℕ) → HasNoLineFeed line → Feeding job a a s s (line ++ piece) line piece
+  pub Feeding-begin : (a : Option (List ℕ)) (s : Buffers) (line piece : List ℕ) → HasNoLineFeed line → Feeding job a a s s (line ++ piece) line piece
   Feeding-begin a s line piece clean = record { done = []; wrote = Wrote-nothing job a; read = HasReadLines-nothing job s; ended_is = refl; unended_is = refl; clean = clean }
 
   -- what is left, where a line feed comes
@@ -36,7 +37,7 @@ module _ (job : Job) where
       ap (λ l. unended (line ++ l)) is ∙ ap unended (sym (append_assoc line end (0x0a ∷ more))) ∙ unended-cut (line ++ end) more (HasNoLineFeed-append line end clean free)
 
   -- one more line is answered
-  pub Feeding-line : (a b c : Option (List ℕ)) (s t u : BufferState) (stream line rest end more new : List ℕ) → Feeding job a b s t stream line rest → rest ≡ end ++ 0x0a ∷ more → HasNoLineFeed end
+  pub Feeding-line : (a b c : Option (List ℕ)) (s t u : Buffers) (stream line rest end more new : List ℕ) → Feeding job a b s t stream line rest → rest ≡ end ++ 0x0a ∷ more → HasNoLineFeed end
       → Wrote job b c ((line ++ end) ∷ []) → HasReadLines job t u ((line ++ end) ∷ []) → new ≡ [] → Feeding job a c s u stream new more
   Feeding-line a b c s t u stream line rest end more new f is free wrote read none =
       record {
@@ -49,13 +50,13 @@ module _ (job : Job) where
       }
 
   -- nothing more was written
-  pub Feeding-stopped : (a b c : Option (List ℕ)) (s t : BufferState) (stream line rest : List ℕ) → Feeding job a b s t stream line rest → Wrote job b c [] → WroteSome job a c (ended stream)
+  pub Feeding-stopped : (a b c : Option (List ℕ)) (s t : Buffers) (stream line rest : List ℕ) → Feeding job a b s t stream line rest → Wrote job b c [] → WroteSome job a c (ended stream)
   Feeding-stopped a b c s t stream line rest f nothing =
       let both : Wrote job a c f.done = rw (← append-nil f.done) (Wrote-then job a b c f.done [] f.wrote nothing) in
       rw f.ended_is (WroteSome-front job a c f.done (ended (line ++ rest)) both)
 
   -- a part of the next record was written
-  Feeding-prefix : (a b c : Option (List ℕ)) (s t : BufferState) (stream line rest end more : List ℕ) → Feeding job a b s t stream line rest → rest ≡ end ++ 0x0a ∷ more → HasNoLineFeed end
+  Feeding-prefix : (a b c : Option (List ℕ)) (s t : Buffers) (stream line rest end more : List ℕ) → Feeding job a b s t stream line rest → rest ≡ end ++ 0x0a ∷ more → HasNoLineFeed end
       → WrotePrefix job b c ((line ++ end) ∷ []) → WrotePrefix job a c (ended stream)
   Feeding-prefix a b c s t stream line rest end more f is free part =
       let others = AreRecords-exist job (ended more) in
@@ -64,7 +65,7 @@ module _ (job : Job) where
       rw f.ended_is (WrotePrefix-then job a b c f.done (ended (line ++ rest)) f.wrote next)
 
   -- the record of the next line was not written whole
-  pub Feeding-failed : (a b c : Option (List ℕ)) (s t : BufferState) (stream line rest end more : List ℕ) (e : RunError) → Feeding job a b s t stream line rest → rest ≡ end ++ 0x0a ∷ more → HasNoLineFeed end
+  pub Feeding-failed : (a b c : Option (List ℕ)) (s t : Buffers) (stream line rest end more : List ℕ) (e : RunError) → Feeding job a b s t stream line rest → rest ≡ end ++ 0x0a ∷ more → HasNoLineFeed end
       → LeavesLines (Err e) job b c [] ((line ++ end) ∷ []) → LeavesLines (Err e) job a c (ended stream) (ended stream)
   Feeding-failed a b c s t stream line rest end more Memory f is free h = Feeding-stopped a b c s t stream line rest f (WroteSome-none job b c h)
   Feeding-failed a b c s t stream line rest end more Write f is free h = Feeding-prefix a b c s t stream line rest end more f is free h
@@ -72,15 +73,15 @@ module _ (job : Job) where
   Feeding-failed a b c s t stream line rest end more TooManyReads f is free h = absurd h
 
   -- no line feed is left
-  pub Feeding-end : (a b : Option (List ℕ)) (s t : BufferState) (stream line rest : List ℕ) → Feeding job a b s t stream line rest → HasNoLineFeed rest → Wrote job a b (ended stream)
+  pub Feeding-end : (a b : Option (List ℕ)) (s t : Buffers) (stream line rest : List ℕ) → Feeding job a b s t stream line rest → HasNoLineFeed rest → Wrote job a b (ended stream)
   Feeding-end a b s t stream line rest f free =
       let none = ended-none (line ++ rest) (HasNoLineFeed-append line rest f.clean free) in
       rw (f.ended_is, none, append-nil f.done) f.wrote
 
-  pub Feeding-read : (a b : Option (List ℕ)) (s t : BufferState) (stream line rest : List ℕ) → Feeding job a b s t stream line rest → HasNoLineFeed rest → HasReadLines job s t (ended stream)
+  pub Feeding-read : (a b : Option (List ℕ)) (s t : Buffers) (stream line rest : List ℕ) → Feeding job a b s t stream line rest → HasNoLineFeed rest → HasReadLines job s t (ended stream)
   Feeding-read a b s t stream line rest f free =
       let none = ended-none (line ++ rest) (HasNoLineFeed-append line rest f.clean free) in
       rw (f.ended_is, none, append-nil f.done) f.read
 
-  pub Feeding-kept : (a b : Option (List ℕ)) (s t : BufferState) (stream line rest : List ℕ) → Feeding job a b s t stream line rest → HasNoLineFeed rest → line ++ rest ≡ unended stream
+  pub Feeding-kept : (a b : Option (List ℕ)) (s t : Buffers) (stream line rest : List ℕ) → Feeding job a b s t stream line rest → HasNoLineFeed rest → line ++ rest ≡ unended stream
   Feeding-kept a b s t stream line rest f free = sym (f.unended_is ∙ unended-none (line ++ rest) (HasNoLineFeed-append line rest f.clean free))

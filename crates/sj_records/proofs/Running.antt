@@ -11,13 +11,14 @@ use Rattle.sj_records.specs.Lines.{ended, unended, if_any}
 use Rattle.sj_records.specs.Record.{AreRecords}
 use Rattle.sj_records.specs.Run.{Transfers, LeavesOutput}
 use Rattle.sj_records.specs.inside.Progress.{HasNoLineFeed, Wrote, WroteSome, WrotePrefix, LeavesLines}
-use Rattle.sj_records.specs.Texts.{BufferState, HasReadLines, HasReadStream}
+use Rattle.sj_parse.specs.declared.buffers.Buffers.{Buffers}
+use Rattle.sj_records.specs.Texts.{HasReadLines, HasReadStream}
 use Rattle.sj_records.proofs.Texts.{HasReadLines-nothing, HasReadLines-then}
 use Rattle.sj_records.proofs.Cut.{ended-append, unended-append, unended-HasNoLineFeed}
 use Rattle.sj_records.proofs.Written.{Wrote-nothing, Wrote-then, WroteSome-then, WroteSome-none, WrotePrefix-then, AreRecords-append}
 use Rattle.sj_records.proofs.Total.{AreRecords-exist}
 
-pub record Running (job : Job) (unread_old unread held_old held : Option (List ℕ)) (first now : BufferState) (line : List ℕ) : Type 0 where
+pub record Running (job : Job) (unread_old unread held_old held : Option (List ℕ)) (first now : Buffers) (line : List ℕ) : Type 0 where
   pub input : List ℕ
   pub consumed : Consumes unread_old unread input
   pub wrote : Wrote job held_old held (ended input)
@@ -25,21 +26,21 @@ pub record Running (job : Job) (unread_old unread held_old held : Option (List �
   pub kept : line ≡ unended input
 
 module _ (job : Job) where
-  pub Running-begin : (r w : Option (List ℕ)) (b : BufferState) (line : List ℕ) → line ≡ [] → Running job r r w w b b line
+  pub Running-begin : (r w : Option (List ℕ)) (b : Buffers) (line : List ℕ) → line ≡ [] → Running job r r w w b b line
   Running-begin r w b line none = record { input = []; consumed = Consumes-nil r; wrote = Wrote-nothing job w; read = HasReadLines-nothing job b; kept = none }
 
-  pub Running-clean : (r0 r1 w0 w1 : Option (List ℕ)) (b0 b1 : BufferState) (line : List ℕ) → Running job r0 r1 w0 w1 b0 b1 line → HasNoLineFeed line
+  pub Running-clean : (r0 r1 w0 w1 : Option (List ℕ)) (b0 b1 : Buffers) (line : List ℕ) → Running job r0 r1 w0 w1 b0 b1 line → HasNoLineFeed line
   Running-clean r0 r1 w0 w1 b0 b1 line h = rw h.kept (unended-HasNoLineFeed h.input)
 
   -- an interrupted read
-  pub Running-idle : (r0 r1 r2 w0 w1 : Option (List ℕ)) (b0 b1 : BufferState) (line : List ℕ) → Running job r0 r1 w0 w1 b0 b1 line → Keeps r1 r2 → Running job r0 r2 w0 w1 b0 b1 line
+  pub Running-idle : (r0 r1 r2 w0 w1 : Option (List ℕ)) (b0 b1 : Buffers) (line : List ℕ) → Running job r0 r1 w0 w1 b0 b1 line → Keeps r1 r2 → Running job r0 r2 w0 w1 b0 b1 line
   Running-idle r0 r1 r2 w0 w1 b0 b1 line h keeps = record { input = h.input; consumed = Consumes-kept r0 r1 r2 h.input h.consumed keeps; wrote = h.wrote; read = h.read; kept = h.kept }
 
   -- the ended lines of what was read now
   more : (input line piece : List ℕ) → line ≡ unended input → ended (input ++ piece) ≡ ended input ++ ended (line ++ piece)
   more input line piece e = ended-append input piece ∙ ap (λ l. ended input ++ ended (l ++ piece)) (sym e)
 
-  pub Running-more : (r0 r1 r2 w0 w1 w2 : Option (List ℕ)) (b0 b1 b2 : BufferState) (line piece new : List ℕ) → Running job r0 r1 w0 w1 b0 b1 line → Consumes r1 r2 piece
+  pub Running-more : (r0 r1 r2 w0 w1 w2 : Option (List ℕ)) (b0 b1 b2 : Buffers) (line piece new : List ℕ) → Running job r0 r1 w0 w1 b0 b1 line → Consumes r1 r2 piece
       → Wrote job w1 w2 (ended (line ++ piece)) → HasReadLines job b1 b2 (ended (line ++ piece)) → new ≡ unended (line ++ piece) → Running job r0 r2 w0 w2 b0 b2 new
   Running-more r0 r1 r2 w0 w1 w2 b0 b1 b2 line piece new h given wrote read kept =
       record {
@@ -56,7 +57,7 @@ module _ (job : Job) where
   Stands r0 r1 w0 w1 result = Transfers r0 r1 w0 w1 (LeavesOutput result job)
 
   -- a read failed
-  pub Running-failed : (r0 r1 r2 w0 w1 : Option (List ℕ)) (b0 b1 : BufferState) (line : List ℕ) → Running job r0 r1 w0 w1 b0 b1 line → Keeps r1 r2 → Stands r0 r2 w0 w1 (Err Read)
+  pub Running-failed : (r0 r1 r2 w0 w1 : Option (List ℕ)) (b0 b1 : Buffers) (line : List ℕ) → Running job r0 r1 w0 w1 b0 b1 line → Keeps r1 r2 → Stands r0 r2 w0 w1 (Err Read)
   Running-failed r0 r1 r2 w0 w1 b0 b1 line h keeps = (h.input, h.wrote.0, Consumes-kept r0 r1 r2 h.input h.consumed keeps, h.wrote.1, h.wrote.2)
 
   some_stand : (r0 r2 w0 w2 : Option (List ℕ)) (input : List ℕ) → Consumes r0 r2 input → WroteSome job w0 w2 (ended input) → Stands r0 r2 w0 w2 (Err Memory)
@@ -73,18 +74,18 @@ module _ (job : Job) where
       let all = AreRecords-append job (ended input) (if_any (unended input)) (h.0 ++ h.1) last.0 h.3 last.1 in
       (input, h.0, consumed, h.2, (h.1 ++ last.0, rw (← append_assoc h.0 h.1 last.0) all))
 
-  pub Running-fed_some : (r0 r1 r2 w0 w1 w2 : Option (List ℕ)) (b0 b1 : BufferState) (line piece : List ℕ) → Running job r0 r1 w0 w1 b0 b1 line → Consumes r1 r2 piece → WroteSome job w1 w2 (ended (line ++ piece)) → Stands r0 r2 w0 w2 (Err Memory)
+  pub Running-fed_some : (r0 r1 r2 w0 w1 w2 : Option (List ℕ)) (b0 b1 : Buffers) (line piece : List ℕ) → Running job r0 r1 w0 w1 b0 b1 line → Consumes r1 r2 piece → WroteSome job w1 w2 (ended (line ++ piece)) → Stands r0 r2 w0 w2 (Err Memory)
   Running-fed_some r0 r1 r2 w0 w1 w2 b0 b1 line piece h read wrote =
       some_stand r0 r2 w0 w2 (h.input ++ piece) (Consumes-trans r0 r1 r2 h.input piece h.consumed read)
       (rw (more h.input line piece h.kept) (WroteSome-then job w0 w1 w2 (ended h.input) (ended (line ++ piece)) h.wrote wrote))
 
-  pub Running-fed_prefix : (r0 r1 r2 w0 w1 w2 : Option (List ℕ)) (b0 b1 : BufferState) (line piece : List ℕ) → Running job r0 r1 w0 w1 b0 b1 line → Consumes r1 r2 piece → WrotePrefix job w1 w2 (ended (line ++ piece)) → Stands r0 r2 w0 w2 (Err Write)
+  pub Running-fed_prefix : (r0 r1 r2 w0 w1 w2 : Option (List ℕ)) (b0 b1 : Buffers) (line piece : List ℕ) → Running job r0 r1 w0 w1 b0 b1 line → Consumes r1 r2 piece → WrotePrefix job w1 w2 (ended (line ++ piece)) → Stands r0 r2 w0 w2 (Err Write)
   Running-fed_prefix r0 r1 r2 w0 w1 w2 b0 b1 line piece h read wrote =
       prefix_stands r0 r2 w0 w2 (h.input ++ piece) (Consumes-trans r0 r1 r2 h.input piece h.consumed read)
       (rw (more h.input line piece h.kept) (WrotePrefix-then job w0 w1 w2 (ended h.input) (ended (line ++ piece)) h.wrote wrote))
 
   -- not all records of a piece were written
-  pub Running-piece_failed : (r0 r1 r2 w0 w1 w2 : Option (List ℕ)) (b0 b1 : BufferState) (line piece : List ℕ) (e : RunError) → Running job r0 r1 w0 w1 b0 b1 line → Consumes r1 r2 piece
+  pub Running-piece_failed : (r0 r1 r2 w0 w1 w2 : Option (List ℕ)) (b0 b1 : Buffers) (line piece : List ℕ) (e : RunError) → Running job r0 r1 w0 w1 b0 b1 line → Consumes r1 r2 piece
       → (let lines = ended (line ++ piece) in LeavesLines (Err e) job w1 w2 lines lines) → Stands r0 r2 w0 w2 (Err e)
   Running-piece_failed r0 r1 r2 w0 w1 w2 b0 b1 line piece Memory h read left = Running-fed_some r0 r1 r2 w0 w1 w2 b0 b1 line piece h read left
   Running-piece_failed r0 r1 r2 w0 w1 w2 b0 b1 line piece Write h read left = Running-fed_prefix r0 r1 r2 w0 w1 w2 b0 b1 line piece h read left
@@ -92,7 +93,7 @@ module _ (job : Job) where
   Running-piece_failed r0 r1 r2 w0 w1 w2 b0 b1 line piece TooManyReads h read left = absurd left
 
   -- the reader is at its end
-  pub Running-ended : (r0 r1 r2 w0 w1 w2 : Option (List ℕ)) (b0 b1 : BufferState) (line : List ℕ) (result : Result Unit RunError) → Running job r0 r1 w0 w1 b0 b1 line → Consumes r1 r2 []
+  pub Running-ended : (r0 r1 r2 w0 w1 w2 : Option (List ℕ)) (b0 b1 : Buffers) (line : List ℕ) (result : Result Unit RunError) → Running job r0 r1 w0 w1 b0 b1 line → Consumes r1 r2 []
       → LeavesLines result job w1 w2 [] (if_any line) → Stands r0 r2 w0 w2 result
   Running-ended r0 r1 r2 w0 w1 w2 b0 b1 line (Ok done) h read left =
       let all = Wrote-then job w0 w1 w2 (ended h.input) (if_any line) h.wrote left in
@@ -110,7 +111,7 @@ module _ (job : Job) where
   Running-ended r0 r1 r2 w0 w1 w2 b0 b1 line (Err TooManyReads) h read left = absurd left
 
   -- and the texts of all lines were read
-  pub Running-read : (r0 r1 r2 w0 w1 w2 : Option (List ℕ)) (b0 b1 b2 : BufferState) (line : List ℕ) (result : Result Unit RunError) → Running job r0 r1 w0 w1 b0 b1 line → Consumes r1 r2 []
+  pub Running-read : (r0 r1 r2 w0 w1 w2 : Option (List ℕ)) (b0 b1 b2 : Buffers) (line : List ℕ) (result : Result Unit RunError) → Running job r0 r1 w0 w1 b0 b1 line → Consumes r1 r2 []
       → LeavesLines result job w1 w2 [] (if_any line) → OnOk result (HasReadLines job b1 b2 (if_any line)) → OnOk result (HasReadStream job r0 r2 w0 w2 b0 b2)
   unfolding Running-ended
   Running-read r0 r1 r2 w0 w1 w2 b0 b1 b2 line (Ok done) h given left read =

@@ -6,7 +6,9 @@ use Rattle.sj_scripts.specs.declared.script.Command.{Command}
 use Rattle.sj_scripts.specs.declared.script.Command.TheVariants.{Get, Contains, TypeOf, Len, Keys, Insert, Remove, Push, Pop, SetAt, Undo, Reload, ReloadPp}
 use Rattle.sj_scripts.specs.Script.{command_view}
 use Rattle.sj_documents.specs.Step.{Job, State}
-use Rattle.sj_records.specs.Texts.{reread, AreTextsOf, AreTexts, BufferState, LeavesPositions, HasRead, HasReadLines}
+use Rattle.sj_parse.specs.Answers.{buffer_positions}
+use Rattle.sj_parse.specs.declared.buffers.Buffers.{Buffers}
+use Rattle.sj_records.specs.Texts.{reread, AreTextsOf, AreTexts, LeavesPositions, HasRead, HasReadLines}
 
 -- what holds whatever a call answers
 pub if_ok : {A E P : Type 0} (r : Result A E) → P → OnOk r P
@@ -28,15 +30,15 @@ positions-then (x ∷ next ∷ xs) (y ∷ ys) a b c h k = positions-then (next �
 
 -- ---- texts
 
-pub HasRead-nothing : (a : BufferState) → HasRead a a []
+pub HasRead-nothing : (a : Buffers) → HasRead a a []
 HasRead-nothing a = (omega arith, refl)
 
-pub HasRead-then : (a b c : BufferState) (xs ys : List (List ℕ)) → HasRead a b xs → HasRead b c ys → HasRead a c (xs ++ ys)
+pub HasRead-then : (a b c : Buffers) (xs ys : List (List ℕ)) → HasRead a b xs → HasRead b c ys → HasRead a c (xs ++ ys)
 HasRead-then a b c xs ys h k =
     let all : length (xs ++ ys) ≡ length xs + length ys = length-append xs ys in
     let first = h.0 in
     let then = k.0 in
-    (omega arith, positions-then xs ys a.positions b.positions c.positions h.1 k.1)
+    (omega arith, positions-then xs ys (buffer_positions a) (buffer_positions b) (buffer_positions c) h.1 k.1)
 
 -- A command that is no reload reads none.
 pub none_reread : (c : Command) (s : State) → c ≢ Reload → c ≢ ReloadPp → reread s (command_view c) ≡ []
@@ -61,11 +63,11 @@ module _ (job : Job) where
   AreTexts-append [] ms x y h k = rw h k
   AreTexts-append (l ∷ ls) ms x y h k = (h.0, h.1 ++ y, ap (λ ts. ts ++ y) h.2 ∙ append_assoc h.0 h.1 y, h.3, AreTexts-append ls ms h.1 y h.4 k)
 
-  pub HasReadLines-nothing : (a : BufferState) → HasReadLines job a a []
+  pub HasReadLines-nothing : (a : Buffers) → HasReadLines job a a []
   HasReadLines-nothing a = ([], refl, HasRead-nothing a)
 
-  pub HasReadLines-one : (a b : BufferState) (line : List ℕ) (texts : List (List ℕ)) → AreTextsOf job line texts → HasRead a b texts → HasReadLines job a b (line ∷ [])
+  pub HasReadLines-one : (a b : Buffers) (line : List ℕ) (texts : List (List ℕ)) → AreTextsOf job line texts → HasRead a b texts → HasReadLines job a b (line ∷ [])
   HasReadLines-one a b line texts are read = (texts, (texts, [], sym (append-nil texts), are, refl), read)
 
-  pub HasReadLines-then : (a b c : BufferState) (ls ms : List (List ℕ)) → HasReadLines job a b ls → HasReadLines job b c ms → HasReadLines job a c (ls ++ ms)
+  pub HasReadLines-then : (a b c : Buffers) (ls ms : List (List ℕ)) → HasReadLines job a b ls → HasReadLines job b c ms → HasReadLines job a c (ls ++ ms)
   HasReadLines-then a b c ls ms h k = (h.0 ++ k.0, AreTexts-append ls ms h.0 k.0 h.1 k.1, HasRead-then a b c h.0 k.0 h.2 k.2)

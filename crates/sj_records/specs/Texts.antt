@@ -2,7 +2,8 @@
 use Rattle.std.specs.Prelude.{◌≡◌, ℕ, ◌+◌, ◌≤◌, nat_le, Bool, true, false, List, [], ◌∷◌, ◌++◌, length, Option}
 use Rattle.sj_base.specs.Spelling.{longest}
 use Rattle.sj_base.specs.Text.{text, pretty}
-use Rattle.sj_parse.specs.Answers.{scanned}
+use Rattle.sj_parse.specs.Answers.{scanned, buffer_texts, buffer_positions}
+use Rattle.sj_parse.specs.declared.buffers.Buffers.{Buffers}
 use Rattle.sj_scripts.specs.Command.{Step, reload, reload_pp}
 use Rattle.sj_scripts.specs.Reading.{ComesOf}
 use Rattle.sj_documents.specs.Step.{Job, State, begun, step}
@@ -40,12 +41,6 @@ AreTexts job (line ∷ others) texts =
 
 -- ---- what reading leaves
 
--- what contracts say of `CountedBuffers`
-pub record BufferState : Type 0 where
-  pub count : ℕ  -- the texts that were read by them
-  pub limit : ℕ  -- the levels that a text may nest
-  pub positions : List ℕ  -- those of the text that was scanned last, and none after a fault of the scan
-
 -- The positions are those that a scan of the last of these texts leaves, unless it is too long to be scanned. Where no text was
 -- read they are as they were.
 abbrev pub LeavesPositions : List (List ℕ) → List ℕ → List ℕ → Type 0
@@ -54,14 +49,14 @@ LeavesPositions (bytes ∷ []) old new = length bytes ≤ longest → new ≡ sc
 LeavesPositions (bytes ∷ next ∷ others) old new = LeavesPositions (next ∷ others) old new
 
 -- The count rose by the number of these texts, and the last of them left the positions.
-abbrev pub HasRead : BufferState → BufferState → List (List ℕ) → Type 0
-HasRead old new texts = (new.count ≡ old.count + length texts) × LeavesPositions texts old.positions new.positions
+abbrev pub HasRead : Buffers → Buffers → List (List ℕ) → Type 0
+HasRead old new texts = (buffer_texts new ≡ buffer_texts old + length texts) × LeavesPositions texts (buffer_positions old) (buffer_positions new)
 
 -- so for the texts of these lines
-abbrev pub HasReadLines : Job → BufferState → BufferState → List (List ℕ) → Type 0
+abbrev pub HasReadLines : Job → Buffers → Buffers → List (List ℕ) → Type 0
 HasReadLines job old new lines = (texts : List (List ℕ)) × AreTexts job lines texts × HasRead old new texts
 
 -- The bytes that were read came to the output that was written, and the texts of their lines were read by the buffers.
-abbrev pub HasReadStream : Job → Option (List ℕ) → Option (List ℕ) → Option (List ℕ) → Option (List ℕ) → BufferState → BufferState → Type 0
+abbrev pub HasReadStream : Job → Option (List ℕ) → Option (List ℕ) → Option (List ℕ) → Option (List ℕ) → Buffers → Buffers → Type 0
 HasReadStream job unread_old unread_new held_old held_new old new =
     Transfers unread_old unread_new held_old held_new (λ input output. IsOutput job input output × HasReadLines job old new (lines input))

@@ -8,7 +8,6 @@ ghost use Rattle.sj_records.specs.Job.{job_of};
 ghost use Rattle.sj_records.specs.Texts.{HasReadLines, HasReadStream};
 ghost use Rattle.sj_records.specs.inside.Progress.{HasNoLineFeed, LeavesLines, LeavesBytes, task_job};
 
-use crate::counted_buffers::CountedBuffers;
 use crate::form::Form;
 use crate::run_error::RunError;
 use crate::task::{Scratch, Task, make_record};
@@ -18,8 +17,6 @@ use sj_scripts::Script;
 use sj_tape::Tape;
 use std::alloc::{AllocError, Global};
 use std::io::ErrorKind;
-use std::marker::Brand;
-use std::sync::ledger::{Blank, Ledger};
 
 /// Splits a piece at its first line feed, into the bytes before it and those behind it, or else returns all of it.
 fn split_line<'p>(piece: &'p mut [u8]) -> (&'p mut [u8], Option<&'p mut [u8]>)
@@ -54,20 +51,20 @@ struct Pending {
 }
 
 /// Writes the record of a line. The line is rewritten, and the tape filled anew.
-fn write_record<'de, W: Sink, L: Ledger>(
+fn write_record<'de, W: Sink>(
     alloc: Global,
     writer: &mut W,
-    buffers: &mut CountedBuffers<L>,
+    buffers: &mut Buffers,
     scratch: &mut Scratch,
     tape: &mut Tape<'de>,
     line: &'de mut [u8],
     task: Task<'_>,
 ) -> Result<(), RunError>
-    requires { buffers.old.limit ≡ task.depth }
+    requires { buffer_limit buffers.old ≡ task.depth }
     ensures stands { LeavesLines result (task_job task.entry) (W.contents writer.old) (W.contents writer.new)
         [] (line.entry.now ∷ []) }
     ensures texts { OnOk result (HasReadLines (task_job task.entry) buffers.old buffers.new (line.entry.now ∷ [])) }
-    ensures limit { buffers.new.limit ≡ buffers.old.limit }
+    ensures limit { buffer_limit buffers.new ≡ buffer_limit buffers.old }
     ensures writes { WritesFor result (W.calls writer.old) (W.calls writer.new) }
 {
     make_record(alloc, buffers, scratch, tape, line, task)?;
@@ -75,18 +72,18 @@ fn write_record<'de, W: Sink, L: Ledger>(
 }
 
 /// Writes the record of the pending line, which is rewritten.
-fn write_pending<W: Sink, L: Ledger>(
+fn write_pending<W: Sink>(
     alloc: Global,
     writer: &mut W,
-    buffers: &mut CountedBuffers<L>,
+    buffers: &mut Buffers,
     pending: &mut Pending,
     task: Task<'_>,
 ) -> Result<(), RunError>
-    requires { buffers.old.limit ≡ task.depth }
+    requires { buffer_limit buffers.old ≡ task.depth }
     ensures stands { LeavesLines result (task_job task.entry) (W.contents writer.old) (W.contents writer.new)
         [] (pending.old.line.items ∷ []) }
     ensures texts { OnOk result (HasReadLines (task_job task.entry) buffers.old buffers.new (pending.old.line.items ∷ [])) }
-    ensures limit { buffers.new.limit ≡ buffers.old.limit }
+    ensures limit { buffer_limit buffers.new ≡ buffer_limit buffers.old }
     ensures writes { WritesFor result (W.calls writer.old) (W.calls writer.new) }
 {
     let Pending { line, scratch } = pending;
@@ -103,22 +100,22 @@ fn write_pending<W: Sink, L: Ledger>(
 
 /// Writes the record of the pending line, of which `end` is the last part, and clears the line. Both are rewritten. The
 /// tape is filled anew if `end` is the whole line.
-fn complete_line<'p, W: Sink, L: Ledger>(
+fn complete_line<'p, W: Sink>(
     alloc: Global,
     writer: &mut W,
-    buffers: &mut CountedBuffers<L>,
+    buffers: &mut Buffers,
     pending: &mut Pending,
     tape: &mut Tape<'p>,
     end: &'p mut [u8],
     task: Task<'_>,
 ) -> Result<(), RunError>
-    requires { buffers.old.limit ≡ task.depth }
+    requires { buffer_limit buffers.old ≡ task.depth }
     ensures stands { LeavesLines result (task_job task.entry) (W.contents writer.old) (W.contents writer.new)
         [] ((pending.old.line.items ++ end.entry.now) ∷ []) }
     ensures texts { OnOk result (HasReadLines (task_job task.entry) buffers.old buffers.new
         ((pending.old.line.items ++ end.entry.now) ∷ [])) }
     ensures cleared { OnOk result (pending.new.line.items ≡ []) }
-    ensures limit { buffers.new.limit ≡ buffers.old.limit }
+    ensures limit { buffer_limit buffers.new ≡ buffer_limit buffers.old }
     ensures writes { WritesFor result (W.calls writer.old) (W.calls writer.new) }
 {
     if pending.line.is_empty() {
@@ -140,23 +137,23 @@ fn complete_line<'p, W: Sink, L: Ledger>(
 
 /// Writes the record of each line that the piece ends, and keeps the bytes behind the last line feed. The piece is
 /// rewritten.
-fn process_piece<W: Sink, L: Ledger>(
+fn process_piece<W: Sink>(
     alloc: Global,
     writer: &mut W,
-    buffers: &mut CountedBuffers<L>,
+    buffers: &mut Buffers,
     pending: &mut Pending,
     piece: &mut [u8],
     task: Task<'_>,
 ) -> Result<(), RunError>
     requires clean { HasNoLineFeed pending.old.line.items }
-    requires limit { buffers.old.limit ≡ task.depth }
+    requires limit { buffer_limit buffers.old ≡ task.depth }
     ensures stands { let lines = ended (pending.old.line.items ++ piece.old) in
         LeavesLines result (task_job task.entry) (W.contents writer.old) (W.contents writer.new) lines lines }
     ensures kept { OnOk result
         (pending.new.line.items ≡ unended (pending.old.line.items ++ piece.old)) }
     ensures texts { OnOk result (HasReadLines (task_job task.entry) buffers.old buffers.new
         (ended (pending.old.line.items ++ piece.old))) }
-    ensures limit { buffers.new.limit ≡ buffers.old.limit }
+    ensures limit { buffer_limit buffers.new ≡ buffer_limit buffers.old }
     ensures writes { WritesFor result (W.calls writer.old) (W.calls writer.new) }
 {
     // Its nodes borrow from the lines of the piece.
@@ -174,18 +171,18 @@ fn process_piece<W: Sink, L: Ledger>(
 }
 
 /// Writes the record of a last line that no line feed ends. The line is rewritten.
-fn finish<W: Sink, L: Ledger>(
+fn finish<W: Sink>(
     alloc: Global,
     writer: &mut W,
-    buffers: &mut CountedBuffers<L>,
+    buffers: &mut Buffers,
     pending: &mut Pending,
     task: Task<'_>,
 ) -> Result<(), RunError>
-    requires { buffers.old.limit ≡ task.depth }
+    requires { buffer_limit buffers.old ≡ task.depth }
     ensures stands { LeavesLines result (task_job task.entry) (W.contents writer.old) (W.contents writer.new)
         [] (if_any pending.old.line.items) }
     ensures texts { OnOk result (HasReadLines (task_job task.entry) buffers.old buffers.new (if_any pending.old.line.items)) }
-    ensures limit { buffers.new.limit ≡ buffers.old.limit }
+    ensures limit { buffer_limit buffers.new ≡ buffer_limit buffers.old }
     ensures writes { WritesFor result (W.calls writer.old) (W.calls writer.new) }
 {
     if pending.line.is_empty() {
@@ -207,15 +204,15 @@ fn zeros(alloc: Global, len: usize) -> Result<Vec<u8>, AllocError>
 }
 
 /// `run_with` with at most `max_reads` reads.
-fn run_within<R: Source, W: Sink, L: Ledger>(
+fn run_within<R: Source, W: Sink>(
     alloc: Global,
     reader: &mut R,
     writer: &mut W,
-    buffers: &mut CountedBuffers<L>,
+    buffers: &mut Buffers,
     task: Task<'_>,
     max_reads: u64,
 ) -> Result<(), RunError>
-    requires { buffers.old.limit ≡ task.depth }
+    requires { buffer_limit buffers.old ≡ task.depth }
     ensures stands { Transfers (R.remaining reader.old) (R.remaining reader.new)
         (W.contents writer.old) (W.contents writer.new)
         (LeavesOutput result (task_job task.entry)) }
@@ -225,7 +222,7 @@ fn run_within<R: Source, W: Sink, L: Ledger>(
     ensures reads { ReadsFor max_reads result (R.calls reader.old) (R.calls reader.new) }
     ensures bound { (R.calls reader.new).made ≤ (R.calls reader.old).made + max_reads }
     ensures writes { WritesFor result (W.calls writer.old) (W.calls writer.new) }
-    ensures limit { buffers.new.limit ≡ buffers.old.limit }
+    ensures limit { buffer_limit buffers.new ≡ buffer_limit buffers.old }
 {
     let mut pending = Pending {
         line: Vec::new(alloc),
@@ -278,31 +275,8 @@ pub fn run<R: Source, W: Sink>(
     ensures bound { (R.calls reader.new).made ≤ (R.calls reader.old).made + 2 ^ 62 }
     ensures writes { WritesFor result (W.calls writer.old) (W.calls writer.new) }
 {
-    let buffers = Buffers::with_max_depth(alloc, 0, depth)?;
-    run_in::<R, W, Brand>(alloc, reader, writer, script, form, buffers, Blank::new(1))
-}
-
-/// Does what [`run`] does, in these buffers. The blank opens the count of the texts that are read.
-fn run_in<R: Source, W: Sink, L: Ledger>(
-    alloc: Global,
-    reader: &mut R,
-    writer: &mut W,
-    script: &Script,
-    form: Form,
-    buffers: Buffers,
-    texts: Blank,
-) -> Result<(), RunError>
-    requires { (texts.name ≡ L.name) × (texts.parts ≡ L.parts) × (texts.parts ≡ 1) }
-    ensures stands { Transfers (R.remaining reader.old) (R.remaining reader.new)
-        (W.contents writer.old) (W.contents writer.new)
-        (LeavesOutput result (job_of script.now (buffer_limit buffers) form)) }
-    ensures at_end { OnOk result (IsAtEnd (R.remaining reader.new)) }
-    ensures reads { ReadsFor (2 ^ 62) result (R.calls reader.old) (R.calls reader.new) }
-    ensures bound { (R.calls reader.new).made ≤ (R.calls reader.old).made + 2 ^ 62 }
-    ensures writes { WritesFor result (W.calls writer.old) (W.calls writer.new) }
-{
-    let mut counted = CountedBuffers::<L>::new(buffers, texts);
-    run_with(alloc, reader, writer, script, form, &mut counted)
+    let mut buffers = Buffers::with_max_depth(alloc, 0, depth)?;
+    run_with(alloc, reader, writer, script, form, &mut buffers)
 }
 
 /// Does what [`run`] does, under the limit of levels of the buffers, whose room is used for each line. Runs that use the same
@@ -314,28 +288,28 @@ fn run_in<R: Source, W: Sink, L: Ledger>(
 /// # Errors
 ///
 /// See [`RunError`] for each error and what is written before it. The buffers can be used again after each.
-pub fn run_with<R: Source, W: Sink, L: Ledger>(
+pub fn run_with<R: Source, W: Sink>(
     alloc: Global,
     reader: &mut R,
     writer: &mut W,
     script: &Script,
     form: Form,
-    buffers: &mut CountedBuffers<L>,
+    buffers: &mut Buffers,
 ) -> Result<(), RunError>
     // As of `run`, with the limit of the buffers in the place of `depth`.
     ensures stands { Transfers (R.remaining reader.old) (R.remaining reader.new)
         (W.contents writer.old) (W.contents writer.new)
-        (LeavesOutput result (job_of script.now buffers.old.limit form)) }
+        (LeavesOutput result (job_of script.now buffer_limit buffers.old form)) }
     ensures at_end { OnOk result (IsAtEnd (R.remaining reader.new)) }
     // On `Ok`: how many texts the buffers have read, which are the lines and the texts of the reloads that replied `true`, and
     // what positions the last one left.
-    ensures texts { OnOk result (HasReadStream (job_of script.now buffers.old.limit form)
+    ensures texts { OnOk result (HasReadStream (job_of script.now buffer_limit buffers.old form)
         (R.remaining reader.old) (R.remaining reader.new) (W.contents writer.old) (W.contents writer.new)
         buffers.old buffers.new) }
     ensures reads { ReadsFor (2 ^ 62) result (R.calls reader.old) (R.calls reader.new) }
     ensures bound { (R.calls reader.new).made ≤ (R.calls reader.old).made + 2 ^ 62 }
     ensures writes { WritesFor result (W.calls writer.old) (W.calls writer.new) }
-    ensures limit { buffers.new.limit ≡ buffers.old.limit }
+    ensures limit { buffer_limit buffers.new ≡ buffer_limit buffers.old }
 {
     let task = Task {
         script,

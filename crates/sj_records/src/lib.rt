@@ -1,7 +1,6 @@
 //! Scripts of commands over a stream of JSON lines.
 #![tactic(auto)]
 
-mod counted_buffers;
 mod engine;
 mod form;
 mod history;
@@ -9,7 +8,6 @@ pub mod laws;
 mod run_error;
 mod task;
 
-pub use counted_buffers::CountedBuffers;
 pub use engine::{run, run_with};
 pub use form::Form;
 pub use history::apply;

@@ -5,7 +5,7 @@ ghost use Rattle.sj_base.specs.Spelling.{longest};
 ghost use Rattle.sj_base.specs.Tree.{Tree};
 ghost use Rattle.sj_base.specs.Keep.{keep};
 ghost use Rattle.sj_base.specs.Text.{text as text_of};
-ghost use Rattle.sj_parse.specs.Answers.{IsTapeOf};
+ghost use Rattle.sj_parse.specs.Answers.{IsTapeOf, buffer_limit};
 ghost use Rattle.sj_parse.specs.Fault.{fault};
 ghost use Rattle.sj_records.specs.History.{StandFor, Applied};
 ghost use Rattle.sj_records.specs.Record.{IsRecord, outcome, fault_record, character_of};
@@ -18,7 +18,6 @@ ghost use Rattle.sj_scripts.specs.inside.ReadErrors.{IfRefused};
 ghost use Rattle.sj_records.specs.inside.Progress.{task_job};
 ghost use Rattle.sj_records.specs.inside.Reloads.{IsReadable, IsPrinted, Runs};
 
-use crate::counted_buffers::CountedBuffers;
 use crate::form::Form;
 use crate::history::{apply, put_bool};
 use sj_base::laws::printing_reads_back;
@@ -27,12 +26,12 @@ use sj_documents::{Document, Inverse, LazyDocument, put_separator};
 use sj_object::MakeKey;
 use sj_owned::{MakeLiteral, Value, build_tape, build_value};
 use sj_parse::laws::printed_texts;
+use sj_parse::{Buffers, fill_tape};
 use sj_scripts::{Command, MemoryOr, Script};
 use sj_tape::Tape;
 use std::alloc::{AllocError, Global};
 use std::borrow::CowStr;
 use std::mem;
-use std::sync::ledger::Ledger;
 
 /// What is done to each line.
 #[derive(Clone, Copy)]
@@ -80,19 +79,19 @@ impl Scratch {
 
 /// Makes the record of a line, and a line feed, in place of the record and the history of the line before. The line is rewritten. The
 /// tape is filled anew.
-pub(crate) fn make_record<'de, L: Ledger>(
+pub(crate) fn make_record<'de>(
     alloc: Global,
-    buffers: &mut CountedBuffers<L>,
+    buffers: &mut Buffers,
     scratch: &mut Scratch,
     tape: &mut Tape<'de>,
     line: &'de mut [u8],
     task: Task<'_>,
 ) -> Result<(), AllocError>
-    requires { buffers.old.limit ≡ task.depth }
+    requires { buffer_limit buffers.old ≡ task.depth }
     ensures holds { OnOk result ((bytes : List ℕ) × (scratch.new.out.items ≡ bytes ++ 0x0a ∷ [])
         × IsRecord (task_job task.entry) line.entry.now bytes) }
     ensures texts { OnOk result (HasReadLines (task_job task.entry) buffers.old buffers.new (line.entry.now ∷ [])) }
-    ensures limit { buffers.new.limit ≡ buffers.old.limit }
+    ensures limit { buffer_limit buffers.new ≡ buffer_limit buffers.old }
 {
     let Scratch { room, out } = scratch;
     room.history.clear();
@@ -102,59 +101,63 @@ pub(crate) fn make_record<'de, L: Ledger>(
     Ok(())
 }
 
-fn put_record<'de, L: Ledger>(
+fn put_record<'de>(
     alloc: Global,
-    buffers: &mut CountedBuffers<L>,
+    buffers: &mut Buffers,
     room: &mut Room,
     tape: &mut Tape<'de>,
     out: &mut Vec<u8>,
     line: &'de mut [u8],
     task: Task<'_>,
 ) -> Result<(), AllocError>
-    requires limit { buffers.old.limit ≡ task.depth }
+    requires limit { buffer_limit buffers.old ≡ task.depth }
     requires new_line { room.old.history.items ≡ [] }
     ensures holds { OnOk result ((bytes : List ℕ) × (out.new.items ≡ out.old.items ++ bytes)
         × IsRecord (task_job task.entry) line.entry.now bytes) }
     ensures texts { OnOk result (HasReadLines (task_job task.entry) buffers.old buffers.new (line.entry.now ∷ [])) }
-    ensures limit { buffers.new.limit ≡ buffers.old.limit }
+    ensures limit { buffer_limit buffers.new ≡ buffer_limit buffers.old }
 {
-    match read_tape(alloc, buffers, tape, line) {
+    match read_tape(buffers, tape, line) {
         Ok(()) => put_document_record(alloc, buffers, room, tape, task, out),
         Err(MemoryOr::Refused(fault)) => put_fault_record(fault, out),
         Err(MemoryOr::Memory) => Err(AllocError),
     }
 }
 
+/// The most positions of a text after which the room for positions is kept.
+const KEPT_POSITIONS: usize = 1 << 20;
+
 /// Reads a line into the tape, under the limit of the buffers. The line is rewritten. The buffers keep its positions until the
 /// next one is read.
-fn read_tape<'de, L: Ledger>(
-    alloc: Global,
-    buffers: &mut CountedBuffers<L>,
+fn read_tape<'de>(
+    buffers: &mut Buffers,
     tape: &mut Tape<'de>,
     line: &'de mut [u8],
 ) -> Result<(), MemoryOr<Error>>
-    ensures found { OnOk result (IsTapeOf line.entry.now buffers.old.limit (tape_nodes tape.new)) }
+    ensures found { OnOk result (IsTapeOf line.entry.now buffer_limit buffers.old (tape_nodes tape.new)) }
     ensures not_empty { OnOk result (tape_nodes tape.new ≢ []) }
-    ensures refused { IfErr result (λ e. IfRefused e (λ why. fault line.entry.now buffers.old.limit ≡ Some why)) }
+    ensures refused { IfErr result (λ e. IfRefused e (λ why. fault line.entry.now buffer_limit buffers.old ≡ Some why)) }
     ensures texts { OnOk result (HasRead buffers.old buffers.new (line.entry.now ∷ [])) }
     ensures refused_texts { IfErr result (λ e. IfRefused e (λ why. HasRead buffers.old buffers.new (line.entry.now ∷ []))) }
-    ensures limit { buffers.new.limit ≡ buffers.old.limit }
+    ensures limit { buffer_limit buffers.new ≡ buffer_limit buffers.old }
 {
-    buffers.release(alloc)?;
-    buffers.read(line, tape)?;
+    if buffers.structural_indexes().len() > KEPT_POSITIONS {
+        buffers.release();
+    }
+    fill_tape(line, buffers, tape)?;
     Ok(())
 }
 
 /// Appends the record of the document of a tape, in the task's form.
-fn put_document_record<L: Ledger>(
+fn put_document_record(
     alloc: Global,
-    buffers: &mut CountedBuffers<L>,
+    buffers: &mut Buffers,
     room: &mut Room,
     tape: &mut Tape<'_>,
     task: Task<'_>,
     out: &mut Vec<u8>,
 ) -> Result<(), AllocError>
-    requires limit { buffers.old.limit ≡ task.depth }
+    requires limit { buffer_limit buffers.old ≡ task.depth }
     requires new_line { room.old.history.items ≡ [] }
     requires not_empty { tape_nodes tape.old ≢ [] }
     requires readable { IsReadable task.depth (nodes_tree (tape_nodes tape.old)) }
@@ -162,7 +165,7 @@ fn put_document_record<L: Ledger>(
         ++ text_of (outcome (task_job task.entry) (nodes_tree (tape_nodes tape.old)))) }
     ensures texts { let job = task_job task.entry in
         OnOk result (HasRead buffers.old buffers.new (reloads job (begun job (nodes_tree (tape_nodes tape.old))) job.script)) }
-    ensures limit { buffers.new.limit ≡ buffers.old.limit }
+    ensures limit { buffer_limit buffers.new ≡ buffer_limit buffers.old }
 {
     out.extend_from_slice(b"{\"replies\":[")?;
     let commands = task.script.commands();
@@ -201,21 +204,21 @@ fn build<'de, K: MakeKey<'de> + Drop, D: MakeLiteral<'de> + Drop>(
 }
 
 /// Reads the text that was printed last, and runs commands on its document, as `run_on_tape`.
-fn run_on_text<'s, L: Ledger>(
+fn run_on_text<'s>(
     alloc: Global,
-    buffers: &mut CountedBuffers<L>,
+    buffers: &mut Buffers,
     room: &mut Room,
     task: Task<'_>,
     commands: &'s [Command],
     out: &mut Vec<u8>,
 ) -> Result<Option<&'s [Command]>, AllocError>
-    requires limit { buffers.old.limit ≡ task.depth }
+    requires limit { buffer_limit buffers.old ≡ task.depth }
     requires readable { (t : Tree) × IsReadable task.depth t × IsPrinted t room.old.printed.items }
     ensures runs { IfOk result (λ left. (s : State) → IsReadable task.entry.depth s.tree → IsPrinted s.tree room.old.printed.items
         → StandFor (task_job task.entry).keeping s.tree room.old.history.items s
         → Runs (task_job task.entry) s (commands_view commands.now) false (option_copied left) room.new.history.items room.new.printed.items out.old.items out.new.items []) }
     ensures texts { OnOk result (HasRead buffers.old buffers.new (room.old.printed.items ∷ [])) }
-    ensures limit { buffers.new.limit ≡ buffers.old.limit }
+    ensures limit { buffer_limit buffers.new ≡ buffer_limit buffers.old }
 {
     printing_reads_back();
     printed_texts();
@@ -225,7 +228,7 @@ fn run_on_text<'s, L: Ledger>(
         history,
     } = room;
     let mut tape = Tape::empty(alloc);
-    match read_tape(alloc, buffers, &mut tape, printed) {
+    match read_tape(buffers, &mut tape, printed) {
         Ok(()) => {}
         Err(MemoryOr::Refused(_)) => unreachable!(),
         Err(MemoryOr::Memory) => return Err(AllocError),

@@ -2,6 +2,6 @@ use Rattle.std.proofs.Common.{ℕ, List, ◌++◌, ◌∷◌, [], ap, ◌∙◌}
 use Rattle.sj_records.proofs.task.make_record.Goals as goal
 
 pub returns-clause-holds : goal.returns-clause-holds
-returns-clause-holds g c =
+returns-clause-holds c =
     let record_made = c.in_ok-put_record.ensures.holds in
     (record_made.0, c.in_ok-push.ensures.items ∙ ap (λ (b : List ℕ). b ++ 0x0a ∷ []) (record_made.1 ∙ ap (λ (b : List ℕ). b ++ record_made.0) c.clear-2.ensures.items), record_made.2)

@@ -14,7 +14,7 @@ use Rattle.sj_records.proofs.Texts.{HasRead-nothing, HasRead-then}
 use Rattle.sj_records.proofs.task.put_document_record.Goals as goal
 
 pub loop-left-init : goal.loop-left-init
-loop-left-init g c =
+loop-left-init c =
     let job = task_job c.args.task in
     let t = nodes_tree (tape_nodes c.args.tape.now) in
     let runs = c.in_ok-left.ensures (begun job t) (begun_stands job t c.args.room.now.history.items c.requires.new_line) in
@@ -22,7 +22,7 @@ loop-left-init g c =
     ([], subst (λ (bs : List ℕ). Runs job (begun job t) job.script true (option_copied c.in_ok-left.left) c.run_on_tape.new.history.items c.run_on_tape.new.text.items bs c.run_on_tape.new.out.items []) c.in_ok-extend_from_slice.ensures.items scripted, HasRead-nothing c.args.buffers.now, refl)
 
 pub run_on_text-requires-clause-readable : goal.run_on_text-requires-clause-readable
-run_on_text-requires-clause-readable g c =
+run_on_text-requires-clause-readable c =
     let job = task_job c.args.task in
     let t = nodes_tree (tape_nodes c.args.tape.now) in
     let r = rw c.in-Some.is at c.loop-left.invariant.1 in
@@ -30,7 +30,7 @@ run_on_text-requires-clause-readable g c =
     ((after job (begun job t) r.ran).tree, again.0, r.is_printed)
 
 pub loop-left-smaller : goal.loop-left-smaller
-loop-left-smaller g c =
+loop-left-smaller c =
     let job = task_job c.args.task in
     let t = nodes_tree (tape_nodes c.args.tape.now) in
     let r = rw c.in-Some.is at c.loop-left.invariant.1 in
@@ -42,7 +42,7 @@ loop-left-smaller g c =
     omega arith
 
 pub loop-left-preserved : goal.loop-left-preserved
-loop-left-preserved g c =
+loop-left-preserved c =
     let job = task_job c.args.task in
     let t = nodes_tree (tape_nodes c.args.tape.now) in
     let r = rw c.in-Some.is at c.loop-left.invariant.1 in
@@ -57,13 +57,13 @@ loop-left-preserved g c =
     )
 
 pub returns-clause-holds : goal.returns-clause-holds
-returns-clause-holds g c =
+returns-clause-holds c =
     let job = task_job c.args.task in
     let t = nodes_tree (tape_nodes c.args.tape.now) in
     let ended = rw c.in_default.is at c.loop-left.invariant.1 in
     ended.0 ∙ record_begun job (begun job t) job.script c.args.out.now.items
 
 pub returns-clause-texts : goal.returns-clause-texts
-returns-clause-texts g c =
+returns-clause-texts c =
     let ended = rw c.in_default.is at c.loop-left.invariant.1 in
     subst (λ (ts : List (List ℕ)). HasRead c.args.buffers.now c.loop-left.buffers ts) (sym ended.1) c.loop-left.invariant.2

@@ -17,7 +17,7 @@ use Rattle.sj_records.proofs.Texts.{if_ok, HasRead-then, HasReadLines-one}
 use Rattle.sj_records.proofs.task.put_record.Goals as goal
 
 pub put_document_record-requires-clause-readable : goal.put_document_record-requires-clause-readable
-put_document_record-requires-clause-readable g c =
+put_document_record-requires-clause-readable c =
     let found = c.in-Ok.ensures.found in
     let nodes = tape_nodes c.read_tape.new.tape in
     let document = subst (λ (limit : ℕ). Document c.args.line.now limit found.0) c.requires.limit found.1 in
@@ -25,7 +25,7 @@ put_document_record-requires-clause-readable g c =
     subst (λ (t : Tree). IsReadable c.args.task.depth t) (sym is) (only_trees c.args.line.now found.0 document.spells, document.shallow)
 
 pub returns-in-Ok-clause-holds : goal.returns-in-Ok-clause-holds
-returns-in-Ok-clause-holds g c =
+returns-in-Ok-clause-holds c =
     let job = task_job c.args.task in
     let found = c.in-Ok.ensures.found in
     let nodes = tape_nodes c.read_tape.new.tape in
@@ -34,13 +34,13 @@ returns-in-Ok-clause-holds g c =
     on_ok_weaker c.put_document_record.result (λ put. (text (outcome job (nodes_tree nodes)), put, inl (found.0, document, ap (λ t. text (outcome job t)) is))) c.put_document_record.ensures.holds
 
 pub returns-in-Err-Refused-clause-holds : goal.returns-in-Err-Refused-clause-holds
-returns-in-Err-Refused-clause-holds g c =
+returns-in-Err-Refused-clause-holds c =
     let why = c.in-Err-Refused.fault in
     let first = subst (λ (limit : ℕ). fault c.args.line.now limit ≡ Some why) c.requires.limit (rw c.in-Err-Refused.field-0-is at c.in-Err-Refused.ensures.refused) in
     on_ok_weaker c.put_fault_record.result (λ put. (text (fault_record why), put, inr (why, first, refl))) (rw c.in-Err-Refused.fault-is at c.put_fault_record.ensures)
 
 pub returns-in-Ok-clause-texts : goal.returns-in-Ok-clause-texts
-returns-in-Ok-clause-texts g c =
+returns-in-Ok-clause-texts c =
     let job = task_job c.args.task in
     let line = c.args.line.now in
     let found = c.in-Ok.ensures.found in
@@ -52,7 +52,7 @@ returns-in-Ok-clause-texts g c =
     (HasRead-then c.args.buffers.now c.read_tape.new.buffers c.put_document_record.new.buffers (line ∷ []) texts c.in-Ok.ensures.texts read)) c.put_document_record.ensures.texts
 
 pub returns-in-Err-Refused-clause-texts : goal.returns-in-Err-Refused-clause-texts
-returns-in-Err-Refused-clause-texts g c =
+returns-in-Err-Refused-clause-texts c =
     let line = c.args.line.now in
     let why = c.in-Err-Refused.fault in
     let first = subst (λ (limit : ℕ). fault line limit ≡ Some why) c.requires.limit (rw c.in-Err-Refused.field-0-is at c.in-Err-Refused.ensures.refused) in
