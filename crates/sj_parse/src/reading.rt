@@ -47,6 +47,8 @@ pub fn to_tape<'de>(alloc: Global, s: &'de mut [u8]) -> Result<Tape<'de>>
 
 /// Reads a text into a tape, by the buffers and under their limit. Port of `simd_json::to_tape_with_buffers`.
 ///
+/// The tape has no more nodes than the text has positions.
+///
 /// # Errors
 ///
 /// Those of [`to_tape`], under the limit of the buffers. The bytes of the text may be rewritten then.
