@@ -3,13 +3,13 @@ use Rattle.std.proofs.Common.{◌≡◌, ◌≢◌, ◌⊎◌, inl, inr, ℕ, ze
 use Rattle.std.specs.Prelude.{◌==◌, not, if◌then◌else◌, slice_index, map, filter, IsUtf8}
 use Rattle.std.specs.List.{range_with_len}
 use Rattle.std.proofs.lemmas.List.{get_or-drop, drop-drop, length-drop, length-map, length-take}
-use Rattle.sj_base.specs.declared.error.ErrorType.{ErrorType}
-use Rattle.sj_base.specs.declared.error.ErrorType.TheVariants.{InternalError, Syntax}
+use Rattle.sj_parse.specs.declared.descent_fault.DescentKind.{DescentKind}
+use Rattle.sj_parse.specs.declared.descent_fault.DescentKind.TheVariants.{InternalError, Syntax}
 use Rattle.sj_base.specs.Tree.{Tree}
 use Rattle.sj_tape.specs.Listing.{Entry, listing}
 use Rattle.sj_tape.specs.Nodes.{entries}
 use Rattle.sj_tape.specs.declared.node.Node.{Node}
-use Rattle.sj_parse.specs.declared.stop.Stop.{Stop}
+use Rattle.sj_parse.specs.declared.descent_fault.Stop.{Stop}
 use Rattle.sj_parse.specs.declared.containers.Frame.{Frame}
 use Rattle.sj_parse.specs.declared.stage_two.State.{State}
 use Rattle.sj_parse.specs.declared.stage_two.State.TheVariants.{Value, FirstItem, ItemEnd, FirstMember, Key, Colon, MemberEnd, End}
@@ -19,10 +19,11 @@ use Rattle.std.proofs.Math.Seq.{drop-length, take-length}
 use Rattle.sj_scan.specs.declared.stage1.ScanFault.TheVariants.{Utf8, Unclosed, Control}
 use Rattle.sj_scan.specs.Scan.{is_closed, has_control, if_none, scan_fault}
 use Rattle.sj_scan.specs.Positions.{before, positions, is_position_at}
+use Rattle.sj_scan.proofs.Walks.{length-filter_range}
 use Rattle.sj_parse.specs.Token.{Token, token_at, token_text, tokens}
 use Rattle.sj_parse.specs.Descent.{left, descent}
 use Rattle.sj_parse.specs.Escapes.{stop}
-use Rattle.sj_parse.specs.Fault.{stop_fault}
+use Rattle.sj_parse.specs.Fault.{error_type, stop_fault}
 use Rattle.sj_parse.specs.Nodes.{HaveCarriers}
 use Rattle.sj_parse.specs.inside.Trees.{Reading, with_rest, tree_value}
 use Rattle.sj_parse.specs.inside.Machine.{Config, value_next, first_item, item_end, first_member, key_next, colon_next, member_end, ended, IsAt, reading, resume}
@@ -47,6 +48,9 @@ filter_below p a (suc n) i h =
 
 pub positions_below : (bytes : List ℕ) (i : ℕ) → i < length (positions bytes) → slice_index (positions bytes) i < length bytes
 positions_below bytes i h = let same : 0 + length bytes ≡ length bytes = omega arith in subst (λ (n : ℕ). slice_index (positions bytes) i < n) same (filter_below (is_position_at bytes) 0 (length bytes) i h)
+
+pub positions_few : (bytes : List ℕ) → length (positions bytes) ≤ length bytes
+positions_few bytes = length-filter_range (is_position_at bytes) 0 (length bytes)
 
 -- what is left of a text stands behind the rest of it
 suffix : (xs : List ℕ) (m : ℕ) → drop m xs ≡ drop (length xs - length (drop m xs)) xs
@@ -96,10 +100,7 @@ between-start input ps limit nodes stack len is no_nodes no_stack long =
       first = λ e. refl;
     }
 
-module _ {input ps : List ℕ} {limit : ℕ} {nodes : List Node} {stack : List Frame} {rest : List ℕ} {len : ℕ} {state : State} {last byte i : ℕ} (h : Between input ps limit nodes stack rest len state last byte i) (within : i < length ps) (are : ps ≡ positions input) where
-  abbrev place : ℕ
-  place = slice_index ps i
-
+module _ {input ps : List ℕ} {limit : ℕ} {nodes : List Node} {stack : List Frame} {rest : List ℕ} {len : ℕ} {state : State} {last byte i : ℕ} (h : Between input ps limit nodes stack rest len state last byte i) (within : i < length ps) (are : ps ≡ positions input) {place : ℕ} (place_is : place ≡ slice_index ps i) where
   abbrev from : ℕ
   from = len - length rest
 
@@ -113,7 +114,7 @@ module _ {input ps : List ℕ} {limit : ℕ} {nodes : List Node} {stack : List F
   others = map (token_at input) (drop (i + 1) ps)
 
   tokens_are : map (token_at input) (drop i ps) ≡ the_token ∷ others
-  tokens_are = tokens-left input ps i within
+  tokens_are = tokens-left input ps i within ∙ ap (λ (n : ℕ). token_at input n ∷ others) (sym place_is)
 
   ahead_here : Ahead input from (the_token ∷ others)
   ahead_here = subst (λ (ts : List Token). Ahead input from ts) tokens_are h.ahead
@@ -125,7 +126,7 @@ module _ {input ps : List ℕ} {limit : ℕ} {nodes : List Node} {stack : List F
   sum = let le = from_le in omega arith
 
   pub place_lt : place < length input
-  place_lt = subst (λ (qs : List ℕ). i < length qs → slice_index qs i < length input) (sym are) (positions_below input i) within
+  place_lt = subst (λ (n : ℕ). n < length input) (sym place_is) (subst (λ (qs : List ℕ). i < length qs → slice_index qs i < length input) (sym are) (positions_below input i) within)
 
   pub skip_lt : skip < length rest
   skip_lt = let lt = place_lt in let le = from_le in let long = h.len_is in let short = h.short in omega arith
@@ -148,20 +149,6 @@ module _ {input ps : List ℕ} {limit : ℕ} {nodes : List Node} {stack : List F
       let same : drop (skip + 1) rest ≡ drop (place + 1) input = ap (drop (skip + 1)) h.rest_is ∙ drop-drop (skip + 1) from input ∙ ap (λ (n : ℕ). drop n input) more in
       subst (λ (bs : List ℕ). IsUtf8 (string_body bs)) (sym same) (utf8_body input place utf8 (place_lt) (sym (byte_here) ∙ quote))
 
-  -- no more nodes and frames than tokens were read
-  pub few : (length nodes ≤ i) × (length stack ≤ i)
-  few =
-      let read : length (map (token_at input) (take i ps)) ≡ i = length-map (take i ps) (token_at input) ∙ length-take-le-here in
-      let some = nodes_few (map (token_at input) (take i ps)) nodes h.carriers in
-      let frames = config_few h.config in
-      let same = length-entries nodes in
-      let es = ap length h.at.entries_are in
-      let st = ap length h.at.stack_is in
-      (omega arith, omega arith)
-    where
-      length-take-le-here : length (take i ps) ≡ i
-      length-take-le-here = let w = within in let l = length-take i ps in omega arith
-
   -- once the token was read
   pub between-next : (nodes_new : List Node) (stack_new : List Frame) (new : List ℕ) (next : State) (d : Config) → IsAt d next (entries nodes_new) stack_new
       → ((k : ℕ) (ts : List Token) → reading_from limit h.config (token_of place (before input place) (drop skip rest)) k ts ≡ reading limit d place ts)
@@ -179,7 +166,7 @@ module _ {input ps : List ℕ} {limit : ℕ} {nodes : List Node} {stack : List F
         config = d;
         at = at;
         reads = sym (same last others) ∙ reads_here;
-        carriers = subst (λ (ts : List Token). HaveCarriers ts nodes_new) (ap (λ (t : Token). map (token_at input) (take i ps) ++ t ∷ []) token_is ∙ sym (tokens-read input ps i within)) carry;
+        carriers = subst (λ (ts : List Token). HaveCarriers ts nodes_new) (ap (λ (t : Token). map (token_at input) (take i ps) ++ t ∷ []) (token_is ∙ ap (token_at input) place_is) ∙ sym (tokens-read input ps i within)) carry;
         len_is = long;
         short = omega arith;
         rest_is = suffix_is ∙ suffix input (from + behind.0) ∙ ap₂ (λ (n : ℕ) (bs : List ℕ). drop (n - length bs) input) (sym long) (sym suffix_is);
@@ -191,10 +178,23 @@ module _ {input ps : List ℕ} {limit : ℕ} {nodes : List Node} {stack : List F
   -- The step answers a stop: the first fault.
   pub step_fault : (s : Stop) → ((k : ℕ) (ts : List Token) → reading_from limit h.config (token_of place (before input place) (drop skip rest)) k ts ≡ Err s)
       → StopsAt place skip rest s
-      → stop_fault input (descent (tokens input) limit) ≡ Some (record { error = s.kind; index = s.place; character = Some (if s.place == place then slice_index rest skip else 0x5c) })
+      → stop_fault input (descent (tokens input) limit) ≡ Some (record { error = error_type s.kind; index = s.place; character = Some (if s.place == place then slice_index rest skip else 0x5c) })
   step_fault s stops at =
       ap (stop_fault input) (descent-err limit (tokens input) s (sym reads_here ∙ stops last others))
       ∙ ap Some (sym (stop_at input rest from place skip (slice_index rest skip) s h.rest_is sum refl at))
+
+-- no more nodes and frames than tokens were read
+pub few : {input ps : List ℕ} {limit : ℕ} {nodes : List Node} {stack : List Frame} {rest : List ℕ} {len : ℕ} {state : State} {last byte i : ℕ}
+    → Between input ps limit nodes stack rest len state last byte i → i ≤ length ps → (length nodes ≤ i) × (length stack ≤ i)
+few {input} {ps} {nodes = nodes} {i = i} h within =
+    let taken : length (take i ps) ≡ i = let l = length-take i ps in omega arith in
+    let read : length (map (token_at input) (take i ps)) ≡ i = length-map (take i ps) (token_at input) ∙ taken in
+    let some = nodes_few (map (token_at input) (take i ps)) nodes h.carriers in
+    let frames = config_few h.config in
+    let same = length-entries nodes in
+    let es = ap length h.at.entries_are in
+    let st = ap length h.at.stack_is in
+    (omega arith, omega arith)
 
 -- ---- the root has its value
 
@@ -218,8 +218,8 @@ ended_tree (member_end ms ws) state es st at e = let same : MemberEnd ≡ End = 
 
 module _ {input ps : List ℕ} {limit : ℕ} {nodes : List Node} {stack : List Frame} {rest : List ℕ} {len : ℕ} {state : State} {last byte i : ℕ} (h : Between input ps limit nodes stack rest len state last byte i) where
   -- tokens are left behind it
-  pub left_fault : i < length ps → state ≡ End → (kind : ErrorType) → ((t : Tree) → entries nodes ≡ listing t → kind ≡ left_kind_of t)
-      → stop_fault input (descent (tokens input) limit) ≡ Some (record { error = kind; index = last; character = Some byte })
+  pub left_fault : i < length ps → state ≡ End → (kind : DescentKind) → ((t : Tree) → entries nodes ≡ listing t → kind ≡ left_kind_of t)
+      → stop_fault input (descent (tokens input) limit) ≡ Some (record { error = error_type kind; index = last; character = Some byte })
   left_fault within e kind is =
       let root = ended_tree h.config state (entries nodes) stack h.at e in
       let more = tokens-left input ps i within in
@@ -227,18 +227,18 @@ module _ {input ps : List ℕ} {limit : ℕ} {nodes : List Node} {stack : List F
       sym h.reads ∙ ap (reading limit h.config last) more ∙ ap (λ (c : Config). reading limit c last (token_at input (slice_index ps i) ∷ map (token_at input) (drop (i + 1) ps))) root.1 in
       let some : 0 < i = elim (zero_or_more i) [ inl none ↦ absurd (no_value (h.first none) e) | inr m ↦ m ] in
       ap (stop_fault input) (descent-left limit (tokens input) root.0 last _ _ read)
-      ∙ ap₂ (λ k b. Some (record { error = k; index = last; character = Some b })) (sym (is root.0 root.2)) (sym (h.byte_is some))
+      ∙ ap₂ (λ k b. Some (record { error = error_type k; index = last; character = Some b })) (sym (is root.0 root.2)) (sym (h.byte_is some))
 
   none_left : i ≡ length ps → map (token_at input) (drop i ps) ≡ []
   none_left all = ap (map (token_at input)) (ap (λ (n : ℕ). drop n ps) all ∙ drop-length ps)
 
   -- no token is left, and the root has no value
-  pub cut_fault : i ≡ length ps → 0 < length ps → state ≢ End → stop_fault input (descent (tokens input) limit) ≡ Some (record { error = Syntax; index = last; character = Some byte })
+  pub cut_fault : i ≡ length ps → 0 < length ps → state ≢ End → stop_fault input (descent (tokens input) limit) ≡ Some (record { error = error_type Syntax; index = last; character = Some byte })
   cut_fault all some n =
       let read : tree_value limit InternalError 0 (tokens input) ≡ Err (stop Syntax last) =
       sym h.reads ∙ ap (reading limit h.config last) (none_left all) ∙ reading-end limit h.config last (λ e. n (h.at.state_is ∙ e)) in
       ap (stop_fault input) (descent-err limit (tokens input) (stop Syntax last) read)
-      ∙ ap (λ b. Some (record { error = Syntax; index = last; character = Some b })) (sym (h.byte_is (omega arith)))
+      ∙ ap (λ b. Some (record { error = error_type Syntax; index = last; character = Some b })) (sym (h.byte_is (omega arith)))
 
   -- the tree of all tokens
   pub whole_tree : i ≡ length ps → state ≡ End → (t : Tree) × (k : ℕ) × (tree_value limit InternalError 0 (tokens input) ≡ Ok (t, left k [])) × (entries nodes ≡ listing t)

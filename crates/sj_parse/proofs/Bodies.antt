@@ -2,8 +2,8 @@
 use Rattle.std.proofs.Common.{◌≡◌, ℕ, zero, suc, ◌+◌, ◌<◌, ◌≤◌, ne_eqb, Bool, true, false, not, ◌&&◌, List, [], ◌∷◌, ◌++◌, length, take, drop, refl, sym, ap, ◌∙◌, arith, append-nil, append_assoc, add-one, take-add, drop-drop, inr, Option, Some, Result, Ok, Err}
 use Rattle.std.proofs.lemmas.Bool.{eqb-true}
 use Rattle.std.proofs.lemmas.List.{get_or-drop}
-use Rattle.sj_base.specs.declared.error.ErrorType.{ErrorType}
-use Rattle.sj_parse.specs.declared.stop.Stop.{Stop}
+use Rattle.sj_parse.specs.declared.descent_fault.DescentKind.{DescentKind}
+use Rattle.sj_parse.specs.declared.descent_fault.Stop.{Stop}
 use Rattle.sj_parse.specs.Escapes.{stop, escape, past_escape, bad_escape, bad_escape_behind}
 use Rattle.std.specs.Prelude.{◌==◌, if◌then◌else◌, slice_index}
 use Rattle.std.proofs.Math.Seq.{take-suc, drop-cons, drop-length}
@@ -70,7 +70,7 @@ further place b bs s h =
     let there = h.at in
     record { index = suc h.index; within = omega arith; at = omega arith; is = h.is }
 
-past_backslash : (r : Result ℕ ErrorType) (place b : ℕ) (bs : List ℕ) (s : Stop) (rest : ℕ → Option Stop) → b ≡ 0x5c → ((n : ℕ) → rest n ≡ Some s → IsBackslash (suc place) bs s) → past_escape r place rest ≡ Some s → IsBackslash place (b ∷ bs) s
+past_backslash : (r : Result ℕ DescentKind) (place b : ℕ) (bs : List ℕ) (s : Stop) (rest : ℕ → Option Stop) → b ≡ 0x5c → ((n : ℕ) → rest n ≡ Some s → IsBackslash (suc place) bs s) → past_escape r place rest ≡ Some s → IsBackslash place (b ∷ bs) s
 past_backslash (Ok n) place b bs s rest is later k = further place b bs s (later n k)
 past_backslash (Err kind) place b bs s rest is later k =
     let same : stop kind place ≡ s = cc in

@@ -5,18 +5,18 @@ use Rattle.std.specs.List.{AllZip}
 use Rattle.std.proofs.Math.Seq.{drop-cons, take-suc}
 use Rattle.std.proofs.lemmas.Bool.{eqb-true, eq-eqb, ne_eqb}
 use Rattle.std.proofs.lemmas.List.{get_or-drop, map-append}
-use Rattle.sj_base.specs.declared.error.ErrorType.{ErrorType}
-use Rattle.sj_base.specs.declared.error.ErrorType.TheVariants.{InternalError, Syntax, TrailingData, ExpectedArrayContent, ExpectedObjectContent}
+use Rattle.sj_parse.specs.declared.descent_fault.DescentKind.{DescentKind}
+use Rattle.sj_parse.specs.declared.descent_fault.DescentKind.TheVariants.{InternalError, Syntax, TrailingData, ExpectedArrayContent, ExpectedObjectContent}
 use Rattle.sj_base.specs.Tree.{Tree, integer, decimal, list, object, no_items, item, Members, no_members, member}
 use Rattle.sj_tape.specs.Listing.{list_entry, object_entry, string_entry, items_listing, members_listing}
 use Rattle.sj_tape.specs.declared.node.Node.{Node}
-use Rattle.sj_parse.specs.declared.stop.Stop.{Stop}
+use Rattle.sj_parse.specs.declared.descent_fault.Stop.{Stop}
 use Rattle.sj_parse.specs.declared.stage_two.State.TheVariants.{End}
 use Rattle.sj_parse.specs.Token.{Token, token_at}
 use Rattle.sj_parse.specs.Escapes.{stop}
 use Rattle.sj_base.specs.NumberTests.{is_integer, integer_value}
 use Rattle.sj_parse.specs.Descent.{Left, left, begins_scalar, scalar_stop, left_kind, nothing_left, descent}
-use Rattle.sj_parse.specs.Fault.{stop_error}
+use Rattle.sj_parse.specs.Fault.{error_type, stop_error}
 use Rattle.sj_parse.specs.Nodes.{makes_node, HasCarrier, HaveCarriers}
 use Rattle.sj_parse.specs.inside.Trees.{Reading, mapped, token_tree, tree_of_value, tree_of_items, tree_of_more_items, tree_of_members, tree_of_expected_member, tree_of_more_members, no_tree, tree_value}
 use Rattle.sj_parse.specs.inside.Machine.{Waiting, array_of, object_of, Config, value_next, first_item, item_end, first_member, key_next, colon_next, member_end, ended, waiting_entries, waiting_stack, config_state, config_entries, config_stack, array_frame, object_frame, reading}
@@ -26,7 +26,7 @@ use Rattle.sj_parse.proofs.Forget.{forget, forget-tree_value}
 
 -- ---- no token is left
 
-value-end : (limit : ℕ) (kind : ErrorType) (last : ℕ) → tree_value limit kind last [] ≡ Err (stop Syntax last)
+value-end : (limit : ℕ) (kind : DescentKind) (last : ℕ) → tree_value limit kind last [] ≡ Err (stop Syntax last)
 unfolding tree_value
 value-end zero kind last = refl
 value-end (suc limit) kind last = refl
@@ -43,7 +43,7 @@ reading-end limit (ended t) last n = absurd (n refl)
 
 -- ---- what the first token says of the root
 
-kind_if : (b : Bool) (x y : Tree) (k : ErrorType) → left_kind_of x ≡ k → left_kind_of y ≡ k → left_kind_of (if b then x else y) ≡ k
+kind_if : (b : Bool) (x y : Tree) (k : DescentKind) → left_kind_of x ≡ k → left_kind_of y ≡ k → left_kind_of (if b then x else y) ≡ k
 kind_if true x y k h g = h
 kind_if false x y k h g = g
 
@@ -55,7 +55,7 @@ scalar_kind t =
     (kind_if (t.byte == 0x6e) _ _ TrailingData refl
     (kind_if (is_integer t.text) (integer (integer_value t.text)) (decimal t.text) TrailingData refl refl))))
 
-items_kind : (read : ErrorType → ℕ → List Token → Reading Tree) (bracket : Token) (ts : List Token) (t : Tree) (l : Left) → tree_of_items read bracket ts ≡ Ok (t, l) → left_kind_of t ≡ InternalError
+items_kind : (read : DescentKind → ℕ → List Token → Reading Tree) (bracket : Token) (ts : List Token) (t : Tree) (l : Left) → tree_of_items read bracket ts ≡ Ok (t, l) → left_kind_of t ≡ InternalError
 items_kind read bracket ts t l e =
     let p = on_token_parts _ bracket.place ts (t, l) e in
     elim (if_parts ((p.0).byte == 0x5d) _ _ (t, l) p.3) [
@@ -66,7 +66,7 @@ items_kind read bracket ts t l e =
           ap left_kind_of (sym m.2)
     ]
 
-members_kind : (read : ErrorType → ℕ → List Token → Reading Tree) (brace : Token) (ts : List Token) (t : Tree) (l : Left) → tree_of_members read brace ts ≡ Ok (t, l) → left_kind_of t ≡ InternalError
+members_kind : (read : DescentKind → ℕ → List Token → Reading Tree) (brace : Token) (ts : List Token) (t : Tree) (l : Left) → tree_of_members read brace ts ≡ Ok (t, l) → left_kind_of t ≡ InternalError
 members_kind read brace ts t l e =
     let p = on_token_parts _ brace.place ts (t, l) e in
     elim (if_parts ((p.0).byte == 0x7d) _ _ (t, l) p.3) [
@@ -77,7 +77,7 @@ members_kind read brace ts t l e =
           ap left_kind_of (sym m.2)
     ]
 
-value_kind : (items members : Token → List Token → Reading Tree) (kind : ErrorType) (first : Token) (ts : List Token) (t : Tree) (l : Left)
+value_kind : (items members : Token → List Token → Reading Tree) (kind : DescentKind) (first : Token) (ts : List Token) (t : Tree) (l : Left)
     → (items first ts ≡ Ok (t, l) → left_kind_of t ≡ InternalError) → (members first ts ≡ Ok (t, l) → left_kind_of t ≡ InternalError)
     → tree_of_value items members kind first ts ≡ Ok (t, l) → left_kind (first ∷ ts) ≡ left_kind_of t
 value_kind items members kind first ts t l is_items is_members e = elim (if_parts (first.byte == 0x5b) _ _ (t, l) e) [
@@ -93,7 +93,7 @@ value_kind items members kind first ts t l is_items is_members e = elim (if_part
   ]
 ]
 
-pub first_kind : (limit : ℕ) (kind : ErrorType) (last : ℕ) (ts : List Token) (t : Tree) (l : Left) → tree_value limit kind last ts ≡ Ok (t, l) → left_kind ts ≡ left_kind_of t
+pub first_kind : (limit : ℕ) (kind : DescentKind) (last : ℕ) (ts : List Token) (t : Tree) (l : Left) → tree_value limit kind last ts ≡ Ok (t, l) → left_kind ts ≡ left_kind_of t
 unfolding tree_value
 first_kind zero kind last ts t l e =
     let p = on_token_parts _ last ts (t, l) e in
@@ -164,12 +164,12 @@ nodes_few ts ns h = let few = filter_few ts in let same = zip_long (filter makes
 -- ---- the error of a stop
 
 error_if : (b : Bool) (bytes : List ℕ) (s : Stop) (place first : ℕ) → (s.place == place) ≡ b → (if b then first else 0x5c) ≡ slice_index bytes s.place
-    → record { error = s.kind; index = s.place; character = Some (if s.place == place then first else 0x5c) } ≡ stop_error bytes s
-error_if b bytes s place first is at = ap (λ x. record { error = s.kind; index = s.place; character = Some (if x then first else 0x5c) }) is ∙ ap (λ x. record { error = s.kind; index = s.place; character = Some x }) at
+    → record { error = error_type s.kind; index = s.place; character = Some (if s.place == place then first else 0x5c) } ≡ stop_error bytes s
+error_if b bytes s place first is at = ap (λ x. record { error = error_type s.kind; index = s.place; character = Some (if x then first else 0x5c) }) is ∙ ap (λ x. record { error = error_type s.kind; index = s.place; character = Some x }) at
 
 -- The byte at the token's first place is known, or else it is a backslash.
 pub stop_at : (bytes rest : List ℕ) (from place skip first : ℕ) (s : Stop) → rest ≡ drop from bytes → from + skip ≡ place → first ≡ slice_index rest skip → StopsAt place skip rest s
-    → record { error = s.kind; index = s.place; character = Some (if s.place == place then first else 0x5c) } ≡ stop_error bytes s
+    → record { error = error_type s.kind; index = s.place; character = Some (if s.place == place then first else 0x5c) } ≡ stop_error bytes s
 stop_at bytes rest from place skip first s is sum byte (inl same) =
     error_if true bytes s place first (eq-eqb s.place place same)
     (byte ∙ ap (λ (bs : List ℕ). get_or bs skip 0) is ∙ get_or-drop from bytes skip 0 ∙ ap (λ (i : ℕ). get_or bytes i 0) (sum ∙ sym same))

@@ -8,13 +8,13 @@ use Rattle.sj_scan.specs.declared.stage1.ScanFault.{ScanFault}
 use Rattle.sj_scan.specs.declared.stage1.ScanFault.TheVariants.{Utf8, Unclosed, Control}
 use Rattle.sj_scan.specs.Positions.{positions}
 use Rattle.sj_scan.specs.Scan.{is_closed, has_control, if_none, scan_fault}
-use Rattle.sj_base.specs.declared.error.ErrorType.{ErrorType}
-use Rattle.sj_base.specs.declared.error.ErrorType.TheVariants.{InternalError}
+use Rattle.sj_parse.specs.declared.descent_fault.DescentKind.{DescentKind}
+use Rattle.sj_parse.specs.declared.descent_fault.DescentKind.TheVariants.{InternalError}
 use Rattle.sj_base.specs.Tree.{Tree}
 use Rattle.sj_base.specs.Spelling.{Spells, SpellsValue}
 use Rattle.sj_base.specs.Spelling.{longest, Document}
 use Rattle.sj_base.proofs.Utf8.{only_utf8}
-use Rattle.sj_parse.specs.declared.stop.Stop.{Stop}
+use Rattle.sj_parse.specs.declared.descent_fault.Stop.{Stop}
 use Rattle.sj_parse.specs.Token.{Token, token_at, tokens}
 use Rattle.sj_parse.specs.Escapes.{stop}
 use Rattle.sj_parse.specs.Descent.{Left, left, left_kind, if_tokens, nothing_left, descent}
@@ -81,7 +81,7 @@ no_fault line limit h =
 -- ---- from no fault to a tree
 
 -- a descent that stops nowhere read a tree and left nothing
-left_nothing : (kind : ErrorType) (r : Reading Tree) → nothing_left kind (forget r) ≡ None → (t : Tree) × (last : ℕ) × (r ≡ Ok (t, left last []))
+left_nothing : (kind : DescentKind) (r : Reading Tree) → nothing_left kind (forget r) ≡ None → (t : Tree) × (last : ℕ) × (r ≡ Ok (t, left last []))
 left_nothing kind (Ok p) e = (p.0, p.1.last, ap (λ ts. Ok (p.0, left p.1.last ts)) (nothing p.1.tokens (stop kind p.1.last) e))
   where
     nothing : (ts : List Token) (s : Stop) → if_tokens ts s ≡ None → ts ≡ []

@@ -10,9 +10,9 @@ use Rattle.std.proofs.lemmas.Bool.{false≢true, cases_Bool, cases_lt, and_parts
 use Rattle.std.proofs.lemmas.Int.Digits.{digits_value-lt}
 use Rattle.std.proofs.lemmas.Slice.Eq.{bytes_eq-Decides}
 use Rattle.sj_base.specs.Characters.{CharacterForm, raw, short, unit, pair, short_character, IsHex, hex_value, IsCharacterForm, form_bytes, form_character}
-use Rattle.sj_base.specs.declared.error.ErrorType.{ErrorType}
+use Rattle.sj_parse.specs.declared.descent_fault.DescentKind.{DescentKind}
 use Rattle.sj_base.proofs.Fronts.{cons_parts}
-use Rattle.sj_base.specs.declared.error.ErrorType.TheVariants.{InvalidUnicodeEscape, InvalidUnicodeCodepoint}
+use Rattle.sj_parse.specs.declared.descent_fault.DescentKind.TheVariants.{InvalidUnicodeEscape, InvalidUnicodeCodepoint}
 use Rattle.sj_base.proofs.Bodies.{pair_bytes}
 use Rattle.sj_base.proofs.Trees.{IsScalar-pair}
 use Rattle.sj_parse.specs.Escapes.{is_hex, is_high_surrogate, is_low_surrogate, begins_with_low_surrogate, unicode_escape, escape}
@@ -160,7 +160,7 @@ pair_form bs hex high e =
       meant = rw high refl;
     }
 
-abbrev length_of : Result ℕ ErrorType → ℕ
+abbrev length_of : Result ℕ DescentKind → ℕ
 length_of r = result_unwrap_or r 0
 
 unicode_form : (bs : List ℕ) (n : ℕ) → unicode_escape bs ≡ Ok n → Escape n (0x75 ∷ bs)

@@ -1,10 +1,10 @@
 -- The descent reads as it does with its tree, which it forgets; each part takes a token at least.
 use Rattle.std.proofs.Common.{◌≡◌, ℕ, zero, suc, Bool, true, false, List, [], ◌∷◌, length, Option, Some, None, Result, Ok, Err, refl, sym, ap, ◌∙◌}
 use Rattle.std.specs.Prelude.{◌==◌, if◌then◌else◌}
-use Rattle.sj_base.specs.declared.error.ErrorType.{ErrorType}
-use Rattle.sj_base.specs.declared.error.ErrorType.TheVariants.{InternalError, ExpectedArrayContent, ExpectedObjectContent, ExpectedObjectKey, ExpectedObjectColon, ExpectedArrayComma, ExpectedMapComma}
+use Rattle.sj_parse.specs.declared.descent_fault.DescentKind.{DescentKind}
+use Rattle.sj_parse.specs.declared.descent_fault.DescentKind.TheVariants.{InternalError, ExpectedArrayContent, ExpectedObjectContent, ExpectedObjectKey, ExpectedObjectColon, ExpectedArrayComma, ExpectedMapComma}
 use Rattle.sj_base.specs.Tree.{Tree, list, object, no_items, item, no_members, member}
-use Rattle.sj_parse.specs.declared.stop.Stop.{Stop}
+use Rattle.sj_parse.specs.declared.descent_fault.Stop.{Stop}
 use Rattle.sj_parse.specs.Token.{Token}
 use Rattle.sj_parse.specs.Escapes.{stop}
 use Rattle.sj_parse.specs.Descent.{Left, left, Reader, then_read, at_token, unless, scalar_stop, begins_scalar, read_scalar, read_value, expect, item_end, more_items, read_items, read_member, expect_member, member_end, more_members, read_members, too_deep, value}
@@ -44,12 +44,12 @@ forget-then l r read tree e same = ap (λ x. then_read x read) e ∙ forget-with
 -- ---- containers, where the parts read the same
 
 abbrev TreeReader : Type 0
-TreeReader = ErrorType → ℕ → List Token → Reading Tree
+TreeReader = DescentKind → ℕ → List Token → Reading Tree
 
-abbrev ReadsSame : (ErrorType → Reader) → TreeReader → Type 0
-ReadsSame read tree = (kind : ErrorType) (last : ℕ) (ts : List Token) → read kind last ts ≡ forget (tree kind last ts)
+abbrev ReadsSame : (DescentKind → Reader) → TreeReader → Type 0
+ReadsSame read tree = (kind : DescentKind) (last : ℕ) (ts : List Token) → read kind last ts ≡ forget (tree kind last ts)
 
-module _ (read : ErrorType → Reader) (tree : TreeReader) (same : ReadsSame read tree) where
+module _ (read : DescentKind → Reader) (tree : TreeReader) (same : ReadsSame read tree) where
   pub forget-more_items : (n last : ℕ) (ts : List Token) → more_items read n last ts ≡ forget (tree_of_more_items tree n last ts)
   forget-more_items zero last ts = refl
   forget-more_items (suc n) last ts =
@@ -76,7 +76,7 @@ module _ (read : ErrorType → Reader) (tree : TreeReader) (same : ReadsSame rea
       if_same (t.byte == 0x3a) _ _ (mapped (λ x. (k, x)) (tree InternalError t.place others)) (Err (stop ExpectedObjectColon t.place))
       (same InternalError t.place others ∙ sym (forget-mapped (λ x. (k, x)) (tree InternalError t.place others))) refl) last rest)
 
-  pub forget-expected_member : (kind : ErrorType) (t : Token) (ts : List Token) → expect_member read kind t ts ≡ forget (tree_of_expected_member tree kind t ts)
+  pub forget-expected_member : (kind : DescentKind) (t : Token) (ts : List Token) → expect_member read kind t ts ≡ forget (tree_of_expected_member tree kind t ts)
   forget-expected_member kind t ts = if_same (t.byte == 0x22) _ _ (tree_of_member tree t ts) (Err (stop kind t.place)) (forget-member t ts) refl
 
   pub forget-more_members : (n last : ℕ) (ts : List Token) → more_members read n last ts ≡ forget (tree_of_more_members tree n last ts)
@@ -101,7 +101,7 @@ module _ (read : ErrorType → Reader) (tree : TreeReader) (same : ReadsSame rea
 -- ---- values
 
 module _ (list object : Token → List Token → Result Left Stop) (items members : Token → List Token → Reading Tree) (same_list : (t : Token) (ts : List Token) → list t ts ≡ forget (items t ts)) (same_object : (t : Token) (ts : List Token) → object t ts ≡ forget (members t ts)) where
-  forget-value : (kind : ErrorType) (t : Token) (ts : List Token) → read_value list object kind t ts ≡ forget (tree_of_value items members kind t ts)
+  forget-value : (kind : DescentKind) (t : Token) (ts : List Token) → read_value list object kind t ts ≡ forget (tree_of_value items members kind t ts)
   forget-value kind t ts =
       let scalar = judged (scalar_stop t) (token_tree t) (left t.place ts) in
       let none : Reading Tree = Err (stop kind t.place) in
@@ -110,7 +110,7 @@ module _ (list object : Token → List Token → Result Left Stop) (items member
       (if_same (begins_scalar t.byte) _ _ scalar none (forget-judged (scalar_stop t) (token_tree t) (left t.place ts)) refl))
 
 -- A stop of one is the stop of the other.
-pub forget-tree_value : (limit : ℕ) (kind : ErrorType) (last : ℕ) (ts : List Token) → value limit kind last ts ≡ forget (tree_value limit kind last ts)
+pub forget-tree_value : (limit : ℕ) (kind : DescentKind) (last : ℕ) (ts : List Token) → value limit kind last ts ≡ forget (tree_value limit kind last ts)
 unfolding value tree_value
 forget-tree_value zero kind last ts = forget-on_token (read_value too_deep too_deep kind) (tree_of_value no_tree no_tree kind) (forget-value too_deep too_deep no_tree no_tree (λ t rest. refl) (λ t rest. refl) kind) last ts
 forget-tree_value (suc limit) kind last ts =

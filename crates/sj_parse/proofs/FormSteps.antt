@@ -7,7 +7,7 @@ use Rattle.std.specs.Str.Parse.{AllDigits}
 use Rattle.std.proofs.Common.{refl, sym, ap, ap₂, ◌∙◌, subst, inl, inr, arith, append_assoc}
 use Rattle.std.proofs.lemmas.Bool.{cases_lt, ne_eqb, agree_below_at, leb-true}
 use Rattle.std.proofs.lemmas.Str.{encode_ascii}
-use Rattle.sj_base.specs.declared.error.ErrorType.{ErrorType}
+use Rattle.sj_parse.specs.declared.descent_fault.DescentKind.{DescentKind}
 use Rattle.sj_base.specs.Characters.{CharacterForm, raw, short, unit, pair, short_character, IsCharacterForm, form_bytes, form_character}
 use Rattle.sj_base.proofs.Fronts.{AllByRecursion-append, AllByRecursion-weaker}
 use Rattle.sj_base.proofs.Quotes.{high_bytes}
@@ -92,11 +92,11 @@ inner-form (pair high low) rest h =
 -- what an escape and the bytes behind it mean
 pub decoded-escape : (bs : List ℕ) (n c : ℕ) → escape bs ≡ Ok n → escaped_character bs ≡ c → decoded (0x5c ∷ bs) ≡ encode_utf8 c ++ decoded (drop n bs)
 decoded-escape bs n c e same =
-    ap₂ (λ x m. encode_utf8 x ++ decoded_behind m bs) same (ap (λ (q : Result ℕ ErrorType). result_unwrap_or q 0) e)
+    ap₂ (λ x m. encode_utf8 x ++ decoded_behind m bs) same (ap (λ (q : Result ℕ DescentKind). result_unwrap_or q 0) e)
     ∙ ap (λ (ys : List ℕ). encode_utf8 c ++ ys) (decoded_behind-drop n bs)
 
 pub bad_escape-escape : (bs : List ℕ) (n place : ℕ) → escape bs ≡ Ok n → bad_escape place (0x5c ∷ bs) ≡ bad_escape (n + suc place) (drop n bs)
-bad_escape-escape bs n place e = ap (λ (q : Result ℕ ErrorType). past_escape q place (λ m. bad_escape_behind m (suc place) bs)) e ∙ bad_escape_behind-drop n (suc place) bs
+bad_escape-escape bs n place e = ap (λ (q : Result ℕ DescentKind). past_escape q place (λ m. bad_escape_behind m (suc place) bs)) e ∙ bad_escape_behind-drop n (suc place) bs
 
 -- A form whose character may still be a quote or a control character.
 abbrev pub IsRead : CharacterForm → Type 0

@@ -3,8 +3,8 @@ use Rattle.std.proofs.Common.{◌≡◌, ℕ, zero, suc, ◌≤◌, true, List, 
 use Rattle.std.specs.Prelude.{◌==◌, if◌then◌else◌}
 use Rattle.std.proofs.lemmas.Bool.{eqb-true}
 use Rattle.sj_scan.specs.Positions.{is_operator}
-use Rattle.sj_base.specs.declared.error.ErrorType.{ErrorType}
-use Rattle.sj_base.specs.declared.error.ErrorType.TheVariants.{InternalError, ExpectedArrayContent, ExpectedArrayComma}
+use Rattle.sj_parse.specs.declared.descent_fault.DescentKind.{DescentKind}
+use Rattle.sj_parse.specs.declared.descent_fault.DescentKind.TheVariants.{InternalError, ExpectedArrayContent, ExpectedArrayComma}
 use Rattle.sj_base.specs.Tree.{Tree, list, Items, no_items, item, depth, items_depth}
 use Rattle.sj_base.specs.Spelling.{Padded, SpellsValue, SpellsMoreItems}
 use Rattle.sj_parse.specs.Token.{Token}
@@ -20,7 +20,7 @@ abbrev pub Finds : {A : Type 0} → (A → List ℕ → Type 0) → (A → ℕ) 
 Finds {A} Spelled levels limit read = (bs : List ℕ) (n : ℕ) (ts : List Token) (x : A) (l : Left) → Good n bs → (clean n bs).tokens ≡ ts → read ts ≡ Ok (x, l) → Takes (Spelled x) bs l.tokens × (levels x ≤ limit)
 
 abbrev pub FindsValue : ℕ → Type 0
-FindsValue limit = (kind : ErrorType) (last : ℕ) → Finds SpellsValue depth limit (tree_value limit kind last)
+FindsValue limit = (kind : DescentKind) (last : ℕ) → Finds SpellsValue depth limit (tree_value limit kind last)
 
 -- what was read and what is left, by equations
 pub found_as : {A : Type 0} (Spelled : A → List ℕ → Type 0) (levels : A → ℕ) (limit : ℕ) (bs : List ℕ) (x y : A) (k l : Left) → x ≡ y → k ≡ l → Takes (Spelled x) bs k.tokens → levels x ≤ limit → Takes (Spelled y) bs l.tokens × (levels y ≤ limit)
@@ -40,7 +40,7 @@ module _ (limit : ℕ) (finds : FindsValue limit) where
   MoreItems count last = Finds (λ xs. ClosedBy 0x5d (SpellsMoreItems xs)) items_depth limit (tree_of_more_items (tree_value limit) count last)
 
   -- an item and further ones, behind the byte before the item
-  items_found : (opening : ℕ) (kind : ErrorType) (last count : ℕ) (bs : List ℕ) (us : List Token) (a : Takes (λ piece. piece ≡ opening ∷ []) bs us) (x : Tree) (k : Left) (xs : Items) (l : Left) → tree_value limit kind last us ≡ Ok (x, k) → tree_of_more_items (tree_value limit) count k.last k.tokens ≡ Ok (xs, l) → MoreItems count k.last → Takes (Sequence opening 0x5d (Padded (SpellsValue x)) (SpellsMoreItems xs)) bs l.tokens × (items_depth (item x xs) ≤ limit)
+  items_found : (opening : ℕ) (kind : DescentKind) (last count : ℕ) (bs : List ℕ) (us : List Token) (a : Takes (λ piece. piece ≡ opening ∷ []) bs us) (x : Tree) (k : Left) (xs : Items) (l : Left) → tree_value limit kind last us ≡ Ok (x, k) → tree_of_more_items (tree_value limit) count k.last k.tokens ≡ Ok (xs, l) → MoreItems count k.last → Takes (Sequence opening 0x5d (Padded (SpellsValue x)) (SpellsMoreItems xs)) bs l.tokens × (items_depth (item x xs) ≤ limit)
   items_found opening kind last count bs us a x k xs l e f more =
       let b = finds kind last a.rest a.end us x k a.good (sym a.left) e in
       let first = takes_map (SpellsValue x) (InSpaces (Padded (SpellsValue x))) a.rest k.tokens (padded_value x) b.0 in

@@ -2,8 +2,8 @@
 use Rattle.std.proofs.Common.{◌≡◌, ℕ, zero, suc, ◌≤◌, true, List, [], ◌∷◌, ◌++◌, length, None, Ok, Err, refl, sym, ap, ap₂, ◌∙◌, inl, inr, arith}
 use Rattle.std.specs.Prelude.{◌==◌, if◌then◌else◌}
 use Rattle.std.proofs.lemmas.Bool.{eqb-true}
-use Rattle.sj_base.specs.declared.error.ErrorType.{ErrorType}
-use Rattle.sj_base.specs.declared.error.ErrorType.TheVariants.{InternalError, ExpectedObjectContent, ExpectedObjectKey, ExpectedObjectColon, ExpectedMapComma}
+use Rattle.sj_parse.specs.declared.descent_fault.DescentKind.{DescentKind}
+use Rattle.sj_parse.specs.declared.descent_fault.DescentKind.TheVariants.{InternalError, ExpectedObjectContent, ExpectedObjectKey, ExpectedObjectColon, ExpectedMapComma}
 use Rattle.sj_base.specs.Tree.{Tree, object, Members, no_members, member, depth, members_depth}
 use Rattle.sj_base.specs.Spelling.{Pairs, SpellsString, SpellsValue, SpellsMoreMembers}
 use Rattle.sj_parse.specs.Token.{Token}
@@ -24,7 +24,7 @@ module _ (limit : ℕ) (finds : FindsValue limit) where
   abbrev member_depth : List ℕ × Tree → ℕ
   member_depth m = depth m.1
 
-  abbrev FindsMember : ErrorType → ℕ → Type 0
+  abbrev FindsMember : DescentKind → ℕ → Type 0
   FindsMember kind last = Finds SpellsMember member_depth limit (on_token (tree_of_expected_member (tree_value limit) kind) last)
 
   -- behind a key
@@ -54,7 +54,7 @@ module _ (limit : ℕ) (finds : FindsValue limit) where
       let a = string_first u us (eqb-true u.byte 0x22 quote) text bs n good found in
       colon_found bs (decoded u.text) u.place us a m l (ap₂ (λ k (x : Left). behind_key k x.last x.tokens) j.1 j.2 ∙ q.3)
 
-  member_found : (kind : ErrorType) (last : ℕ) → FindsMember kind last
+  member_found : (kind : DescentKind) (last : ℕ) → FindsMember kind last
   member_found kind last bs n ts m l good found e =
       let p = on_token_parts (tree_of_expected_member (tree_value limit) kind) last ts (m, l) e in
       let u = p.0 in
@@ -68,7 +68,7 @@ module _ (limit : ℕ) (finds : FindsValue limit) where
   MoreMembers count last = Finds (λ ms. ClosedBy 0x7d (SpellsMoreMembers ms)) members_depth limit (tree_of_more_members (tree_value limit) count last)
 
   -- a member and further ones, behind the byte before the member
-  members_found : (opening : ℕ) (kind : ErrorType) (last count : ℕ) (bs : List ℕ) (us : List Token) (a : Takes (λ piece. piece ≡ opening ∷ []) bs us) (m : List ℕ × Tree) (k : Left) (ms : Members) (l : Left) → on_token (tree_of_expected_member (tree_value limit) kind) last us ≡ Ok (m, k) → tree_of_more_members (tree_value limit) count k.last k.tokens ≡ Ok (ms, l) → MoreMembers count k.last → Takes (Sequence opening 0x7d (Pairs (SpellsString m.0) (SpellsValue m.1)) (SpellsMoreMembers ms)) bs l.tokens × (members_depth (member m.0 m.1 ms) ≤ limit)
+  members_found : (opening : ℕ) (kind : DescentKind) (last count : ℕ) (bs : List ℕ) (us : List Token) (a : Takes (λ piece. piece ≡ opening ∷ []) bs us) (m : List ℕ × Tree) (k : Left) (ms : Members) (l : Left) → on_token (tree_of_expected_member (tree_value limit) kind) last us ≡ Ok (m, k) → tree_of_more_members (tree_value limit) count k.last k.tokens ≡ Ok (ms, l) → MoreMembers count k.last → Takes (Sequence opening 0x7d (Pairs (SpellsString m.0) (SpellsValue m.1)) (SpellsMoreMembers ms)) bs l.tokens × (members_depth (member m.0 m.1 ms) ≤ limit)
   members_found opening kind last count bs us a m k ms l e f more =
       let b = member_found kind last a.rest a.end us m k a.good (sym a.left) e in
       let first = b.0 in

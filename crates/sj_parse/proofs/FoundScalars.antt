@@ -5,10 +5,10 @@ use Rattle.std.specs.List.{list_all}
 use Rattle.std.proofs.lemmas.Bool.{cases_Bool, cond_both, eqb-true}
 use Rattle.std.proofs.lemmas.Slice.Eq.{bytes_eq-Decides}
 use Rattle.sj_scan.specs.Positions.{is_operator}
-use Rattle.sj_base.specs.declared.error.ErrorType.{ErrorType}
+use Rattle.sj_parse.specs.declared.descent_fault.DescentKind.{DescentKind}
 use Rattle.sj_base.specs.Tree.{Tree, null, boolean, string, depth}
 use Rattle.sj_base.specs.Spelling.{SpellsValue}
-use Rattle.sj_parse.specs.declared.stop.Stop.{Stop}
+use Rattle.sj_parse.specs.declared.descent_fault.Stop.{Stop}
 use Rattle.sj_parse.specs.Token.{Token}
 use Rattle.sj_parse.specs.Escapes.{stop}
 use Rattle.sj_base.specs.NumberTests.{is_number, is_integer}
@@ -46,7 +46,7 @@ module _ (t : Token) (ts : List Token) (begins : begins_scalar t.byte ≡ true) 
       takes_map (λ piece. piece ≡ t.text) (SpellsValue (token_tree t)) bs ts (λ piece e. subst (λ w. SpellsValue w piece) (sym same) (subst (λ (ys : List ℕ). SpellsValue v ys) (sym e) h))
       (word_first t ts (no_operator t.byte begins) quote bytes bs n good found)
 
-  literal_spells : (v : Tree) (literal : List ℕ) (kind : ErrorType) → (t.byte == 0x22) ≡ false → list_all is_word_byte literal ≡ true → SpellsValue v literal → literal_stop literal kind t ≡ None → token_tree t ≡ v → Takes (SpellsValue (token_tree t)) bs ts
+  literal_spells : (v : Tree) (literal : List ℕ) (kind : DescentKind) → (t.byte == 0x22) ≡ false → list_all is_word_byte literal ≡ true → SpellsValue v literal → literal_stop literal kind t ≡ None → token_tree t ≡ v → Takes (SpellsValue (token_tree t)) bs ts
   literal_spells v literal kind quote bytes h none same =
       let text : t.text ≡ literal = (bytes_eq-Decides t.text literal).0 (none_if (bytes_eq t.text literal) (stop kind t.place) none) in
       word_spells v quote (ap (λ ys. list_all is_word_byte ys) text ∙ bytes) (subst (λ (ys : List ℕ). SpellsValue v ys) (sym text) h) same

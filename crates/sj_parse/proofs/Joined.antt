@@ -3,7 +3,7 @@ use Rattle.std.proofs.Common.{◌≡◌, ℕ, ◌⊎◌, Bool, true, false, List
 use Rattle.std.specs.Prelude.{if◌then◌else◌}
 use Rattle.sj_base.specs.Tree.{Tree}
 use Rattle.sj_base.specs.Spelling.{AreSpaces, Padded, Pairs, SpellsString, SpellsValue, Between}
-use Rattle.sj_parse.specs.declared.stop.Stop.{Stop}
+use Rattle.sj_parse.specs.declared.descent_fault.Stop.{Stop}
 use Rattle.sj_parse.specs.Token.{Token}
 use Rattle.sj_parse.specs.Descent.{Left}
 use Rattle.sj_parse.specs.inside.Trees.{Reading, with_rest, mapped, on_token, judged}

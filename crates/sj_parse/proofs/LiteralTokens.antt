@@ -1,13 +1,13 @@
 -- Tokens of literals: the word that begins with their letter.
 use Rattle.std.proofs.Common.{◌≡◌, ◌≢◌, ◌⊎◌, inl, inr, ℕ, ◌<◌, Bool, true, false, List, length, Some, None, Result, Ok, Err, MatchResult, refl, sym, ap, ◌∙◌}
 use Rattle.std.specs.Prelude.{◌==◌, if◌then◌else◌, slice_index, codes, bytes_eq}
-use Rattle.sj_base.specs.declared.error.ErrorType.{ErrorType}
-use Rattle.sj_base.specs.declared.error.ErrorType.TheVariants.{ExpectedTrue, ExpectedFalse, ExpectedNull}
+use Rattle.sj_parse.specs.declared.descent_fault.DescentKind.{DescentKind}
+use Rattle.sj_parse.specs.declared.descent_fault.DescentKind.TheVariants.{ExpectedTrue, ExpectedFalse, ExpectedNull}
 use Rattle.sj_base.specs.declared.static_node.StaticNode.{StaticNode}
 use Rattle.sj_base.specs.declared.static_node.StaticNode.TheVariants.{Null, Bool as Boolean}
 use Rattle.sj_tape.specs.declared.node.Node.TheVariants.{Static}
 use Rattle.sj_scan.specs.Positions.{is_operator}
-use Rattle.sj_parse.specs.declared.stop.Stop.{Stop}
+use Rattle.sj_parse.specs.declared.descent_fault.Stop.{Stop}
 use Rattle.sj_parse.specs.Token.{Token, word}
 use Rattle.sj_parse.specs.Escapes.{stop}
 use Rattle.sj_parse.specs.Atoms.{is_atom}
@@ -31,7 +31,7 @@ module _ (place : ℕ) (before bytes : List ℕ) (some : 0 < length bytes) where
   same_test literal no_operator no_quote atom = ap (λ (text : List ℕ). bytes_eq text literal) (word_text place before bytes 0 some no_operator no_quote) ∙ sym atom
 
   -- What the test decides is what the token's fault is.
-  reads : (literal : List ℕ) (kind : ErrorType) (node : StaticNode) (valid : Bool) (r : Result StaticNode Stop) →
+  reads : (literal : List ℕ) (kind : DescentKind) (node : StaticNode) (valid : Bool) (r : Result StaticNode Stop) →
       scalar_stop token ≡ literal_stop literal kind token → bytes_eq (token).text literal ≡ is_atom literal bytes
       → (scalar_stop token ≡ None → IsScalarNode token (Static node))
       → valid ≡ is_atom literal bytes → r ≡ (if valid then Ok node else Err (stop kind place)) → IsRead r

@@ -1,10 +1,10 @@
 -- Each step of stage two keeps the tree that the root comes to.
 use Rattle.std.proofs.Common.{◌≡◌, ℕ, zero, suc, ◌-◌, ◌<◌, ◌≤◌, Bool, true, false, List, [], ◌∷◌, length, Option, Some, None, Ok, Err, refl, sym, ap, ◌∙◌, arith, subst}
 use Rattle.std.specs.Prelude.{◌==◌, if◌then◌else◌}
-use Rattle.sj_base.specs.declared.error.ErrorType.{ErrorType}
-use Rattle.sj_base.specs.declared.error.ErrorType.TheVariants.{InternalError, Syntax, ExpectedArrayContent, ExpectedObjectContent, ExpectedObjectKey, ExpectedObjectColon, ExpectedArrayComma, ExpectedMapComma}
+use Rattle.sj_parse.specs.declared.descent_fault.DescentKind.{DescentKind}
+use Rattle.sj_parse.specs.declared.descent_fault.DescentKind.TheVariants.{InternalError, Syntax, ExpectedArrayContent, ExpectedObjectContent, ExpectedObjectKey, ExpectedObjectColon, ExpectedArrayComma, ExpectedMapComma}
 use Rattle.sj_base.specs.Tree.{Tree, list, object, Items, no_items, item, Members, no_members, member}
-use Rattle.sj_parse.specs.declared.stop.Stop.{Stop}
+use Rattle.sj_parse.specs.declared.descent_fault.Stop.{Stop}
 use Rattle.sj_parse.specs.Token.{Token}
 use Rattle.sj_parse.specs.Escapes.{stop}
 use Rattle.sj_parse.specs.Descent.{left, scalar_stop, begins_scalar}
@@ -140,7 +140,7 @@ module _ (limit : ℕ) (ws : List Waiting) (last : ℕ) (t : Token) (ts : List T
   member-bad_key ms n s bad = rw bad refl
 
   -- the token begins a key
-  member-expected : (kind : ErrorType) (ms : Members) → (t.byte == 0x22) ≡ true → with_rest (tree_of_expected_member inner kind t ts) (members_with ms (length (t ∷ ts))) ≡ with_rest (tree_of_member inner t ts) (members_with ms (length (t ∷ ts)))
+  member-expected : (kind : DescentKind) (ms : Members) → (t.byte == 0x22) ≡ true → with_rest (tree_of_expected_member inner kind t ts) (members_with ms (length (t ∷ ts))) ≡ with_rest (tree_of_member inner t ts) (members_with ms (length (t ∷ ts)))
   member-expected kind ms is = ap (λ (b : Bool). with_rest (if b then tree_of_member inner t ts else Err (stop kind t.place)) (members_with ms (length (t ∷ ts)))) is
 
   -- behind `{`
@@ -214,20 +214,20 @@ module _ (limit : ℕ) (ws : List Waiting) (last : ℕ) (t : Token) (ts : List T
 
 -- ---- a value
 
-value-levels : (n : ℕ) (kind : ErrorType) (last : ℕ) (t : Token) (ts : List Token) → tree_value (suc n) kind last (t ∷ ts) ≡ tree_of_value (tree_of_items (tree_value n)) (tree_of_members (tree_value n)) kind t ts
+value-levels : (n : ℕ) (kind : DescentKind) (last : ℕ) (t : Token) (ts : List Token) → tree_value (suc n) kind last (t ∷ ts) ≡ tree_of_value (tree_of_items (tree_value n)) (tree_of_members (tree_value n)) kind t ts
 unfolding tree_value
 value-levels n kind last t ts = refl
 
-value-no_levels : (kind : ErrorType) (last : ℕ) (t : Token) (ts : List Token) → tree_value zero kind last (t ∷ ts) ≡ tree_of_value no_tree no_tree kind t ts
+value-no_levels : (kind : DescentKind) (last : ℕ) (t : Token) (ts : List Token) → tree_value zero kind last (t ∷ ts) ≡ tree_of_value no_tree no_tree kind t ts
 unfolding tree_value
 value-no_levels kind last t ts = refl
 
 -- whatever reads containers
-value-any : (P : Reading Tree → Type 0) (n : ℕ) (kind : ErrorType) (last : ℕ) (t : Token) (ts : List Token) → ((items members : Token → List Token → Reading Tree) → P (tree_of_value items members kind t ts)) → P (tree_value n kind last (t ∷ ts))
+value-any : (P : Reading Tree → Type 0) (n : ℕ) (kind : DescentKind) (last : ℕ) (t : Token) (ts : List Token) → ((items members : Token → List Token → Reading Tree) → P (tree_of_value items members kind t ts)) → P (tree_value n kind last (t ∷ ts))
 value-any P zero kind last t ts h = subst P (sym (value-no_levels kind last t ts)) (h no_tree no_tree)
 value-any P (suc n) kind last t ts h = subst P (sym (value-levels n kind last t ts)) (h (tree_of_items (tree_value n)) (tree_of_members (tree_value n)))
 
-module _ (limit : ℕ) (kind : ErrorType) (ws : List Waiting) (last : ℕ) (t : Token) (ts : List Token) where
+module _ (limit : ℕ) (kind : DescentKind) (ws : List Waiting) (last : ℕ) (t : Token) (ts : List Token) where
   inside : length ws < limit → value_reading limit kind ws last (t ∷ ts) ≡ with_rest (tree_of_value (tree_of_items (tree_value (levels_inside limit ws))) (tree_of_members (tree_value (levels_inside limit ws))) kind t ts) (resume limit ws)
   inside room =
       let levels : limit - length ws ≡ suc (levels_inside limit ws) = omega arith in

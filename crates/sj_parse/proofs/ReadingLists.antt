@@ -2,8 +2,8 @@
 use Rattle.std.proofs.Common.{◌≡◌, ℕ, zero, suc, ◌≤◌, Bool, true, false, List, [], ◌∷◌, ◌++◌, length, Ok, append_assoc, refl, ap, ◌∙◌, arith}
 use Rattle.std.specs.Prelude.{◌==◌, if◌then◌else◌}
 use Rattle.std.proofs.lemmas.Bool.{eqb-true}
-use Rattle.sj_base.specs.declared.error.ErrorType.{ErrorType}
-use Rattle.sj_base.specs.declared.error.ErrorType.TheVariants.{InternalError, ExpectedArrayContent}
+use Rattle.sj_parse.specs.declared.descent_fault.DescentKind.{DescentKind}
+use Rattle.sj_parse.specs.declared.descent_fault.DescentKind.TheVariants.{InternalError, ExpectedArrayContent}
 use Rattle.sj_base.specs.Tree.{Tree, list, Items, no_items, item}
 use Rattle.sj_base.specs.Spelling.{AreSpaces}
 use Rattle.sj_parse.specs.Token.{Token}
@@ -43,7 +43,7 @@ more_item limit t ts bs first more e ends value others n rest (suc count) last l
     }
 
 -- what is read as a value doesn't begin with a closing byte
-no_value_at : (limit : ℕ) (kind : ErrorType) (last : ℕ) (u : Token) (us : List Token) (p : Tree × Left) → (u.byte == 0x5d) ≡ true → tree_value limit kind last (u ∷ us) ≡ Ok p → ⊥
+no_value_at : (limit : ℕ) (kind : DescentKind) (last : ℕ) (u : Token) (us : List Token) (p : Tree × Left) → (u.byte == 0x5d) ≡ true → tree_value limit kind last (u ∷ us) ≡ Ok p → ⊥
 unfolding tree_value
 no_value_at zero kind last u us p h e = let close = eqb-true u.byte 0x5d h in let none = rw close at e in absurd cc
 no_value_at (suc limit) kind last u us p h e = let close = eqb-true u.byte 0x5d h in let none = rw close at e in absurd cc
@@ -72,7 +72,7 @@ list_none limit bs inner e h n rest kind last ends =
     }
 
 -- an item and further ones
-list_reads : (limit : ℕ) (kind : ErrorType) (last n : ℕ) (all us : List Token) (t : Tree) (ts : Items) (l r : Left) → all ≡ token n 0x5b (0x5b ∷ []) ∷ us → tree_value limit ExpectedArrayContent n us ≡ Ok (t, l) → tree_of_more_items (tree_value limit) (length us) l.last l.tokens ≡ Ok (ts, r) → tree_value (suc limit) kind last all ≡ Ok (list (item t ts), r)
+list_reads : (limit : ℕ) (kind : DescentKind) (last n : ℕ) (all us : List Token) (t : Tree) (ts : Items) (l r : Left) → all ≡ token n 0x5b (0x5b ∷ []) ∷ us → tree_value limit ExpectedArrayContent n us ≡ Ok (t, l) → tree_of_more_items (tree_value limit) (length us) l.last l.tokens ≡ Ok (ts, r) → tree_value (suc limit) kind last all ≡ Ok (list (item t ts), r)
 unfolding tree_value
 list_reads limit kind last n all us t ts l r opened first more =
     let behind = λ (x : Tree) (place : ℕ) (rest : List Token). mapped (λ xs. list (item x xs)) (tree_of_more_items (tree_value limit) (length us) place rest) in

@@ -2,8 +2,8 @@
 use Rattle.std.proofs.Common.{◌≡◌, ℕ, zero, suc, ◌≤◌, Bool, true, false, List, [], ◌∷◌, ◌++◌, length, None, Ok, append_assoc, refl, ap, ◌∙◌, arith}
 use Rattle.std.specs.Prelude.{◌==◌, if◌then◌else◌}
 use Rattle.std.proofs.lemmas.Bool.{eqb-true}
-use Rattle.sj_base.specs.declared.error.ErrorType.{ErrorType}
-use Rattle.sj_base.specs.declared.error.ErrorType.TheVariants.{InternalError, ExpectedObjectContent, ExpectedObjectKey}
+use Rattle.sj_parse.specs.declared.descent_fault.DescentKind.{DescentKind}
+use Rattle.sj_parse.specs.declared.descent_fault.DescentKind.TheVariants.{InternalError, ExpectedObjectContent, ExpectedObjectKey}
 use Rattle.sj_base.specs.Tree.{Tree, object, Members, no_members, member}
 use Rattle.sj_base.specs.Spelling.{AreSpaces, SpellsString, Pairs, SpellsValue}
 use Rattle.sj_parse.specs.Token.{Token}
@@ -16,13 +16,13 @@ use Rattle.sj_parse.proofs.ReadingValues.{Reads, ReadsValue}
 use Rattle.sj_parse.proofs.SpelledScalars.{string_token}
 
 abbrev pub ReadsMember : ℕ → List ℕ → Tree → List ℕ → Type 0
-ReadsMember limit k t bs = (n : ℕ) (rest : List ℕ) (kind : ErrorType) (last : ℕ) → Ends rest → Reads (List ℕ × Tree) (on_token (tree_of_expected_member (tree_value limit) kind) last) (k, t) n (bs ++ rest) rest
+ReadsMember limit k t bs = (n : ℕ) (rest : List ℕ) (kind : DescentKind) (last : ℕ) → Ends rest → Reads (List ℕ × Tree) (on_token (tree_of_expected_member (tree_value limit) kind) last) (k, t) n (bs ++ rest) rest
 
 abbrev pub ReadsMoreMembers : ℕ → Members → List ℕ → Type 0
 ReadsMoreMembers limit ms bs = (n : ℕ) (rest : List ℕ) (count last : ℕ) → length (clean n (bs ++ 0x7d ∷ rest)).tokens ≤ count → Reads Members (tree_of_more_members (tree_value limit) count last) ms n (bs ++ 0x7d ∷ rest) rest
 
 -- behind a key
-member_reads : (limit : ℕ) (kind : ErrorType) (last n m : ℕ) (k body : List ℕ) (t : Tree) (us : List Token) (l : Left) → scalar_stop (token n 0x22 body) ≡ None → decoded body ≡ k → tree_value limit InternalError m us ≡ Ok (t, l) → on_token (tree_of_expected_member (tree_value limit) kind) last (token n 0x22 body ∷ token m 0x3a (0x3a ∷ []) ∷ us) ≡ Ok ((k, t), l)
+member_reads : (limit : ℕ) (kind : DescentKind) (last n m : ℕ) (k body : List ℕ) (t : Tree) (us : List Token) (l : Left) → scalar_stop (token n 0x22 body) ≡ None → decoded body ≡ k → tree_value limit InternalError m us ≡ Ok (t, l) → on_token (tree_of_expected_member (tree_value limit) kind) last (token n 0x22 body ∷ token m 0x3a (0x3a ∷ []) ∷ us) ≡ Ok ((k, t), l)
 member_reads limit kind last n m k body t us l good meant e =
     rw good (ap (λ r. mapped (λ x. (decoded body, x)) r) e ∙ ap (λ ys. Ok ((ys, t), l)) meant)
 
@@ -92,7 +92,7 @@ object_none limit bs inner e h n rest kind last ends =
     }
 
 -- a member and further ones
-object_reads : (limit : ℕ) (kind : ErrorType) (last n : ℕ) (all us : List Token) (m : List ℕ × Tree) (ms : Members) (l r : Left) → all ≡ token n 0x7b (0x7b ∷ []) ∷ us → on_token (tree_of_expected_member (tree_value limit) ExpectedObjectContent) n us ≡ Ok (m, l) → tree_of_more_members (tree_value limit) (length us) l.last l.tokens ≡ Ok (ms, r) → tree_value (suc limit) kind last all ≡ Ok (object (member m.0 m.1 ms), r)
+object_reads : (limit : ℕ) (kind : DescentKind) (last n : ℕ) (all us : List Token) (m : List ℕ × Tree) (ms : Members) (l r : Left) → all ≡ token n 0x7b (0x7b ∷ []) ∷ us → on_token (tree_of_expected_member (tree_value limit) ExpectedObjectContent) n us ≡ Ok (m, l) → tree_of_more_members (tree_value limit) (length us) l.last l.tokens ≡ Ok (ms, r) → tree_value (suc limit) kind last all ≡ Ok (object (member m.0 m.1 ms), r)
 unfolding tree_value
 object_reads limit kind last n all us m ms l r opened first more =
     let behind = λ (x : List ℕ × Tree) (place : ℕ) (rest : List Token). mapped (λ xs. object (member x.0 x.1 xs)) (tree_of_more_members (tree_value limit) (length us) place rest) in

@@ -1,6 +1,6 @@
 -- A scalar, and whitespace around a value, from the bytes to what is read.
 use Rattle.std.proofs.Common.{◌≡◌, ℕ, true, ◌||◌, List, [], ◌∷◌, ◌++◌, Ok, append_assoc, refl, ap, ◌∙◌, inl, inr}
-use Rattle.sj_base.specs.declared.error.ErrorType.{ErrorType}
+use Rattle.sj_parse.specs.declared.descent_fault.DescentKind.{DescentKind}
 use Rattle.sj_base.specs.Tree.{Tree}
 use Rattle.sj_scan.specs.Positions.{is_whitespace, is_operator}
 use Rattle.sj_base.specs.Spelling.{IsSpace, AreSpaces, Padded, SpellsValue}
@@ -18,7 +18,7 @@ pub record Reads (A : Type 0) (read : List Token → Reading A) (x : A) (n : ℕ
   pub reads : read (clean n bs).tokens ≡ Ok (x, left last (clean end rest).tokens)
 
 abbrev pub ReadsValue : ℕ → Tree → List ℕ → Type 0
-ReadsValue limit t bs = (n : ℕ) (rest : List ℕ) (kind : ErrorType) (last : ℕ) → Ends rest → Reads Tree (tree_value limit kind last) t n (bs ++ rest) rest
+ReadsValue limit t bs = (n : ℕ) (rest : List ℕ) (kind : DescentKind) (last : ℕ) → Ends rest → Reads Tree (tree_value limit kind last) t n (bs ++ rest) rest
 
 -- ---- scalars
 

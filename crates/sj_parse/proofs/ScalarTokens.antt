@@ -5,7 +5,7 @@ use Rattle.std.specs.Char.{is_ascii_digit}
 use Rattle.std.proofs.Math.Seq.{drop-cons}
 use Rattle.std.proofs.lemmas.Bool.{eq-eqb, ne_eqb, eqb-true}
 use Rattle.std.proofs.lemmas.List.{get_or-drop}
-use Rattle.sj_base.specs.declared.error.ErrorType.TheVariants.{ExpectedTrue, ExpectedFalse, ExpectedNull, InvalidNumber}
+use Rattle.sj_parse.specs.declared.descent_fault.DescentKind.TheVariants.{ExpectedTrue, ExpectedFalse, ExpectedNull, InvalidNumber}
 use Rattle.sj_base.specs.declared.static_node.StaticNode.TheVariants.{Null, Bool as Boolean, I64, U64}
 use Rattle.sj_base.specs.Tree.{integer, decimal, string}
 use Rattle.sj_scan.specs.Positions.{is_whitespace, is_operator}
@@ -13,7 +13,7 @@ use Rattle.sj_tape.specs.Listing.{Entry, string_entry, integer_entry, decimal_en
 use Rattle.sj_tape.specs.Nodes.{node_entry}
 use Rattle.sj_tape.specs.declared.node.Node.{Node}
 use Rattle.sj_tape.specs.declared.node.Node.TheVariants.{String, Object, Array, Static, Decimal}
-use Rattle.sj_parse.specs.declared.stop.Stop.{Stop}
+use Rattle.sj_parse.specs.declared.descent_fault.Stop.{Stop}
 use Rattle.sj_parse.specs.Token.{Token, word, body, token_text}
 use Rattle.sj_parse.specs.Escapes.{stop, bad_escape}
 use Rattle.sj_base.specs.NumberTests.{is_negative, is_integer, is_decimal, is_number, integer_value}

@@ -1,10 +1,10 @@
 -- What reads a value takes a token at least, so the number of steps in a container doesn't matter once it is large enough.
 use Rattle.std.proofs.Common.{◌≡◌, ℕ, zero, suc, ◌<◌, ◌≤◌, Bool, true, false, List, [], ◌∷◌, length, Option, Some, None, Ok, Err, refl, ap, subst, arith}
 use Rattle.std.specs.Prelude.{◌==◌, if◌then◌else◌}
-use Rattle.sj_base.specs.declared.error.ErrorType.{ErrorType}
-use Rattle.sj_base.specs.declared.error.ErrorType.TheVariants.{InternalError, ExpectedArrayContent, ExpectedObjectContent, ExpectedObjectKey, ExpectedObjectColon, ExpectedArrayComma, ExpectedMapComma}
+use Rattle.sj_parse.specs.declared.descent_fault.DescentKind.{DescentKind}
+use Rattle.sj_parse.specs.declared.descent_fault.DescentKind.TheVariants.{InternalError, ExpectedArrayContent, ExpectedObjectContent, ExpectedObjectKey, ExpectedObjectColon, ExpectedArrayComma, ExpectedMapComma}
 use Rattle.sj_base.specs.Tree.{Tree, list, object, Items, no_items, item, Members, no_members, member}
-use Rattle.sj_parse.specs.declared.stop.Stop.{Stop}
+use Rattle.sj_parse.specs.declared.descent_fault.Stop.{Stop}
 use Rattle.sj_parse.specs.Token.{Token}
 use Rattle.sj_parse.specs.Escapes.{stop}
 use Rattle.sj_parse.specs.Descent.{Left, left, scalar_stop, begins_scalar}
@@ -55,10 +55,10 @@ if_same_first b x s t e = ap (λ r. if b then r else x) e
 -- ---- containers, where a value takes a token
 
 abbrev pub TreeReader : Type 0
-TreeReader = ErrorType → ℕ → List Token → Reading Tree
+TreeReader = DescentKind → ℕ → List Token → Reading Tree
 
 abbrev pub TakesToken : TreeReader → Type 0
-TakesToken tree = (kind : ErrorType) (last : ℕ) (ts : List Token) → LeavesFewer (length ts) (tree kind last ts)
+TakesToken tree = (kind : DescentKind) (last : ℕ) (ts : List Token) → LeavesFewer (length ts) (tree kind last ts)
 
 module _ (tree : TreeReader) (takes : TakesToken tree) where
   fewer_more_items : (n last : ℕ) (ts : List Token) → LeavesFewer (length ts) (tree_of_more_items tree n last ts)
@@ -94,7 +94,7 @@ module _ (tree : TreeReader) (takes : TakesToken tree) where
       (λ t others. fewer_if (t.byte == 0x3a) (suc (length others)) (mapped (λ x. (k, x)) (tree InternalError t.place others)) (Err (stop ExpectedObjectColon t.place))
       (fewer_mapped (λ x. (k, x)) (suc (length others)) (tree InternalError t.place others) (fewer_weaker (length others) (suc (length others)) (tree InternalError t.place others) (omega arith) (takes InternalError t.place others))) tt) last rest))
 
-  pub fewer_expected_member : (kind : ErrorType) (t : Token) (ts : List Token) → LeavesFewer (suc (length ts)) (tree_of_expected_member tree kind t ts)
+  pub fewer_expected_member : (kind : DescentKind) (t : Token) (ts : List Token) → LeavesFewer (suc (length ts)) (tree_of_expected_member tree kind t ts)
   fewer_expected_member kind t ts = fewer_if (t.byte == 0x22) (suc (length ts)) (tree_of_member tree t ts) (Err (stop kind t.place)) (fewer_member t ts) tt
 
   fewer_more_members : (n last : ℕ) (ts : List Token) → LeavesFewer (length ts) (tree_of_more_members tree n last ts)
@@ -165,7 +165,7 @@ module _ (tree : TreeReader) (takes : TakesToken tree) where
 -- ---- values
 
 module _ (items members : Token → List Token → Reading Tree) (fewer_list : (t : Token) (ts : List Token) → LeavesFewer (suc (length ts)) (items t ts)) (fewer_object : (t : Token) (ts : List Token) → LeavesFewer (suc (length ts)) (members t ts)) where
-  fewer_value : (kind : ErrorType) (t : Token) (ts : List Token) → LeavesFewer (suc (length ts)) (tree_of_value items members kind t ts)
+  fewer_value : (kind : DescentKind) (t : Token) (ts : List Token) → LeavesFewer (suc (length ts)) (tree_of_value items members kind t ts)
   fewer_value kind t ts =
       let scalar = judged (scalar_stop t) (token_tree t) (left t.place ts) in
       let none : Reading Tree = Err (stop kind t.place) in
@@ -181,10 +181,10 @@ takes_token (suc limit) kind last ts =
     (fewer_value (tree_of_items (tree_value limit)) (tree_of_members (tree_value limit)) (fewer_items (tree_value limit) (takes_token limit)) (fewer_members (tree_value limit) (takes_token limit)) kind) last ts
 
 -- What is left behind a value is fewer tokens than before it.
-pub shorter-tree_value : (limit : ℕ) (kind : ErrorType) (last : ℕ) (ts : List Token) (t : Tree) (l : Left) → tree_value limit kind last ts ≡ Ok (t, l) → length l.tokens < length ts
+pub shorter-tree_value : (limit : ℕ) (kind : DescentKind) (last : ℕ) (ts : List Token) (t : Tree) (l : Left) → tree_value limit kind last ts ≡ Ok (t, l) → length l.tokens < length ts
 shorter-tree_value limit kind last ts t l e = subst (λ (r : Reading Tree). LeavesFewer (length ts) r) e (takes_token limit kind last ts)
 
-pub shorter-member : (limit : ℕ) (kind : ErrorType) (last : ℕ) (ts : List Token) (m : List ℕ × Tree) (l : Left) → on_token (tree_of_expected_member (tree_value limit) kind) last ts ≡ Ok (m, l) → length l.tokens < length ts
+pub shorter-member : (limit : ℕ) (kind : DescentKind) (last : ℕ) (ts : List Token) (m : List ℕ × Tree) (l : Left) → on_token (tree_of_expected_member (tree_value limit) kind) last ts ≡ Ok (m, l) → length l.tokens < length ts
 shorter-member limit kind last ts m l e = subst (λ (r : Reading (List ℕ × Tree)). LeavesFewer (length ts) r) e (fewer_on_token (tree_of_expected_member (tree_value limit) kind) (fewer_expected_member (tree_value limit) (takes_token limit) kind) last ts)
 
 -- Behind an item or a member any number of steps that is as large as that of the tokens does.

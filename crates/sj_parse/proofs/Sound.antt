@@ -3,7 +3,7 @@ use Rattle.std.proofs.Common.{◌≡◌, ℕ, zero, suc, ◌≤◌, true, ◌||�
 use Rattle.std.specs.Prelude.{◌==◌, if◌then◌else◌}
 use Rattle.std.proofs.lemmas.Bool.{cases_Bool, or_right}
 use Rattle.sj_scan.specs.Positions.{is_whitespace, is_operator}
-use Rattle.sj_base.specs.declared.error.ErrorType.{ErrorType}
+use Rattle.sj_parse.specs.declared.descent_fault.DescentKind.{DescentKind}
 use Rattle.sj_base.specs.Tree.{Tree, depth}
 use Rattle.sj_base.specs.Spelling.{AreSpaces, SpellsValue}
 use Rattle.sj_parse.specs.Token.{Token}
@@ -21,7 +21,7 @@ use Rattle.sj_parse.proofs.Joined.{if_parts, on_token_parts, judged_parts}
 abbrev FindsBehind : ℕ → ℕ → (Token → List Token → Reading Tree) → Type 0
 FindsBehind opening limit read = (bs : List ℕ) (u : Token) (us : List Token) (a : Takes (λ piece. piece ≡ opening ∷ []) bs us) (t : Tree) (l : Left) → read u us ≡ Ok (t, l) → Takes (SpellsValue t) bs l.tokens × (depth t ≤ limit)
 
-value_found : (limit : ℕ) (items members : Token → List Token → Reading Tree) → FindsBehind 0x5b limit items → FindsBehind 0x7b limit members → (kind : ErrorType) (last : ℕ) → Finds SpellsValue depth limit (on_token (tree_of_value items members kind) last)
+value_found : (limit : ℕ) (items members : Token → List Token → Reading Tree) → FindsBehind 0x5b limit items → FindsBehind 0x7b limit members → (kind : DescentKind) (last : ℕ) → Finds SpellsValue depth limit (on_token (tree_of_value items members kind) last)
 value_found limit items members lists objects kind last bs n ts t l good found e =
     let p = on_token_parts (tree_of_value items members kind) last ts (t, l) e in
     let u = p.0 in

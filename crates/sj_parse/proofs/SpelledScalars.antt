@@ -4,7 +4,7 @@ use Rattle.std.specs.Prelude.{◌==◌, codes}
 use Rattle.std.specs.Char.{IsAsciiDigit}
 use Rattle.std.specs.List.{list_all}
 use Rattle.std.proofs.lemmas.Bool.{ne_eqb, false≢true}
-use Rattle.sj_base.specs.declared.error.ErrorType.{ErrorType}
+use Rattle.sj_parse.specs.declared.descent_fault.DescentKind.{DescentKind}
 use Rattle.sj_base.specs.Tree.{Tree, null, boolean, integer, decimal, string, list, object}
 use Rattle.sj_base.specs.Spelling.{SpellsString, SpellsValue}
 use Rattle.sj_base.proofs.Literals.{to_test}
@@ -108,13 +108,13 @@ scalar_token (object ms) bs n rest is h ends = absurd is
 pub not_scalar : (b c : ℕ) → begins_scalar b ≡ true → begins_scalar c ≡ false → (b == c) ≡ false
 not_scalar b c h none = ne_eqb b c (λ e. false≢true (sym none ∙ ap begins_scalar (sym e) ∙ h))
 
-scalar_read : (items members : Token → List Token → Reading Tree) (kind : ErrorType) (t : Token) (ts : List Token) → begins_scalar t.byte ≡ true → scalar_stop t ≡ None → tree_of_value items members kind t ts ≡ Ok (token_tree t, left t.place ts)
+scalar_read : (items members : Token → List Token → Reading Tree) (kind : DescentKind) (t : Token) (ts : List Token) → begins_scalar t.byte ≡ true → scalar_stop t ≡ None → tree_of_value items members kind t ts ≡ Ok (token_tree t, left t.place ts)
 scalar_read items members kind t ts begins good =
     let no_list = not_scalar t.byte 0x5b begins refl in
     let no_object = not_scalar t.byte 0x7b begins refl in
     rw (no_list, no_object, begins, good) refl
 
-pub scalar_value : (limit : ℕ) (kind : ErrorType) (last : ℕ) (t : Token) (ts : List Token) → begins_scalar t.byte ≡ true → scalar_stop t ≡ None → tree_value limit kind last (t ∷ ts) ≡ Ok (token_tree t, left t.place ts)
+pub scalar_value : (limit : ℕ) (kind : DescentKind) (last : ℕ) (t : Token) (ts : List Token) → begins_scalar t.byte ≡ true → scalar_stop t ≡ None → tree_value limit kind last (t ∷ ts) ≡ Ok (token_tree t, left t.place ts)
 unfolding tree_value
 scalar_value zero kind last t ts begins good = scalar_read no_tree no_tree kind t ts begins good
 scalar_value (suc limit) kind last t ts begins good = scalar_read (tree_of_items (tree_value limit)) (tree_of_members (tree_value limit)) kind t ts begins good

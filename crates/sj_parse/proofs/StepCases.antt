@@ -4,7 +4,7 @@ use Rattle.std.specs.Prelude.{◌==◌, not, ◌||◌, if◌then◌else◌, slic
 use Rattle.std.proofs.lemmas.Bool.{eqb-true}
 use Rattle.sj_base.specs.Tree.{Tree, list, object, Items, no_items, Members, no_members}
 use Rattle.sj_tape.specs.Listing.{Entry, string_entry, object_entry, members_listing}
-use Rattle.sj_parse.specs.declared.stop.Stop.{Stop}
+use Rattle.sj_parse.specs.declared.descent_fault.Stop.{Stop}
 use Rattle.sj_parse.specs.declared.containers.Frame.{Frame}
 use Rattle.sj_parse.specs.declared.stage_two.State.{State}
 use Rattle.sj_parse.specs.declared.stage_two.State.TheVariants.{Value, FirstItem, ItemEnd, FirstMember, Key, Colon, MemberEnd, End}

@@ -6,11 +6,11 @@ use Rattle.std.specs.Str.{all_scalars, encode_utf8_all}
 use Rattle.std.proofs.Common.{refl, sym, ap, ◌∙◌, subst, inl, inr, arith, length-append, length-drop}
 use Rattle.std.proofs.lemmas.Bool.{false≢true, cases_Bool, cases_lt, and_parts, eqb-true, eqb-false, eq-eqb}
 use Rattle.std.proofs.lemmas.Str.{encode_ascii, length-encode, len_utf8_bounds, IsUtf8-nil, IsUtf8-append, IsUtf8-encode, IsUtf8-past_char}
-use Rattle.sj_base.specs.declared.error.ErrorType.{ErrorType}
+use Rattle.sj_parse.specs.declared.descent_fault.DescentKind.{DescentKind}
 use Rattle.sj_base.specs.Characters.{CharacterForm, raw, short, unit, pair, hex_value, IsCharacterForm, form_bytes, form_character, Means}
 use Rattle.sj_base.proofs.Fronts.{cons_parts, AllByRecursion-append, AllByRecursion-parts, AllByRecursion-weaker}
 use Rattle.sj_base.proofs.Trees.{IsScalar-short, IsScalar-pair}
-use Rattle.sj_parse.specs.declared.stop.Stop.{Stop}
+use Rattle.sj_parse.specs.declared.descent_fault.Stop.{Stop}
 use Rattle.sj_parse.specs.Escapes.{escape, past_escape, bad_escape, bad_escape_behind}
 use Rattle.sj_parse.specs.inside.Decoded.{decoded}
 use Rattle.sj_parse.specs.inside.WordBytes.{is_inner_from, is_inner_body}
@@ -40,7 +40,7 @@ more_forms r body rest h e f = record {
   text = ap decoded e ∙ (step_form r rest h).text ∙ ap (λ (xs : List ℕ). encode_utf8 (form_character r) ++ xs) f.text;
 }
 
-past_escape_parts : (r : Result ℕ ErrorType) (place : ℕ) (rest : ℕ → Option Stop) → past_escape r place rest ≡ None → (n : ℕ) × (r ≡ Ok n) × (rest n ≡ None)
+past_escape_parts : (r : Result ℕ DescentKind) (place : ℕ) (rest : ℕ → Option Stop) → past_escape r place rest ≡ None → (n : ℕ) × (r ≡ Ok n) × (rest n ≡ None)
 past_escape_parts (Ok n) place rest e = (n, refl, e)
 past_escape_parts (Err kind) place rest e = absurd cc
 

@@ -1,9 +1,9 @@
 -- The nodes that the descent makes of a text are a tape of its tree.
-use Rattle.std.proofs.Common.{◌≡◌, ◌≢◌, ℕ, ◌≤◌, false, true, List, [], length, Option, Some, None, Result, Ok, Err, sym, ap, subst, ◌∙◌, inl}
-use Rattle.std.specs.Prelude.{MatchResult, OnOk, is_err}
+use Rattle.std.proofs.Common.{◌≡◌, ◌≢◌, ℕ, ◌≤◌, false, true, List, [], length, Option, None, Result, Ok, Err, sym, ap, subst, ◌∙◌}
+use Rattle.std.specs.Prelude.{OnOk, is_err}
 use Rattle.std.proofs.lemmas.Bool.{le-ltb}
 use Rattle.sj_base.specs.declared.error.Error.{Error}
-use Rattle.sj_base.specs.declared.error.ErrorType.TheVariants.{InternalError}
+use Rattle.sj_parse.specs.declared.descent_fault.DescentKind.TheVariants.{InternalError}
 use Rattle.sj_base.specs.Tree.{Tree, null, boolean, integer, decimal, string, list, object}
 use Rattle.sj_base.specs.Spelling.{longest, Document}
 use Rattle.sj_base.proofs.Trees.{IsValidTree-from_SpellsValue}
@@ -38,13 +38,6 @@ tape-of_tree_value bytes limit nodes short scanned t last read listed carriers =
     let d = document-of_tree_value bytes limit none in
     let same : t ≡ d.0 = same_tree (t, left last []) (d.0, left d.2.0 []) (tree_value limit InternalError 0 (tokens bytes)) read d.2.1 in
     (none, (t, subst (λ (u : Tree). Document bytes limit u) (sym same) d.1, listed, carriers))
-
--- a call that ends with the descent answers for the whole text
-pub Answers-descent : (bytes : List ℕ) (limit : ℕ) (nodes : List Node) (r : Result Unit Error) → length bytes ≤ longest → scan_fault bytes ≡ None
-    → MatchResult r (λ _. (t : Tree) × (last : ℕ) × (tree_value limit InternalError 0 (tokens bytes) ≡ Ok (t, left last [])) × (entries nodes ≡ listing t)) (λ e. stop_fault bytes (descent (tokens bytes) limit) ≡ Some e)
-    → OnOk r (HaveCarriers (tokens bytes) nodes) → Answers (λ _. nodes) bytes limit (fault bytes limit) r
-Answers-descent bytes limit nodes (Ok done) short scanned h carriers = tape-of_tree_value bytes limit nodes short scanned h.0 h.1 h.2 h.3 carriers
-Answers-descent bytes limit nodes (Err e) short scanned h carriers = inl (fault-descent bytes limit short scanned ∙ h)
 
 -- The nodes of a text are the preorder of a valid tree.
 pub IsPreorder-Answers : (bytes : List ℕ) (limit : ℕ) (found : Option Error) (nodes : List Node) (r : Result Unit Error) → is_err r ≡ false → Answers (λ _. nodes) bytes limit found r → IsPreorder (entries nodes)

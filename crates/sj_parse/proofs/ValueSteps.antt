@@ -3,12 +3,12 @@ use Rattle.std.proofs.Common.{◌≡◌, ◌⊎◌, inl, inr, ℕ, suc, ◌+◌,
 use Rattle.std.specs.Prelude.{◌==◌, if◌then◌else◌, slice_index}
 use Rattle.std.proofs.Math.Seq.{take-length}
 use Rattle.std.proofs.lemmas.Bool.{eq-eqb}
-use Rattle.sj_base.specs.declared.error.ErrorType.{ErrorType}
-use Rattle.sj_base.specs.declared.error.ErrorType.TheVariants.{Syntax, InvalidNumber}
+use Rattle.sj_parse.specs.declared.descent_fault.DescentKind.{DescentKind}
+use Rattle.sj_parse.specs.declared.descent_fault.DescentKind.TheVariants.{Syntax, InvalidNumber}
 use Rattle.sj_tape.specs.Listing.{string_entry}
 use Rattle.sj_tape.specs.Nodes.{node_entry}
 use Rattle.sj_tape.specs.declared.node.Node.{Node}
-use Rattle.sj_parse.specs.declared.stop.Stop.{Stop}
+use Rattle.sj_parse.specs.declared.descent_fault.Stop.{Stop}
 use Rattle.sj_parse.specs.Token.{Token, word}
 use Rattle.sj_parse.specs.Escapes.{stop, bad_escape}
 use Rattle.sj_base.specs.NumberTests.{is_number, is_negative}
@@ -79,7 +79,7 @@ module _ (place skip : ℕ) (before bs : List ℕ) (within : skip < length bs) w
 
   -- ---- the cases of a value
 
-  module _ (limit : ℕ) (kind : ErrorType) (ws : List Waiting) where
+  module _ (limit : ℕ) (kind : DescentKind) (ws : List Waiting) where
     pub array_opens : (first == 0x5b) ≡ true → length ws < limit → (last : ℕ) (ts : List Token) → value_from limit kind ws the_token last ts ≡ reading limit (first_item ws) place ts
     array_opens is room last ts = value-list limit kind ws last the_token ts room (same_test 0x5b true is)
 

@@ -3,12 +3,12 @@ use Rattle.std.specs.Prelude.{ℕ, zero, suc, Bool, not, ◌&&◌, ◌==◌, nat
 use Rattle.std.specs.List.{list_all}
 use Rattle.std.specs.Char.{is_ascii_hexdigit}
 use Rattle.sj_base.specs.Characters.{short_character, hex_value}
-use Rattle.sj_base.specs.declared.error.ErrorType.{ErrorType}
-use Rattle.sj_parse.specs.declared.stop.Stop.{Stop}
-use Rattle.sj_base.specs.declared.error.ErrorType.TheVariants.{InvalidEscape, InvalidUnicodeEscape, InvalidUnicodeCodepoint}
+use Rattle.sj_parse.specs.declared.descent_fault.DescentKind.{DescentKind}
+use Rattle.sj_parse.specs.declared.descent_fault.Stop.{Stop}
+use Rattle.sj_parse.specs.declared.descent_fault.DescentKind.TheVariants.{InvalidEscape, InvalidUnicodeEscape, InvalidUnicodeCodepoint}
 
 -- a fault at that place
-abbrev pub stop : ErrorType → ℕ → Stop
+abbrev pub stop : DescentKind → ℕ → Stop
 stop kind place = record { kind = kind; place = place }
 
 -- four hexadecimal digits of either case
@@ -27,7 +27,7 @@ begins_with_low_surrogate bs =
     bytes_eq (take 2 bs) (codes "\\u") && is_hex (take 4 (drop 2 bs)) && is_low_surrogate (hex_value (take 4 (drop 2 bs)))
 
 -- The length of an escape behind its backslash, in bytes, or what is wrong with it. These bytes begin behind `\u`.
-abbrev pub unicode_escape : List ℕ → Result ℕ ErrorType
+abbrev pub unicode_escape : List ℕ → Result ℕ DescentKind
 unicode_escape bs =
     if not (is_hex (take 4 bs)) then Err InvalidUnicodeEscape
     else (if is_high_surrogate (hex_value (take 4 bs))
@@ -36,14 +36,14 @@ unicode_escape bs =
     else Ok 5))
 
 -- These bytes begin behind the backslash.
-abbrev pub escape : List ℕ → Result ℕ ErrorType
+abbrev pub escape : List ℕ → Result ℕ DescentKind
 escape [] = Err InvalidEscape
 escape (letter ∷ bs) =
     if letter == 0x75 then unicode_escape bs
     else (if is_some (short_character letter) then Ok 1 else Err InvalidEscape)
 
 -- goes on behind the escape, or stops at its backslash
-abbrev pub past_escape : Result ℕ ErrorType → ℕ → (ℕ → Option Stop) → Option Stop
+abbrev pub past_escape : Result ℕ DescentKind → ℕ → (ℕ → Option Stop) → Option Stop
 past_escape (Ok n) place rest = rest n
 past_escape (Err kind) place rest = Some (stop kind place)
 

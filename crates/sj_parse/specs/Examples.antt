@@ -1,5 +1,5 @@
 -- Worked values: the first fault of a text, and the carriers of its integers.
-use Rattle.std.specs.Prelude.{◌≡◌, refl, codes, ℕ, pos, nat_lt, true, if◌then◌else◌, Option, Some, None, List, [], ◌∷◌, length}
+use Rattle.std.specs.Prelude.{◌≡◌, refl, codes, ℕ, min, pos, nat_lt, true, if◌then◌else◌, Option, Some, None, List, [], ◌∷◌, length, filter}
 use Rattle.std.specs.Char.{encode_utf8}
 use Rattle.std.specs.Str.{chars, is_utf8}
 use Rattle.std.proofs.Common.{ap}
@@ -8,11 +8,12 @@ use Rattle.sj_base.specs.declared.error.Error.{Error}
 use Rattle.sj_base.specs.declared.error.ErrorType.{ErrorType}
 use Rattle.sj_base.specs.declared.error.ErrorType.TheVariants.{Eof, ExpectedArrayComma, ExpectedArrayContent, ExpectedFalse, ExpectedMapComma, ExpectedNull, ExpectedObjectColon, ExpectedObjectContent, ExpectedObjectKey, ExpectedTrue, InputTooLarge, InsufficientPadding, InternalError, InvalidEscape, InvalidNumber, InvalidUnicodeCodepoint, InvalidUnicodeEscape, InvalidUtf8, Syntax, TrailingData}
 use Rattle.sj_base.specs.declared.static_node.StaticNode.TheVariants.{I64, U64}
+use Rattle.sj_scan.specs.Positions.{positions}
 use Rattle.sj_scan.specs.Scan.{scan_fault}
 use Rattle.sj_tape.specs.declared.node.Node.TheVariants.{Array, Static}
 use Rattle.sj_parse.specs.Descent.{value}
 use Rattle.sj_parse.specs.Fault.{fault, fault_behind, generic, padded_fault}
-use Rattle.sj_parse.specs.Nodes.{HaveCarriers}
+use Rattle.sj_parse.specs.Nodes.{makes_node, HaveCarriers}
 use Rattle.sj_parse.specs.Token.{tokens}
 
 -- a text of more than 4294967295 bytes, whatever they are
@@ -227,3 +228,7 @@ numbers = refl
 in_members : (fault (codes "{\"1\":time}") 1024 ∷ fault (codes "{\"\\q\" 1}") 1024 ∷ fault (codes "{\"\":1}") 1024 ∷ []) ≡ (at ExpectedTrue 5 0x74 ∷ at InvalidEscape 2 0x5c ∷ None ∷ [])
 unfolding is_utf8 chars encode_utf8 value
 in_members = refl
+
+-- the positions of a text, the nodes that its tokens make, and the room of the stack under a limit of 2 levels
+counts : (length (positions (codes "[1,[2,3],4]")) ∷ length (filter makes_node (tokens (codes "[1,[2,3],4]"))) ∷ min 2 (length (positions (codes "[1,[2,3],4]"))) ∷ []) ≡ (11 ∷ 6 ∷ 2 ∷ [])
+counts = refl

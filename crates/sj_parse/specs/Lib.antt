@@ -5,6 +5,7 @@ pub mod Descent
 pub mod Fault
 pub mod Nodes
 pub mod Answers
+pub mod Counts
 pub mod Laws
 pub mod Examples
 pub mod inside

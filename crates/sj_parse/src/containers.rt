@@ -8,14 +8,13 @@ ghost use Rattle.sj_parse.specs.Nodes.{makes_node, HasCarrier, HaveCarriers};
 ghost use Rattle.sj_parse.specs.inside.Machine.{Waiting, waiting_entries, waiting_stack, array_entries, object_entries, array_frame, object_frame, after_value, opened, frame_entry, config_state, config_stack, IsAt};
 ghost use Rattle.sj_parse.specs.inside.Step.{Opens, Closes};
 
+use crate::descent_fault::{DescentKind, Stop};
 use crate::stage_two::State;
-use crate::stop::Stop;
-use sj_base::ErrorType;
 use sj_tape::Node;
 
-/// A container that is open.
+/// A container that is open. The stack of the descent holds one for each.
 #[derive(Clone, Copy, Debug)]
-pub(crate) struct Frame {
+pub struct Frame {
     /// The index of its node.
     start: usize,
     /// The items or members that it has so far.
@@ -46,6 +45,7 @@ pub(crate) fn after_value(stack: &mut Vec<Frame>) -> State
     ensures state { (ws : List Waiting) (t : Tree) → stack.old.items ≡ waiting_stack ws → result ≡ config_state (after_value ws t) }
     ensures stack { (ws : List Waiting) (t : Tree) → stack.old.items ≡ waiting_stack ws → stack.new.items ≡ config_stack (after_value ws t) }
     ensures capacity { vec_capacity stack.new ≡ vec_capacity stack.old }
+    ensures len { vec_len stack.new ≡ vec_len stack.old }
 {
     let Some(frame) = stack.last_mut() else {
         return State::End;
@@ -73,10 +73,12 @@ pub(crate) fn open<'i>(
         → Opens limit ws place (opened is_object ws) result (entries nodes.new.items) stack.new.items }
     ensures carriers { (ts : List Token) (t : Token) → makes_node t ≡ true → HaveCarriers ts nodes.old.items → OnOk result (HaveCarriers (ts ++ t ∷ []) nodes.new.items) }
     ensures capacity { (vec_capacity nodes.new ≡ vec_capacity nodes.old) × (vec_capacity stack.new ≡ vec_capacity stack.old) }
+    ensures grows { (vec_len nodes.new ≤ vec_len nodes.old + 1) × (vec_len stack.new ≤ vec_len stack.old + 1) }
+    ensures levels { vec_len stack.old ≤ limit → vec_len stack.new ≤ limit }
 {
     if stack.len() >= limit {
         return Err(Stop {
-            kind: ErrorType::Syntax,
+            kind: DescentKind::Syntax,
             place,
         });
     }
@@ -104,6 +106,7 @@ pub(crate) fn close(nodes: &mut Vec<Node<'_>>, stack: &mut Vec<Frame>) -> State
         → IsAt (after_value ws (object ms)) result (entries nodes.new.items) stack.new.items }
     ensures carriers { (ts : List Token) → HaveCarriers ts nodes.old.items → HaveCarriers ts nodes.new.items }
     ensures capacity { (vec_capacity nodes.new ≡ vec_capacity nodes.old) × (vec_capacity stack.new ≡ vec_capacity stack.old) }
+    ensures grows { (vec_len nodes.new ≡ vec_len nodes.old) × (vec_len stack.new ≤ vec_len stack.old) }
 {
     let Some(frame) = stack.pop() else {
         unreachable!();
@@ -126,6 +129,7 @@ pub(crate) fn add_scalar<'i>(
         → IsAt (after_value ws t) result (entries nodes.new.items) stack.new.items }
     ensures carriers { (ts : List Token) (t : Token) → makes_node t ≡ true → HasCarrier t node.entry → HaveCarriers ts nodes.old.items → HaveCarriers (ts ++ t ∷ []) nodes.new.items }
     ensures capacity { (vec_capacity nodes.new ≡ vec_capacity nodes.old) × (vec_capacity stack.new ≡ vec_capacity stack.old) }
+    ensures grows { (vec_len nodes.new ≤ vec_len nodes.old + 1) × (vec_len stack.new ≡ vec_len stack.old) }
 {
     nodes.push_reserved(node);
     after_value(stack)

@@ -60,6 +60,7 @@ impl<'de> Deserializer<'de> {
         ensures texts { buffer_texts buffers.new ≡ buffer_texts buffers.old + 1 }
         ensures limit { buffer_limit buffers.new ≡ buffer_limit buffers.old }
         ensures room { buffer_room buffers.old ≤ buffer_room buffers.new }
+        ensures bound { IfOk result (λ d. length (deserializer_nodes d) ≤ length (buffer_positions buffers.new)) }
     {
         Ok(Deserializer::from_tape(to_tape_with_buffers(alloc, s, buffers)?))
     }

@@ -1,13 +1,13 @@
 //! Escapes in strings: the character that each stands for.
 ghost use Rattle.std.specs.Prelude.{◌≡◌, ◌∷◌, true, Some, Ok, Err, take, drop, MatchResult, SomeIff};
 ghost use Rattle.std.specs.Char.{IsScalar};
-ghost use Rattle.sj_base.specs.declared.error.ErrorType.TheVariants.{InvalidUnicodeCodepoint};
+ghost use Rattle.sj_parse.specs.declared.descent_fault.DescentKind.TheVariants.{InvalidUnicodeCodepoint};
 ghost use Rattle.sj_base.specs.Characters.{short_character, hex_value};
 ghost use Rattle.sj_parse.specs.Escapes.{escape, unicode_escape, is_high_surrogate, is_low_surrogate, begins_with_low_surrogate};
 ghost use Rattle.sj_parse.specs.inside.Decoded.{escaped_character};
 
 use crate::characters::hex_to_u32;
-use sj_base::ErrorType;
+use crate::descent_fault::DescentKind;
 
 /// A character, and the length of its escape behind the backslash, in bytes.
 #[derive(Clone, Copy)]
@@ -17,20 +17,20 @@ pub(crate) struct Escaped {
 }
 
 /// Reads an escape. These bytes begin behind its backslash.
-pub(crate) fn read_escape(bytes: &[u8]) -> Result<Escaped, ErrorType>
+pub(crate) fn read_escape(bytes: &[u8]) -> Result<Escaped, DescentKind>
     ensures { MatchResult result
         (λ e. (escape bytes.now ≡ Ok e.len) × (escaped_character bytes.now ≡ e.character))
         (λ kind. escape bytes.now ≡ Err kind) }
 {
     let Some((letter, digits)) = bytes.split_first() else {
-        return Err(ErrorType::InvalidEscape);
+        return Err(DescentKind::InvalidEscape);
     };
     if *letter == b'u' {
         return read_unicode_escape(digits);
     }
     match short_character(*letter) {
         Some(character) => Ok(Escaped { character, len: 1 }),
-        None => Err(ErrorType::InvalidEscape),
+        None => Err(DescentKind::InvalidEscape),
     }
 }
 
@@ -52,21 +52,21 @@ fn short_character(letter: u8) -> Option<char>
 }
 
 // These bytes begin behind `\u`.
-fn read_unicode_escape(digits: &[u8]) -> Result<Escaped, ErrorType>
+fn read_unicode_escape(digits: &[u8]) -> Result<Escaped, DescentKind>
     ensures { MatchResult result
         (λ e. (unicode_escape digits.now ≡ Ok e.len)
         × (escaped_character (0x75 ∷ digits.now) ≡ e.character))
         (λ kind. unicode_escape digits.now ≡ Err kind) }
 {
     let Some(high) = hex_to_u32(digits) else {
-        return Err(ErrorType::InvalidUnicodeEscape);
+        return Err(DescentKind::InvalidUnicodeEscape);
     };
     if !is_high_surrogate(high) {
         return character_of(high, 5);
     }
     match read_low_surrogate(&digits[4..]) {
         Some(low) => character_of(0x10000 + (high - 0xd800) * 0x400 + (low - 0xdc00), 11),
-        None => Err(ErrorType::InvalidUnicodeCodepoint),
+        None => Err(DescentKind::InvalidUnicodeCodepoint),
     }
 }
 
@@ -96,13 +96,13 @@ fn is_low_surrogate(unit: u32) -> bool
 }
 
 // A surrogate by itself is no character.
-fn character_of(number: u32, len: usize) -> Result<Escaped, ErrorType>
+fn character_of(number: u32, len: usize) -> Result<Escaped, DescentKind>
     ensures { MatchResult result
         (λ e. IsScalar number × (e.len ≡ len) × (e.character ≡ number))
         (λ kind. (IsScalar number → ⊥) × (kind ≡ InvalidUnicodeCodepoint)) }
 {
     match char::from_u32(number) {
         Some(character) => Ok(Escaped { character, len }),
-        None => Err(ErrorType::InvalidUnicodeCodepoint),
+        None => Err(DescentKind::InvalidUnicodeCodepoint),
     }
 }

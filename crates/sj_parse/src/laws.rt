@@ -1,7 +1,10 @@
-//! Laws of the definitions that the contracts cite: each function does nothing but call other laws, and its contract is the law.
+//! Laws of the definitions that the contracts cite: each function does nothing but call other laws, and its contract is the
+//! law. And stage two behind its reservations, whose contract counts what it reads.
 ghost use Rattle.sj_base.specs.Text.{text, pretty};
 ghost use Rattle.sj_parse.specs.Laws.{FaultOrTree, PrintsNoFault};
 
+pub use crate::containers::Frame;
+pub use crate::stage_two::descend;
 use sj_base::laws::printing_reads_back;
 
 /// A text has a fault, or it is a document under the limit of levels, and never both.

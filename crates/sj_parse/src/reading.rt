@@ -16,7 +16,7 @@ use crate::Result;
 use crate::buffers::Buffers;
 use crate::containers::Frame;
 use crate::stage_two::descend;
-use sj_base::{Error, ErrorType, INPUT_PADDING};
+use sj_base::{Error, ErrorType, INPUT_PADDING, Reads};
 use sj_scan::{BlockScan, ScanFault, Stage1};
 use sj_tape::{Node, Tape};
 use std::alloc::{AllocError, Global};
@@ -47,6 +47,8 @@ pub fn to_tape<'de>(alloc: Global, s: &'de mut [u8]) -> Result<Tape<'de>>
 
 /// Reads a text into a tape, by the buffers and under their limit. Port of `simd_json::to_tape_with_buffers`.
 ///
+/// The tape has no more nodes than the text has positions.
+///
 /// # Errors
 ///
 /// Those of [`to_tape`], under the limit of the buffers. The bytes of the text may be rewritten then.
@@ -68,6 +70,7 @@ pub fn to_tape_with_buffers<'de>(
     ensures texts { buffer_texts buffers.new ≡ buffer_texts buffers.old + 1 }
     ensures limit { buffer_limit buffers.new ≡ buffer_limit buffers.old }
     ensures room { buffer_room buffers.old ≤ buffer_room buffers.new }
+    ensures bound { IfOk result (λ tape. length (tape_nodes tape) ≤ length (buffer_positions buffers.new)) }
 {
     let mut tape = Tape::empty(alloc);
     fill_tape(s, buffers, &mut tape)?;
@@ -94,6 +97,7 @@ pub fn fill_tape<'de>(s: &'de mut [u8], buffers: &mut Buffers, tape: &mut Tape<'
     ensures texts { buffer_texts buffers.new ≡ buffer_texts buffers.old + 1 }
     ensures limit { buffer_limit buffers.new ≡ buffer_limit buffers.old }
     ensures room { buffer_room buffers.old ≤ buffer_room buffers.new }
+    ensures bound { OnOk result (length (tape_nodes tape.new) ≤ length (buffer_positions buffers.new)) }
 {
     fill_tape_by(&mut BlockScan, s, buffers, tape)
 }
@@ -119,6 +123,7 @@ pub fn fill_tape_by<'de, S: Stage1>(
     ensures texts { buffer_texts buffers.new ≡ buffer_texts buffers.old + 1 }
     ensures limit { buffer_limit buffers.new ≡ buffer_limit buffers.old }
     ensures room { buffer_room buffers.old ≤ buffer_room buffers.new }
+    ensures bound { OnOk result (length (tape_nodes tape.new) ≤ length (buffer_positions buffers.new)) }
 {
     let len = s.len();
     let mut nodes = take_room(buffers.allocator(), tape);
@@ -160,6 +165,7 @@ pub fn fill_tape_padded<'de>(
     ensures texts { buffer_texts buffers.new ≡ buffer_texts buffers.old + 1 }
     ensures limit { buffer_limit buffers.new ≡ buffer_limit buffers.old }
     ensures room { buffer_room buffers.old ≤ buffer_room buffers.new }
+    ensures bound { OnOk result (length (tape_nodes tape.new) ≤ length (buffer_positions buffers.new)) }
 {
     if let Err(error) = test_padding(s, len) {
         buffers.count(len);
@@ -196,6 +202,7 @@ fn read_nodes<'de, S: Stage1>(
     ensures texts { buffer_texts buffers.new ≡ buffer_texts buffers.old }
     ensures limit { buffer_limit buffers.new ≡ buffer_limit buffers.old }
     ensures room { buffer_room buffers.old ≤ buffer_room buffers.new }
+    ensures bound { OnOk result (length nodes.new.items ≤ length (buffer_positions buffers.new)) }
 {
     let Buffers {
         positions,
@@ -205,7 +212,8 @@ fn read_nodes<'de, S: Stage1>(
     } = buffers;
     scan(scanner, s, positions)?;
     make_room(positions.len(), *max_depth, nodes, stack)?;
-    descend(s, positions, *max_depth, nodes, stack)
+    let mut places = Reads::new(positions);
+    Ok(descend(s, &mut places, *max_depth, nodes, stack)?)
 }
 
 /// Tests the length of a text, and scans it.

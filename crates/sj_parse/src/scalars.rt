@@ -6,9 +6,9 @@ ghost use Rattle.sj_parse.specs.inside.NumberNode.{HasShape};
 ghost use Rattle.sj_parse.specs.inside.Trees.{decoded};
 ghost use Rattle.sj_parse.specs.inside.Step.{string_body, StopsAt};
 
+use crate::descent_fault::Stop;
 use crate::numbers::{Shape, plain_number};
 use crate::search::{plain_len, word_len};
-use crate::stop::Stop;
 use crate::strings::decode;
 
 /// The length of the body that begins the bytes: up to its closing quote, or the end.

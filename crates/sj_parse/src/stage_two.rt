@@ -8,10 +8,10 @@ ghost use Rattle.sj_parse.specs.Token.{Token};
 ghost use Rattle.sj_parse.specs.Descent.{scalar_stop};
 ghost use Rattle.sj_parse.specs.Nodes.{HaveCarriers};
 ghost use Rattle.sj_parse.specs.inside.Machine.{Waiting, Config, IsAt, waiting_entries, waiting_stack};
-ghost use Rattle.sj_parse.specs.inside.Trees.{tree_value};
-ghost use Rattle.sj_parse.specs.Token.{tokens};
-ghost use Rattle.sj_parse.specs.Descent.{left, descent};
-ghost use Rattle.sj_parse.specs.Fault.{stop_fault};
+ghost use Rattle.sj_parse.specs.Fault.{fault, descent_error};
+ghost use Rattle.sj_parse.specs.Answers.{IsTapeOf};
+ghost use Rattle.sj_parse.specs.Counts.{ReadsEachOnce, ReadsAll};
+ghost use Rattle.sj_base.specs.Reads.{reads_items, reads_places};
 ghost use Rattle.sj_scan.specs.Positions.{positions};
 ghost use Rattle.sj_scan.specs.Scan.{scan_fault};
 ghost use Rattle.sj_base.specs.Spelling.{longest};
@@ -21,10 +21,10 @@ ghost use Rattle.sj_parse.specs.inside.Step.{string_body, token_of, left_kind_of
 
 use crate::atoms::{is_valid_false_atom, is_valid_null_atom, is_valid_true_atom};
 use crate::containers::{Frame, add_scalar, close, open};
+use crate::descent_fault::{DescentFault, DescentKind, Stop};
 use crate::numbers::{Shape, number};
 use crate::scalars::{take_string, take_word};
-use crate::stop::Stop;
-use sj_base::{Error, ErrorType, StaticNode};
+use sj_base::{Reads, StaticNode};
 use sj_tape::Node;
 
 /// What may come next.
@@ -43,18 +43,18 @@ pub(crate) enum State {
 impl State {
     /// The kind of the fault where something else comes.
     #[inline(always)]
-    fn unexpected(self) -> ErrorType
+    fn unexpected(self) -> DescentKind
         ensures { result ≡ unexpected_kind self }
     {
         match self {
-            State::Value => ErrorType::InternalError,
-            State::FirstItem => ErrorType::ExpectedArrayContent,
-            State::ItemEnd => ErrorType::ExpectedArrayComma,
-            State::FirstMember => ErrorType::ExpectedObjectContent,
-            State::Key => ErrorType::ExpectedObjectKey,
-            State::Colon => ErrorType::ExpectedObjectColon,
-            State::MemberEnd => ErrorType::ExpectedMapComma,
-            State::End => ErrorType::TrailingData,
+            State::Value => DescentKind::InternalError,
+            State::FirstItem => DescentKind::ExpectedArrayContent,
+            State::ItemEnd => DescentKind::ExpectedArrayComma,
+            State::FirstMember => DescentKind::ExpectedObjectContent,
+            State::Key => DescentKind::ExpectedObjectKey,
+            State::Colon => DescentKind::ExpectedObjectColon,
+            State::MemberEnd => DescentKind::ExpectedMapComma,
+            State::End => DescentKind::TrailingData,
         }
     }
 
@@ -138,7 +138,7 @@ fn literal(place: usize, bytes: &[u8]) -> Result<StaticNode, Stop>
         node_if(
             is_valid_true_atom(bytes),
             node,
-            ErrorType::ExpectedTrue,
+            DescentKind::ExpectedTrue,
             place,
         )
     } else if bytes[0] == b'f' {
@@ -146,7 +146,7 @@ fn literal(place: usize, bytes: &[u8]) -> Result<StaticNode, Stop>
         node_if(
             is_valid_false_atom(bytes),
             node,
-            ErrorType::ExpectedFalse,
+            DescentKind::ExpectedFalse,
             place,
         )
     } else {
@@ -154,7 +154,7 @@ fn literal(place: usize, bytes: &[u8]) -> Result<StaticNode, Stop>
         node_if(
             is_valid_null_atom(bytes),
             node,
-            ErrorType::ExpectedNull,
+            DescentKind::ExpectedNull,
             place,
         )
     }
@@ -165,7 +165,7 @@ fn literal(place: usize, bytes: &[u8]) -> Result<StaticNode, Stop>
 fn node_if(
     is_valid: bool,
     node: StaticNode,
-    kind: ErrorType,
+    kind: DescentKind,
     place: usize,
 ) -> Result<StaticNode, Stop>
     ensures { result ≡ (if is_valid then Ok node else Err (stop kind place)) }
@@ -182,10 +182,10 @@ fn node_if(
 fn number_node<'i>(place: usize, word: &'i [u8], shape: Shape) -> Result<Node<'i>, Stop>
     requires { HasShape word.now shape }
     ensures { MatchResult result (IsNumberNode word.now)
-        (λ s. (is_number word.now ≡ false) × (s ≡ stop ErrorType.InvalidNumber place)) }
+        (λ s. (is_number word.now ≡ false) × (s ≡ stop DescentKind.InvalidNumber place)) }
 {
     number(word, shape).ok_or(Stop {
-        kind: ErrorType::InvalidNumber,
+        kind: DescentKind::InvalidNumber,
         place,
     })
 }
@@ -193,7 +193,7 @@ fn number_node<'i>(place: usize, word: &'i [u8], shape: Shape) -> Result<Node<'i
 /// Reads the value that begins at `skip`: a scalar whole, of a container its bracket.
 #[inline(always)]
 fn read_value<'i>(
-    unexpected: ErrorType,
+    unexpected: DescentKind,
     place: usize,
     skip: usize,
     limit: usize,
@@ -214,6 +214,8 @@ fn read_value<'i>(
     ensures rest { (before : List ℕ) → IfOk result (λ p. IsBehind skip (token_of place before (drop skip rest.entry.now)) rest.entry.now p.1.now) }
     ensures stops { IfErr result (StopsAt place skip rest.entry.now) }
     ensures capacity { (vec_capacity nodes.new ≡ vec_capacity nodes.old) × (vec_capacity stack.new ≡ vec_capacity stack.old) }
+    ensures grows { (vec_len nodes.new ≤ vec_len nodes.old + 1) × (vec_len stack.new ≤ vec_len stack.old + 1) }
+    ensures levels { vec_len stack.old ≤ limit → vec_len stack.new ≤ limit }
 {
     match begins(rest[skip]) {
         Opening::Array => Ok((open(place, limit, false, nodes, stack)?, rest)),
@@ -263,6 +265,8 @@ fn step<'i>(
     ensures rest { (before : List ℕ) → IfOk result (λ p. IsBehind skip (token_of place before (drop skip rest.entry.now)) rest.entry.now p.1.now) }
     ensures stops { IfErr result (StopsAt place skip rest.entry.now) }
     ensures capacity { (vec_capacity nodes.new ≡ vec_capacity nodes.old) × (vec_capacity stack.new ≡ vec_capacity stack.old) }
+    ensures grows { (vec_len nodes.new ≤ vec_len nodes.old + 1) × (vec_len stack.new ≤ vec_len stack.old + 1) }
+    ensures levels { vec_len stack.old ≤ limit → vec_len stack.new ≤ limit }
 {
     match state.role(rest[skip]) {
         Role::Close => Ok((close(nodes, stack), rest)),
@@ -280,36 +284,50 @@ fn step<'i>(
     }
 }
 
-/// Reads the tokens of a text: appends the nodes of its tree, or answers its first fault.
+/// Reads the tokens of a text: appends the nodes of its tree, or answers its first fault. This is all of stage two behind
+/// its reservations, and it takes no memory.
 ///
-/// The places are the positions of the text. The vectors are empty, and have room: the nodes for as many as there are
-/// places, the stack for as many frames as there are places or levels, whichever are fewer.
-pub(crate) fn descend<'i>(
+/// The places are the positions of the text, and each is read once at most. The vectors are empty, and have room: the nodes
+/// for as many as there are places, the stack for as many frames as there are places or levels, whichever are fewer. Nodes
+/// and frames go into this room, which doesn't grow.
+///
+/// The bytes of the text may be rewritten, and after a fault the vectors hold what was read before it.
+///
+/// # Errors
+///
+/// The first fault, which names a byte of the text.
+pub fn descend<'i>(
     input: &'i mut [u8],
-    places: &[u32],
+    places: &mut Reads<'_, u32>,
     limit: usize,
     nodes: &mut Vec<Node<'i>>,
     stack: &mut Vec<Frame>,
-) -> Result<(), Error>
+) -> Result<(), DescentFault>
     requires scanned { scan_fault input.old ≡ None }
-    requires places { places.now ≡ positions input.old }
+    requires places { reads_items places.old ≡ positions input.old }
     requires short { length input.old ≤ longest }
     requires empty { (nodes.old.items ≡ []) × (stack.old.items ≡ []) }
-    requires nodes { length places.now ≤ vec_capacity nodes.old }
-    requires stack { min limit (length places.now) ≤ vec_capacity stack.old }
-    ensures found { MatchResult result
-        (λ _. (t : Tree) × (last : ℕ) × (tree_value limit ErrorType.InternalError 0 (tokens input.entry.now) ≡ Ok (t, left last [])) × (entries nodes.new.items ≡ listing t))
-        (λ e. stop_fault input.entry.now (descent (tokens input.entry.now) limit) ≡ Some e) }
-    ensures carriers { OnOk result (HaveCarriers (tokens input.entry.now) nodes.new.items) }
+    requires nodes { length (reads_items places.old) ≤ vec_capacity nodes.old }
+    requires stack { min limit (length (reads_items places.old)) ≤ vec_capacity stack.old }
+    ensures tape { OnOk result ((fault input.entry.now limit ≡ None) × IsTapeOf input.entry.now limit nodes.new.items) }
+    ensures fault { IfErr result (λ f. fault input.entry.now limit ≡ Some (descent_error f)) }
+    ensures once { ReadsEachOnce (length (reads_items places.old)) (reads_places places.old) (reads_places places.new) }
+    ensures all { OnOk result (ReadsAll (length (reads_items places.old)) (reads_places places.old) (reads_places places.new)) }
+    ensures items { reads_items places.new ≡ reads_items places.old }
+    ensures nodes { length nodes.new.items ≤ length (reads_items places.old) }
+    ensures stack { length stack.new.items ≤ min limit (length (reads_items places.old)) }
+    ensures room { (vec_capacity nodes.new ≡ vec_capacity nodes.old) × (vec_capacity stack.new ≡ vec_capacity stack.old) }
 {
     let len = input.len();
     let mut rest = input;
     let mut state = State::Value;
     let mut last = (0, 0);
-    for place in places {
+    let mut count = 0;
+    while let Some(place) = places.at(count) {
         if state.is_end() {
-            let (place, byte) = last;
-            return Err(Error::at(left_kind(nodes), place, byte));
+            let (index, byte) = last;
+            let kind = left_kind(nodes);
+            return Err(DescentFault { kind, index, byte });
         }
         let place = *place as usize;
         let skip = place - (len - rest.len());
@@ -319,24 +337,26 @@ pub(crate) fn descend<'i>(
                 state = next;
                 rest = behind;
             }
-            Err(stop) => return Err(stop.error(place, byte)),
+            Err(stop) => return Err(stop.fault(place, byte)),
         }
         last = (place, byte);
+        count += 1;
     }
     if state.is_end() {
         Ok(())
     } else {
-        let (place, byte) = last;
-        Err(Error::at(ErrorType::Syntax, place, byte))
+        let (index, byte) = last;
+        let kind = DescentKind::Syntax;
+        Err(DescentFault { kind, index, byte })
     }
 }
 
 /// The kind of the fault where tokens are left behind a root with these nodes.
-fn left_kind(nodes: &[Node<'_>]) -> ErrorType
+fn left_kind(nodes: &[Node<'_>]) -> DescentKind
     ensures { (t : Tree) → entries nodes.now ≡ listing t → result ≡ left_kind_of t }
 {
     match nodes.first() {
-        Some(Node::Array { .. } | Node::Object { .. }) => ErrorType::InternalError,
-        _ => ErrorType::TrailingData,
+        Some(Node::Array { .. } | Node::Object { .. }) => DescentKind::InternalError,
+        _ => DescentKind::TrailingData,
     }
 }

@@ -4,8 +4,8 @@ ghost use Rattle.sj_parse.specs.Escapes.{bad_escape};
 ghost use Rattle.sj_parse.specs.inside.Decoded.{decoded};
 
 use crate::characters::write_character;
+use crate::descent_fault::Stop;
 use crate::escapes::read_escape;
-use crate::stop::Stop;
 use memchr::memchr;
 
 /// Decodes the body of a string in place and returns its text, which borrows from these bytes. The body begins at

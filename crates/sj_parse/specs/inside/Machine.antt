@@ -1,7 +1,7 @@
 -- The state of stage two between two tokens, and the tree that it comes to.
 use Rattle.std.specs.Prelude.{◌≡◌, ℕ, suc, ◌-◌, ◌==◌, if◌then◌else◌, Bool, false, true, List, [], ◌∷◌, ◌++◌, length, Ok, Err}
-use Rattle.sj_base.specs.declared.error.ErrorType.{ErrorType}
-use Rattle.sj_base.specs.declared.error.ErrorType.TheVariants.{InternalError, ExpectedObjectKey, ExpectedObjectColon}
+use Rattle.sj_parse.specs.declared.descent_fault.DescentKind.{DescentKind}
+use Rattle.sj_parse.specs.declared.descent_fault.DescentKind.TheVariants.{InternalError, ExpectedObjectKey, ExpectedObjectColon}
 use Rattle.sj_base.specs.Tree.{Tree, list, object, Items, no_items, item, Members, no_members, member}
 use Rattle.sj_base.specs.Containers.{items_len, members_len}
 use Rattle.sj_tape.specs.Listing.{Entry, string_entry, list_entry, object_entry, listing, items_listing, members_listing}
@@ -131,10 +131,10 @@ resume limit (object_of ms k ∷ ws) t last ts =
     (λ ns last rest. resume limit ws (object (append_members ms (member k t ns))) last rest)
 
 -- the tree that the root has if these tokens follow, or the fault; the first number is where the token read last stands
-abbrev pub value_reading : ℕ → ErrorType → List Waiting → ℕ → List Token → Reading Tree
+abbrev pub value_reading : ℕ → DescentKind → List Waiting → ℕ → List Token → Reading Tree
 value_reading limit unexpected ws last ts = with_rest (tree_value (limit - length ws) unexpected last ts) (resume limit ws)
 
-abbrev pub colon_reading : (ErrorType → ℕ → List Token → Reading Tree) → Token → List Token → Reading Tree
+abbrev pub colon_reading : (DescentKind → ℕ → List Token → Reading Tree) → Token → List Token → Reading Tree
 colon_reading value t ts = if t.byte == 0x3a then value InternalError t.place ts else Err (stop ExpectedObjectColon t.place)
 
 abbrev pub reading : ℕ → Config → ℕ → List Token → Reading Tree

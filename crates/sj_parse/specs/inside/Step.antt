@@ -1,7 +1,7 @@
 -- What one step of stage two answers, for the token that it reads.
 use Rattle.std.specs.Prelude.{◌≡◌, ◌≢◌, ℕ, ◌+◌, ◌<◌, ◌≤◌, ◌==◌, if◌then◌else◌, Bool, true, false, List, [], ◌∷◌, ◌++◌, ◌⊎◌, length, drop, slice_index, Result, Ok, Err, None, suc}
-use Rattle.sj_base.specs.declared.error.ErrorType.{ErrorType}
-use Rattle.sj_base.specs.declared.error.ErrorType.TheVariants.{InternalError, Syntax, ExpectedArrayContent, ExpectedObjectContent, ExpectedObjectKey, ExpectedObjectColon, ExpectedArrayComma, ExpectedMapComma, TrailingData}
+use Rattle.sj_parse.specs.declared.descent_fault.DescentKind.{DescentKind}
+use Rattle.sj_parse.specs.declared.descent_fault.DescentKind.TheVariants.{InternalError, Syntax, ExpectedArrayContent, ExpectedObjectContent, ExpectedObjectKey, ExpectedObjectColon, ExpectedArrayComma, ExpectedMapComma, TrailingData}
 use Rattle.sj_tape.specs.Listing.{Entry, listing}
 use Rattle.sj_tape.specs.Nodes.{node_entry}
 use Rattle.sj_tape.specs.declared.node.Node.{Node}
@@ -13,7 +13,7 @@ use Rattle.std.specs.Char.{is_ascii_digit}
 use Rattle.sj_parse.specs.Descent.{begins_scalar, scalar_stop}
 use Rattle.sj_parse.specs.Nodes.{HasCarrier}
 use Rattle.sj_base.specs.NumberTests.{is_number}
-use Rattle.sj_parse.specs.declared.stop.Stop.{Stop}
+use Rattle.sj_parse.specs.declared.descent_fault.Stop.{Stop}
 use Rattle.sj_parse.specs.declared.containers.Frame.{Frame}
 use Rattle.sj_parse.specs.declared.stage_two.State.{State}
 use Rattle.sj_parse.specs.declared.stage_two.State.TheVariants.{Value, FirstItem, ItemEnd, FirstMember, Key, Colon, MemberEnd, End}
@@ -24,7 +24,7 @@ use Rattle.sj_parse.specs.inside.Machine.{Waiting, Config, IsAt, array_entries, 
 use Rattle.sj_base.specs.Tree.{Tree, null, boolean, integer, decimal, string, list, object, Items, Members}
 
 -- the kind of the fault where something else comes than may come
-abbrev pub unexpected_kind : State → ErrorType
+abbrev pub unexpected_kind : State → DescentKind
 unexpected_kind Value = InternalError
 unexpected_kind FirstItem = ExpectedArrayContent
 unexpected_kind ItemEnd = ExpectedArrayComma
@@ -76,7 +76,7 @@ Steps state limit place now (Ok x) es st =
 Steps state limit place now (Err s) es st = (last : ℕ) (ts : List Token) → now last ts ≡ Err s
 
 -- how the document reads at a value that begins with that token, and at a config
-abbrev pub value_from : ℕ → ErrorType → List Waiting → Token → ℕ → List Token → Reading Tree
+abbrev pub value_from : ℕ → DescentKind → List Waiting → Token → ℕ → List Token → Reading Tree
 value_from limit kind ws t last ts = value_reading limit kind ws last (t ∷ ts)
 
 abbrev pub reading_from : ℕ → Config → Token → ℕ → List Token → Reading Tree
@@ -121,7 +121,7 @@ abbrev pub StopsAt : ℕ → ℕ → List ℕ → Stop → Type 0
 StopsAt place skip bs s = (s.place ≡ place) ⊎ ((k : ℕ) × (s.place ≡ place + suc k) × (slice_index bs (skip + suc k) ≡ 0x5c))
 
 -- the kind of the fault where tokens are left behind a root
-abbrev pub left_kind_of : Tree → ErrorType
+abbrev pub left_kind_of : Tree → DescentKind
 left_kind_of (list ts) = InternalError
 left_kind_of (object ms) = InternalError
 left_kind_of null = TrailingData

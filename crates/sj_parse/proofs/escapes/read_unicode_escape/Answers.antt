@@ -3,22 +3,22 @@ use Rattle.std.specs.Char.{IsScalar}
 use Rattle.std.proofs.Common.{◌∙◌, sym, ap}
 use Rattle.std.proofs.lemmas.List.{take_rest}
 use Rattle.sj_base.specs.Characters.{hex_value}
-use Rattle.sj_base.specs.declared.error.ErrorType.{ErrorType}
-use Rattle.sj_base.specs.declared.error.ErrorType.TheVariants.{InvalidUnicodeCodepoint}
+use Rattle.sj_parse.specs.declared.descent_fault.DescentKind.{DescentKind}
+use Rattle.sj_parse.specs.declared.descent_fault.DescentKind.TheVariants.{InvalidUnicodeCodepoint}
 use Rattle.sj_parse.specs.declared.escapes.Escaped.{Escaped}
 use Rattle.sj_parse.specs.Escapes.{unicode_escape, is_high_surrogate}
 use Rattle.sj_parse.specs.inside.Decoded.{escaped_character}
 use Rattle.sj_parse.proofs.EscapeForms.{low_parts, unicode_escape-no_digits, unicode_escape-unit, unicode_escape-low, unicode_escape-pair, unicode_escape-high, pair_scalar}
 use Rattle.sj_parse.proofs.escapes.read_unicode_escape.Goals as goal
 
-abbrev Answers : List ℕ → Result Escaped ErrorType → Type 0
+abbrev Answers : List ℕ → Result Escaped DescentKind → Type 0
 Answers digits r = MatchResult r (λ e. (unicode_escape digits ≡ Ok e.len) × (escaped_character (0x75 ∷ digits) ≡ e.character)) (λ kind. unicode_escape digits ≡ Err kind)
 
 -- what `character_of` gives of this number and length
-abbrev Gives : ℕ → ℕ → Result Escaped ErrorType → Type 0
+abbrev Gives : ℕ → ℕ → Result Escaped DescentKind → Type 0
 Gives n len r = MatchResult r (λ e. IsScalar n × (e.len ≡ len) × (e.character ≡ n)) (λ kind. (IsScalar n → ⊥) × (kind ≡ InvalidUnicodeCodepoint))
 
-answers : (digits : List ℕ) (n len : ℕ) (r : Result Escaped ErrorType) → (IsScalar n → (unicode_escape digits ≡ Ok len) × (escaped_character (0x75 ∷ digits) ≡ n)) → ((IsScalar n → ⊥) → unicode_escape digits ≡ Err InvalidUnicodeCodepoint) → Gives n len r → Answers digits r
+answers : (digits : List ℕ) (n len : ℕ) (r : Result Escaped DescentKind) → (IsScalar n → (unicode_escape digits ≡ Ok len) × (escaped_character (0x75 ∷ digits) ≡ n)) → ((IsScalar n → ⊥) → unicode_escape digits ≡ Err InvalidUnicodeCodepoint) → Gives n len r → Answers digits r
 answers digits n len (Ok e) some none h = let k = some h.0 in (k.0 ∙ ap (λ m. Ok m) (sym h.1), k.1 ∙ sym h.2)
 answers digits n len (Err kind) some none h = none h.0 ∙ ap (λ k. Err k) (sym h.1)
 
