@@ -4,6 +4,7 @@ ghost use Rattle.sj_base.specs.Text.{text, pretty};
 ghost use Rattle.sj_tape.specs.Laws.{OneListing, ListingBack};
 ghost use Rattle.sj_tape.specs.Laws.{TapesAreValid, ValuesAreValid, ArraysAreValid, ObjectsAreValid, ValuesPrintBack};
 
+pub use crate::find::find;
 use sj_base::laws::printing_reads_back;
 
 /// Two trees with one listing are equal, in their repeated keys and the order of their members too.
