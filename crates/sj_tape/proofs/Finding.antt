@@ -1,5 +1,5 @@
 -- One step of a look-up by key: the member that begins at a place of the nodes, and what was read.
-use Rattle.std.proofs.Common.{◌≡◌, ℕ, zero, suc, ◌+◌, ◌-◌, ◌*◌, ◌<◌, ◌≤◌, Bool, true, false, cond, nat_lt, List, [], ◌∷◌, ◌++◌, Option, Some, None, option_map, slice_get, slice_range, take, drop, length, bytes_eq, refl, sym, ◌∙◌, ap, arith, subst, append_assoc, length-append, length-drop}
+use Rattle.std.proofs.Common.{◌≡◌, ℕ, zero, suc, ◌+◌, ◌-◌, ◌*◌, ◌<◌, ◌≤◌, Bool, true, false, cond, nat_lt, List, [], ◌∷◌, ◌++◌, Option, Some, slice_get, slice_range, take, drop, length, bytes_eq, refl, sym, ◌∙◌, ap, arith, subst, append_assoc, length-append, length-drop}
 use Rattle.std.proofs.lemmas.List.{drop_more}
 use Rattle.std.proofs.lemmas.Option.{slice_get-get_or}
 use Rattle.std.proofs.Math.Seq.{drop-drop}
@@ -7,13 +7,12 @@ use Rattle.std.specs.Borrow.{Bor}
 use Rattle.sj_base.specs.Containers.{members_len}
 use Rattle.sj_base.specs.Reads.{noted}
 use Rattle.sj_base.specs.Tree.{Tree, Members, no_members, member}
-use Rattle.sj_tape.specs.Children.{key_text, member_nodes}
-use Rattle.sj_tape.specs.Counts.{ReadsAtMost}
+use Rattle.sj_tape.specs.Children.{member_nodes}
+use Rattle.sj_tape.specs.Counts.{AscendWithin, ReadsAtMost}
 use Rattle.sj_tape.specs.Listing.{Entry, string_entry, listing, members_listing}
 use Rattle.sj_tape.specs.Nodes.{node_entry, node_count, entries}
 use Rattle.sj_tape.specs.declared.node.Node.{Node}
 use Rattle.sj_tape.specs.declared.node.Node.TheVariants.{String}
-use Rattle.sj_tape.proofs.NodeLists.{length-entries}
 use Rattle.sj_tape.proofs.Cutting.{cons_parts, string_node, first_count, listing_long, front_fits, cut_back}
 
 -- the nodes list that many members, and nothing after them
@@ -34,6 +33,7 @@ front_of len ns h some = front ns h.0 h.1 h.2
   where
     one : (t : Tree) (x : List Entry) (m : Node) → entries [] ≡ listing t ++ x → ⊥
     one t x m e = absurd (omega (arith, front_fits [] t x e, listing_long t))
+
     front : (ns' : List Node) (ms : Members) → entries ns' ≡ members_listing ms → members_len ms ≡ len → Front len ns'
     front ns' no_members e n = absurd (omega (arith, n))
     front [] (member k t ms) e n = absurd (cc)
@@ -92,21 +92,32 @@ member_at_place len items at h some =
       first_is = two.0;
       fits = omega (arith, two.2, f.fits);
       rest = subst (λ (ns : List Node). MembersFrom (len - 1) ns) after f.rest;
-      found = λ k. found_step len (drop at items) _ _ f.key f.first f.behind k some f.is (sym part) after
+      found = λ k. found_step len (drop at items) _ _ f.key f.first f.behind k some f.is (sym part) after;
     }
 
-one_more : (n : ℕ) (old before after : List ℕ) (items : List Node) (place : ℕ) → ReadsAtMost n old before → after ≡ noted items before place → ReadsAtMost (n + 1) old after
+ascend_more : (start end place end' : ℕ) (ps : List ℕ) → start ≤ end → end ≤ place → place < end' → AscendWithin start end ps → AscendWithin start end' (ps ++ place ∷ [])
+ascend_more start end place end' [] from behind within h = (omega arith, within, tt)
+ascend_more start end place end' (p ∷ ps) from behind within h =
+    (h.0, omega (arith, h.1), ascend_more (suc p) end place end' ps (omega (arith, h.1)) behind within h.2)
+
+ascend_wider : (start end end' : ℕ) (ps : List ℕ) → end ≤ end' → AscendWithin start end ps → AscendWithin start end' ps
+ascend_wider start end end' [] more h = tt
+ascend_wider start end end' (p ∷ ps) more h = (h.0, omega (arith, h.1), ascend_wider (suc p) end end' ps more h.2)
+
+pub no_more : (n m at len : ℕ) (old new : List ℕ) → ReadsAtMost n at old new → n ≤ m → at ≤ len → ReadsAtMost m len old new
+no_more n m at len old new h some more = (h.0, h.1, omega (arith, h.2), ascend_wider 0 at len h.0 more h.3)
+
+one_more : (n : ℕ) (old before after : List ℕ) (items : List Node) (place : ℕ) → ReadsAtMost n place old before → after ≡ noted items before place → ReadsAtMost (n + 1) (place + 1) old after
 one_more n old before after items place h e = one (nat_lt place (length items)) e
   where
-    one : (b : Bool) → after ≡ cond b (before ++ place ∷ []) before → ReadsAtMost (n + 1) old after
-    one true e' = (h.0 ++ place ∷ [], e' ∙ (ap (λ (ps : List ℕ). ps ++ place ∷ []) h.1 ∙ append_assoc old h.0 (place ∷ [])), omega (arith, length-append h.0 (place ∷ []), h.2))
-    one false e' = (h.0, e' ∙ h.1, omega (arith, h.2))
+    one : (b : Bool) → after ≡ cond b (before ++ place ∷ []) before → ReadsAtMost (n + 1) (place + 1) old after
+    one true e' = (h.0 ++ place ∷ [], e' ∙ (ap (λ (ps : List ℕ). ps ++ place ∷ []) h.1 ∙ append_assoc old h.0 (place ∷ [])), omega (arith, length-append h.0 (place ∷ []), h.2), ascend_more 0 place place (place + 1) h.0 (omega arith) (omega arith) (omega arith) h.3)
+    one false e' = (h.0, e' ∙ h.1, omega (arith, h.2), ascend_wider 0 place (place + 1) h.0 (omega arith) h.3)
 
 -- the two reads of a member
-pub two_more : (len left : ℕ) (old before between after : List ℕ) (items items' : List Node) (key first : ℕ) → ReadsAtMost (2 * (len - left)) old before → between ≡ noted items before key → after ≡ noted items' between first → 0 < left → left ≤ len → ReadsAtMost (2 * (len - (left - 1))) old after
-two_more len left old before between after items items' key first h one two some within =
-    let both : ReadsAtMost (2 * (len - left) + 1 + 1) old after = one_more _ old between after items' first (one_more _ old before between items key h one) two in
-    (both.0, both.1, omega (arith, both.2))
+pub two_more : (len left : ℕ) (old before between after : List ℕ) (items items' : List Node) (at end : ℕ) → ReadsAtMost (2 * (len - left)) at old before → between ≡ noted items before at → after ≡ noted items' between (at + 1) → 0 < left → left ≤ len → at + 1 + 1 ≤ end → ReadsAtMost (2 * (len - (left - 1))) end old after
+two_more len left old before between after items items' at end h one two some within behind =
+    no_more (2 * (len - left) + 1 + 1) _ (at + 1 + 1) end old after (one_more _ old between after items' (at + 1) (one_more _ old before between items at h one) two) (omega arith) behind
 
 -- what a read returns
 pub read_back : (ns items : List Node) (place : ℕ) (r : Option Node) (n : Node) → r ≡ slice_get ns place → ns ≡ items → slice_get items place ≡ Some n → r ≡ Some n

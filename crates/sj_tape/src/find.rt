@@ -14,19 +14,17 @@ use std::ops::Range;
 
 /// Returns the places of the nodes of the first member's value with this key, or `None` if no member has it.
 ///
-/// The nodes list `len` members, and nothing after them. Of each member that it comes to it reads two nodes, the key and
-/// the first node of the value, whose count tells where the next member begins.
+/// The nodes are those of `len` members, as those beneath an object. Each member costs two reads at most, its key and the
+/// first node of its value, whose count tells where the next member begins. No node is read twice.
 #[inline]
-pub fn find(
-    len: usize,
-    key: &str,
-    nodes: &mut Reads<'_, Node<'_>>,
-) -> Option<Range<usize>>
-    requires { (ms : Members) × (entries (reads_items nodes.old) ≡ members_listing ms) × (members_len ms ≡ len) }
+pub fn find(len: usize, key: &str, nodes: &mut Reads<'_, Node<'_>>) -> Option<Range<usize>>
+    requires { (ms : Members) × (entries (reads_items nodes.old) ≡ members_listing ms)
+        × (members_len ms ≡ len) }
     ensures found { option_map (λ r. slice_range (reads_items nodes.old) r.start r.end) result
         ≡ member_nodes len (reads_items nodes.old) key.now }
     ensures within { IfSome result (λ r. (r.start < r.end) × (r.end ≤ length (reads_items nodes.old))) }
-    ensures reads { ReadsAtMost (2 * len) (reads_places nodes.old) (reads_places nodes.new) }
+    ensures reads { ReadsAtMost (2 * len) (length (reads_items nodes.old))
+        (reads_places nodes.old) (reads_places nodes.new) }
     ensures items { reads_items nodes.new ≡ reads_items nodes.old }
 {
     let mut left = len;

@@ -72,7 +72,7 @@ impl<'t, 'i> Object<'t, 'i> {
 
     /// Returns the value of the first member with this key.
     ///
-    /// Skips the members before it one by one.
+    /// Skips the members before it one by one. [`find`](crate::laws::find) says how many nodes are read.
     pub fn get(&self, name: &str) -> Option<Value<'t, 'i>>
         ensures tree { option_map value_tree result ≡ member_at (object_members self.now) name.now }
         ensures nodes { option_map value_nodes result ≡ object_member self.now name.now }
