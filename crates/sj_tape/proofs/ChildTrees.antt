@@ -1,7 +1,7 @@
 -- The children that the counts find are the children of the tree.
-use Rattle.std.proofs.Common.{◌≡◌, ℕ, zero, suc, ◌-◌, Bool, true, false, cond, List, [], ◌∷◌, ◌++◌, Option, Some, None, option_map, option_and_then, bytes_eq, map, take, drop, length, refl, sym, ◌∙◌, ap, arith}
+use Rattle.std.proofs.Common.{◌≡◌, ℕ, zero, suc, ◌-◌, Bool, true, false, cond, List, [], ◌∷◌, ◌++◌, Option, Some, None, IfSome, option_map, option_and_then, bytes_eq, map, take, drop, length, refl, sym, ◌∙◌, ap, subst, arith}
 use Rattle.std.proofs.lemmas.List.{take-append-drop, length-map}
-use Rattle.sj_base.specs.Tree.{Tree, null, boolean, integer, decimal, string, list, object, Items, no_items, item, Members, no_members, member}
+use Rattle.sj_base.specs.Tree.{Tree, null, boolean, integer, decimal, string, list, object, Items, no_items, item, Members, no_members, member, AreValidMembers}
 use Rattle.sj_base.specs.Path.{Part, key, place, child, member_at, item_at}
 use Rattle.sj_base.specs.declared.static_node.StaticNode.TheVariants.{Null, Bool as Boolean, I64, U64}
 use Rattle.sj_reads.specs.Member.{Seen}
@@ -10,7 +10,7 @@ use Rattle.sj_tape.specs.Laws.{ChildrenByCounts, SeenMembers}
 use Rattle.sj_tape.specs.Children.{key_text, member_nodes, item_nodes, item_runs, member_runs, array_part, object_part, child_nodes}
 use Rattle.sj_base.specs.Containers.{items_len, members_len, item_trees, member_pairs, scalar_in}
 use Rattle.sj_tape.specs.Listing.{Entry, string_entry, list_entry, object_entry, listing, items_listing, members_listing}
-use Rattle.sj_tape.specs.Listed.{listed_items, listed_members}
+use Rattle.sj_tape.specs.Listed.{IsPreorder, listed_items, listed_members}
 use Rattle.sj_tape.specs.inside.Invariants.{ListsItems, ListsMembers}
 use Rattle.sj_tape.specs.Nodes.{node_entry, entries}
 use Rattle.sj_tape.specs.Views.{value_nodes, nodes_tree, pair_tree}
@@ -83,6 +83,33 @@ member_nodes-tree (member name t ms) (m ∷ ns) k e =
     let one : suc (members_len ms) - 1 ≡ members_len ms = omega arith in
     let left = ap (λ (l : ℕ). option_map nodes_tree (member_nodes l (drop n ns) k)) one ∙ member_nodes-tree ms (drop n ns) k back in
     ap (option_map nodes_tree) step ∙ (found_member (bytes_eq (key_text m) k) (take n ns) t _ (member_at ms k) (tree_from (entries (take n ns)) t front) left ∙ ap (λ (name' : List ℕ). cond (bytes_eq name' k) (Some t) (member_at ms k)) (key_text-string m name parts.0))
+
+pub member_nodes-trees : (len : ℕ) (ns : List Node) (k : List ℕ) → ListsMembers len (entries ns) → option_map nodes_tree (member_nodes len ns k) ≡ member_at (listed_members len (entries ns)) k
+member_nodes-trees len ns k h = ap (λ (l : ℕ). option_map nodes_tree (member_nodes l ns k)) (sym h.1) ∙ member_nodes-tree (listed_members len (entries ns)) ns k (sym h.0)
+
+-- The nodes that are found list a tree, which is valid where all members are.
+member_nodes-listed : (ms : Members) (ns : List Node) (k : List ℕ) → entries ns ≡ members_listing ms → AreValidMembers ms → IfSome (member_nodes (members_len ms) ns k) (λ xs. IsPreorder (entries xs))
+member_nodes-listed no_members ns k e valid = tt
+member_nodes-listed (member name t ms) [] k e valid = absurd (cc)
+member_nodes-listed (member name t ms) (m ∷ ns) k e valid =
+    let parts = cons_parts (node_entry m) (string_entry name) (entries ns) (listing t ++ members_listing ms) e in
+    let n : ℕ = length (listing t) in
+    let front : entries (take n ns) ≡ listing t = cut_front ns t (members_listing ms) n parts.1 refl in
+    let back : entries (drop n ns) ≡ members_listing ms = cut_back ns t (members_listing ms) n parts.1 refl in
+    let step = member_nodes-step (suc (members_len ms)) (m ∷ ns) (take n ns) (drop n ns) m t k (ap (λ (xs : List Node). m ∷ xs) (sym (take-append-drop n ns))) front (omega arith) in
+    let one : suc (members_len ms) - 1 ≡ members_len ms = omega arith in
+    let left = subst (λ (l : ℕ). IfSome (member_nodes l (drop n ns) k) (λ xs. IsPreorder (entries xs))) (sym one) (member_nodes-listed ms (drop n ns) k back valid.2) in
+    subst (λ (x : Option (List Node)). IfSome x (λ xs. IsPreorder (entries xs))) (sym step) (either (bytes_eq (key_text m) k) (take n ns) _ (t, valid.1, front) left)
+  where
+    either : (b : Bool) (front : List Node) (x : Option (List Node)) → IsPreorder (entries front) → IfSome x (λ xs. IsPreorder (entries xs)) → IfSome (cond b (Some front) x) (λ xs. IsPreorder (entries xs))
+    either true front x p q = p
+    either false front x p q = q
+
+pub found_listed : (len : ℕ) (ns : List Node) (k : List ℕ) (xs : List Node) → ListsMembers len (entries ns) → AreValidMembers (listed_members len (entries ns)) → Some xs ≡ member_nodes len ns k → IsPreorder (entries xs)
+found_listed len ns k xs h valid e =
+    let listed = member_nodes-listed (listed_members len (entries ns)) ns k (sym h.0) valid in
+    let same : member_nodes (members_len (listed_members len (entries ns))) ns k ≡ Some xs = ap (λ (l : ℕ). member_nodes l ns k) h.1 ∙ sym e in
+    subst (λ (x : Option (List Node)). IfSome x (λ ys. IsPreorder (entries ys))) same listed
 
 item_nodes-tree : (ts : Items) (ns : List Node) (i : ℕ) → entries ns ≡ items_listing ts → option_map nodes_tree (item_nodes (items_len ts) ns i) ≡ item_at ts i
 item_nodes-tree no_items ns i e = refl

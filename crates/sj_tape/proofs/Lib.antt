@@ -7,5 +7,6 @@ pub mod Cutting
 pub mod Comparing
 pub mod Printing
 pub mod Children
+pub mod Finding
 pub mod ChildTrees
 pub mod Beginnings

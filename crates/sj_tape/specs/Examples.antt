@@ -1,8 +1,9 @@
 -- Worked values of `listing`, `tree_of`, `child_nodes`, `item_runs` and `member_runs`.
-use Rattle.std.specs.Prelude.{◌≡◌, refl, ℕ, pos, List, [], ◌∷◌, drop, None, Some, codes}
+use Rattle.std.specs.Prelude.{◌≡◌, ◌*◌, refl, ℕ, pos, List, [], ◌∷◌, drop, None, Some, codes}
 use Rattle.std.specs.Borrow.{Bor}
+use Rattle.sj_base.specs.Containers.{members_len}
 use Rattle.sj_base.specs.Path.{key, place}
-use Rattle.sj_base.specs.Tree.{Tree, null, integer, list, object, no_items, item, no_members, member}
+use Rattle.sj_base.specs.Tree.{Tree, Members, null, integer, list, object, no_items, item, no_members, member}
 use Rattle.sj_base.specs.declared.static_node.StaticNode.TheVariants.{Null, I64, U64}
 use Rattle.sj_tape.specs.Children.{item_runs, member_runs, child_nodes}
 use Rattle.sj_tape.specs.Listing.{null_entry, integer_entry, string_entry, list_entry, object_entry, listing}
@@ -83,3 +84,13 @@ container_member a b = refl
 
 each_member : (a b : Bor (List ℕ)) → member_runs 3 (drop 1 (twice a b)) ≡ (codes "a", Array 1 1 ∷ Static Null ∷ []) ∷ (codes "b", Static (U64 1) ∷ []) ∷ (codes "b", Static (I64 (pos 1)) ∷ []) ∷ []
 each_member a b = refl
+
+-- {"a":[1,2],"b":3}: 2 members, with 6 nodes beneath, of which a look-up reads the first two of each member
+abbrev two : Members
+two = member (codes "a") (list (item (integer (pos 1)) (item (integer (pos 2)) no_items))) (member (codes "b") (integer (pos 3)) no_members)
+
+two_listing : listing (object two) ≡ object_entry 2 6 ∷ string_entry (codes "a") ∷ list_entry 2 2 ∷ integer_entry (pos 1) ∷ integer_entry (pos 2) ∷ string_entry (codes "b") ∷ integer_entry (pos 3) ∷ []
+two_listing = refl
+
+two_reads : 2 * members_len two ≡ 4
+two_reads = refl

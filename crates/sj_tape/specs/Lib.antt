@@ -5,6 +5,7 @@ pub mod Children
 pub mod Views
 pub mod ByName
 pub mod Compare
+pub mod Counts
 pub mod Laws
 pub mod Examples
 pub mod inside

@@ -1,9 +1,12 @@
-//! Laws of the definitions that contracts cite. Each function does nothing, and its contract is the law.
+//! Laws of the definitions that contracts cite, and the look-up whose contract counts what it reads.
+//!
+//! Each law is the contract of a function that does nothing. [`find`] is the look-up.
 ghost use Rattle.sj_tape.specs.Laws.{ChildrenByCounts, SeenMembers, ItemsByPlace, MembersByKey};
 ghost use Rattle.sj_base.specs.Text.{text, pretty};
 ghost use Rattle.sj_tape.specs.Laws.{OneListing, ListingBack};
 ghost use Rattle.sj_tape.specs.Laws.{TapesAreValid, ValuesAreValid, ArraysAreValid, ObjectsAreValid, ValuesPrintBack};
 
+pub use crate::find::find;
 use sj_base::laws::printing_reads_back;
 
 /// Two trees with one listing are equal, in their repeated keys and the order of their members too.

@@ -9,6 +9,7 @@ pub mod array;
 mod check;
 mod compare;
 mod encode;
+mod find;
 pub mod laws;
 mod node;
 pub mod object;

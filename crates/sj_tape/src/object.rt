@@ -9,8 +9,10 @@ ghost use Rattle.sj_tape.specs.Listed.{listed_members};
 ghost use Rattle.sj_tape.specs.inside.Invariants.{ListsMembers};
 ghost use Rattle.sj_tape.specs.Nodes.{entries};
 
+use crate::find::find;
 use crate::node::{Node, take_node};
 use crate::value::Value;
+use sj_base::Reads;
 use std::iter::{ExactSizeIterator, FusedIterator};
 
 /// A view of an object of a tape. Port of `simd_json::tape::Object`.
@@ -70,19 +72,15 @@ impl<'t, 'i> Object<'t, 'i> {
 
     /// Returns the value of the first member with this key.
     ///
-    /// Skips the members before it one by one.
+    /// Skips the members before it one by one. [`find`](crate::laws::find) says how many nodes are read.
     pub fn get(&self, name: &str) -> Option<Value<'t, 'i>>
         ensures tree { option_map value_tree result ≡ member_at (object_members self.now) name.now }
         ensures nodes { option_map value_nodes result ≡ object_member self.now name.now }
     {
-        let mut rest = *self;
-        loop {
-            let (key, value, behind) = rest.split_first()?;
-            if key == name {
-                return Some(value);
-            }
-            rest = behind;
-        }
+        let found = find(self.len, name, &mut Reads::new(self.nodes))?;
+        Some(Value {
+            nodes: &self.nodes[found],
+        })
     }
 
     /// Returns an iterator over the members in document order.
