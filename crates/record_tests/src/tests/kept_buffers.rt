@@ -3,9 +3,9 @@ ghost use Rattle.std.specs.Prelude.{◌≡◌};
 
 use super::readers::Pieces;
 use super::{FORMS, script_of};
-use sj_base::Counted;
+use sj_base::{Counted, Reads, Trace};
 use sj_parse::Buffers;
-use sj_records::{CountedBuffers, Form, RunError, Script, run_with};
+use sj_records::{Form, RunError, Script, run_with};
 use std::alloc::Global;
 use std::io::{Read, Write};
 use std::marker::Brand;
@@ -15,13 +15,13 @@ use std::sync::ledger::{Blank, Ledger};
 use std::test::Fail;
 
 // A run with counts, which the blanks open.
-fn counted_run_with<I: Read + Drop, O: Write + Drop, L: Ledger, M: Ledger, N: Ledger>(
+fn counted_run_with<I: Read + Drop, O: Write + Drop, L: Ledger, M: Ledger>(
     alloc: Global,
     input: I,
     output: &mut O,
     script: &Script,
     form: Form,
-    buffers: &mut CountedBuffers<N>,
+    buffers: &mut Buffers,
     reads: Blank,
     writes: Blank,
 ) -> Result<(), RunError>
@@ -36,15 +36,15 @@ fn counted_run_with<I: Read + Drop, O: Write + Drop, L: Ledger, M: Ledger, N: Le
     result
 }
 
-fn run_with_on<I: Read + Drop, O: Write + Drop, N: Ledger>(
+fn run_with_on<I: Read + Drop, O: Write + Drop>(
     alloc: Global,
     input: I,
     output: &mut O,
     script: &Script,
     form: Form,
-    buffers: &mut CountedBuffers<N>,
+    buffers: &mut Buffers,
 ) -> Result<(), RunError> {
-    counted_run_with::<I, O, Brand, Brand, N>(
+    counted_run_with::<I, O, Brand, Brand>(
         alloc,
         input,
         output,
@@ -57,8 +57,8 @@ fn run_with_on<I: Read + Drop, O: Write + Drop, N: Ledger>(
 }
 
 // Looks for the records of a stream in one form, in these buffers.
-fn expect_with<N: Ledger>(
-    buffers: &mut CountedBuffers<N>,
+fn expect_with(
+    buffers: &mut Buffers,
     form: Form,
     rt: &impl Abort,
     alloc: Global,
@@ -78,92 +78,67 @@ fn expect_with<N: Ledger>(
     );
 }
 
-// Two streams, twice, in buffers whose texts the blank counts.
-fn expect_streams<N: Ledger>(
-    rt: &impl Abort,
-    alloc: Global,
-    form: Form,
-    texts: Blank,
-) -> Result<(), Fail>
-    requires { (texts.name ≡ N.name) × (texts.parts ≡ N.parts) × (texts.parts ≡ 1) }
-{
-    let mut buffers = CountedBuffers::<N>::new(Buffers::with_max_depth(alloc, 0, 1)?, texts);
-    for _ in 0..2 {
-        expect_with(
-            &mut buffers,
-            form,
-            rt,
-            alloc,
-            r#"[["push",[],[]],["push",[],3]]"#,
-            "[1, 2]\n[\n[]",
-            concat!(
-                r#"{"replies":["TooDeep",[]],"document":[1,2,3]}"#,
-                "\n",
-                r#"{"error":"Syntax","index":0,"character":"["}"#,
-                "\n",
-                r#"{"replies":["TooDeep",[]],"document":[3]}"#,
-                "\n"
-            ),
-        );
-        expect_with(&mut buffers, form, rt, alloc, "[]", "", "");
-    }
-    assert_eq!(rt; buffers.max_depth(), 1);
-    Ok(())
-}
-
 #[test]
 fn streams_in_the_same_buffers(rt: HostRuntime) -> Result<(), Fail> {
     let alloc = rt.alloc();
     for form in FORMS {
-        expect_streams::<Brand>(&rt, alloc, form, Blank::new(1))?;
+        let mut buffers = Buffers::with_max_depth(alloc, 0, 1)?;
+        for _ in 0..2 {
+            expect_with(
+                &mut buffers,
+                form,
+                &rt,
+                alloc,
+                r#"[["push",[],[]],["push",[],3]]"#,
+                "[1, 2]\n[\n[]",
+                concat!(
+                    r#"{"replies":["TooDeep",[]],"document":[1,2,3]}"#,
+                    "\n",
+                    r#"{"error":"Syntax","index":0,"character":"["}"#,
+                    "\n",
+                    r#"{"replies":["TooDeep",[]],"document":[3]}"#,
+                    "\n"
+                ),
+            );
+            expect_with(&mut buffers, form, &rt, alloc, "[]", "", "");
+        }
+        assert_eq!(rt; buffers.max_depth(), 1);
     }
     Ok(())
 }
 
-// A script with a reload, and the positions that it leaves in buffers whose texts the blank counts. They are those of the text
-// that was read last, which is that of the reload.
-fn expect_positions<N: Ledger>(
-    rt: &impl Abort,
-    alloc: Global,
-    form: Form,
-    texts: Blank,
-) -> Result<(), Fail>
-    requires { (texts.name ≡ N.name) × (texts.parts ≡ N.parts) × (texts.parts ≡ 1) }
-{
-    let (record, positions): (&str, &[u32]) = match form {
-        Form::Lazy => (
-            "{\"replies\":[true,2],\"document\":{\"a\":1,\"a\":2}}\n",
-            &[0, 1, 4, 5, 6, 7, 10, 11, 12],
-        ),
-        Form::Owned | Form::Borrowed => (
-            "{\"replies\":[true,1],\"document\":{\"a\":1}}\n",
-            &[0, 1, 4, 5, 6],
-        ),
-    };
-    let mut buffers = CountedBuffers::<N>::new(Buffers::new(alloc, 0)?, texts);
-    expect_with(
-        &mut buffers,
-        form,
-        rt,
-        alloc,
-        r#"[["reload"],["len",[]]]"#,
-        r#"{"a":1,"a":2}"#,
-        record,
-    );
-    assert_eq!(rt; buffers.structural_indexes(), positions, "{form:?}");
-    Ok(())
-}
-
+// The positions are those of the text that was read last, which is that of the reload.
 #[test]
 fn positions_behind_a_reload(rt: HostRuntime) -> Result<(), Fail> {
     let alloc = rt.alloc();
     for form in FORMS {
-        expect_positions::<Brand>(&rt, alloc, form, Blank::new(1))?;
+        let (record, positions): (&str, &[u32]) = match form {
+            Form::Lazy => (
+                "{\"replies\":[true,2],\"document\":{\"a\":1,\"a\":2}}\n",
+                &[0, 1, 4, 5, 6, 7, 10, 11, 12],
+            ),
+            Form::Owned | Form::Borrowed => (
+                "{\"replies\":[true,1],\"document\":{\"a\":1}}\n",
+                &[0, 1, 4, 5, 6],
+            ),
+        };
+        let mut buffers = Buffers::new(alloc, 0)?;
+        expect_with(
+            &mut buffers,
+            form,
+            &rt,
+            alloc,
+            r#"[["reload"],["len",[]]]"#,
+            r#"{"a":1,"a":2}"#,
+            record,
+        );
+        assert_eq!(rt; buffers.structural_indexes(), positions, "{form:?}");
     }
     Ok(())
 }
 
 #[test]
-fn count_of_texts_takes_no_room(rt: HostRuntime) {
-    assert_eq!(rt; size_of::<CountedBuffers<Brand>>(), size_of::<Buffers>());
+fn counts_take_no_room(rt: HostRuntime) {
+    assert_eq!(rt; size_of::<Trace>(), 0);
+    assert_eq!(rt; size_of::<Reads<'_, u32>>(), size_of::<&[u32]>());
 }
