@@ -1,6 +1,5 @@
 //! A slice whose contracts list the places that were read.
-ghost use Rattle.std.specs.Prelude.{◌≡◌, [], option_map, slice_get};
-ghost use Rattle.sj_base.specs.Reads.{noted, reads_items, reads_places};
+ghost use Rattle.std.specs.Prelude.{◌≡◌, ◌^◌, ◌<◌, [], length, option_map, slice_get};
 
 use crate::trace::Trace;
 
@@ -12,9 +11,12 @@ use crate::trace::Trace;
 pub struct Reads<'p, T> {
     items: &'p [T],
     places: Trace,
+    ghost fits: { length items.now < 2 ^ 64 },
 }
 
 impl<'p, T> Reads<'p, T> {
+    ghost use Rattle.sj_base.specs.Reads.{noted, reads_items, reads_places};
+
     /// Wraps a slice of which no item was read.
     pub fn new(items: &'p [T]) -> Reads<'p, T>
         ensures items { reads_items result ≡ items.now }

@@ -138,7 +138,7 @@ fn positions_behind_a_reload(rt: HostRuntime) -> Result<(), Fail> {
 }
 
 #[test]
-fn counts_take_no_room(rt: HostRuntime) {
+fn traces_take_no_room(rt: HostRuntime) {
     assert_eq!(rt; size_of::<Trace>(), 0);
     assert_eq!(rt; size_of::<Reads<'_, u32>>(), size_of::<&[u32]>());
 }
