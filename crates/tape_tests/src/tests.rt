@@ -1,4 +1,5 @@
 //! One module for each crate, and one for the shared types.
+mod counts;
 mod nodes;
 mod objects;
 mod scans;

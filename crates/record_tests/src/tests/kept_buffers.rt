@@ -3,13 +3,12 @@ ghost use Rattle.std.specs.Prelude.{◌≡◌};
 
 use super::readers::Pieces;
 use super::{FORMS, script_of};
-use sj_base::{Counted, Reads, Trace};
+use sj_base::Counted;
 use sj_parse::Buffers;
 use sj_records::{Form, RunError, Script, run_with};
 use std::alloc::Global;
 use std::io::{Read, Write};
 use std::marker::Brand;
-use std::mem::size_of;
 use std::process::Abort;
 use std::sync::ledger::{Blank, Ledger};
 use std::test::Fail;
@@ -135,10 +134,4 @@ fn positions_behind_a_reload(rt: HostRuntime) -> Result<(), Fail> {
         assert_eq!(rt; buffers.structural_indexes(), positions, "{form:?}");
     }
     Ok(())
-}
-
-#[test]
-fn traces_take_no_room(rt: HostRuntime) {
-    assert_eq!(rt; size_of::<Trace>(), 0);
-    assert_eq!(rt; size_of::<Reads<'_, u32>>(), size_of::<&[u32]>());
 }

@@ -2,8 +2,8 @@
 //! is asked.
 use super::expect_eq;
 use sj_base::{
-    AccessError, Counted, Decimal, DecimalBuf, DecimalCow, Error, ErrorType, Layout, Scalar,
-    StaticNode, TextBuffer, TryCopy, TryTypeError, ValueType, WriteFault, print_text, put_break,
+    AccessError, Counted, Decimal, DecimalBuf, DecimalCow, Error, ErrorType, Layout, Reads,
+    Scalar, StaticNode, TextBuffer, Trace, TryCopy, TryTypeError, ValueType, WriteFault, print_text, put_break,
     put_int, put_string, put_text,
 };
 use sj_reads::ValueAsScalar;
@@ -162,4 +162,6 @@ fn copies_of_texts(rt: HostRuntime) -> Result<(), Fail> {
 #[test]
 fn counts_take_no_room(rt: HostRuntime) {
     assert_eq!(rt; size_of::<Counted<u64, Brand>>(), size_of::<u64>());
+    assert_eq!(rt; size_of::<Trace>(), 0);
+    assert_eq!(rt; size_of::<Reads<'_, u32>>(), size_of::<&[u32]>());
 }
