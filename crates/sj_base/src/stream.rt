@@ -1,13 +1,13 @@
 //! Readers and writers whose contracts count their calls.
-ghost use Rattle.std.specs.Prelude.{◌≡◌, ℕ, ◌+◌, ◌<◌, List, Option, IfOk, IfErr};
+ghost use Rattle.std.specs.Prelude.{◌≡◌, ℕ, ◌+◌, List, Option, length, IfOk, IfErr};
 ghost use Rattle.std.specs.Io.{ReadsAtMost, WritesAtMost};
 ghost use Rattle.std.specs.Io.KnownBytes.{ReadConsumes, WriteAppends};
 ghost use Rattle.sj_base.specs.Calls.{Calls, no_calls, CountsOk, CountsErr};
 
+use crate::trace::Trace;
 use std::io;
 use std::io::{ErrorKind, Read, Write};
 use std::marker::Model;
-use std::sync::ledger::{Blank, Book, Ledger, Share};
 
 /// A reader of bytes whose contract also counts the calls that were made, failed, were interrupted or gave no byte.
 pub trait Source {
@@ -53,51 +53,39 @@ pub trait Sink {
         ensures err_counts { IfErr result (CountsErr (calls self.old) (calls self.new)) };
 }
 
-// The counts of calls, as tokens of no size: a share for each outcome, and the book for all of them.
+// The calls, and those of each outcome that moved nothing. A number is that of the bytes that were moved.
 #[derive(Drop)]
-struct Tally<L: Ledger> {
-    book: Book<L>,
-    plain: Share<L>,
-    failed: Share<L>,
-    interrupted: Share<L>,
-    empty: Share<L>,
+struct Tally {
+    made: Trace,
+    failed: Trace,
+    interrupted: Trace,
+    empty: Trace,
 }
 
-impl<L: Ledger> Model for Tally<L> {
+impl Model for Tally {
     ghost Value = { Calls };
 
-    ghost view = { λ t. record { made = t.book.total; failed = t.failed.amount; interrupted = t.interrupted.amount; empty = t.empty.amount } };
-
-    ghost invariant = { λ t. (0 < t.plain.parts) × (0 < t.failed.parts) × (0 < t.interrupted.parts) × (0 < t.empty.parts) };
+    ghost view = { λ t. record { made = length t.made.list; failed = length t.failed.list; interrupted = length t.interrupted.list; empty = length t.empty.list } };
 }
 
-impl<L: Ledger> Tally<L> {
-    fn new(blank: Blank) -> Tally<L>
-        requires name { blank.name ≡ L.name }
-        requires parts { blank.parts ≡ L.parts }
-        requires four { blank.parts ≡ 4 }
+impl Tally {
+    fn new() -> Tally
         ensures { result ≡ no_calls }
     {
-        let (book, mut plain) = blank.open::<L>();
-        let failed = plain.split_off(1, 0);
-        let interrupted = plain.split_off(1, 0);
-        let empty = plain.split_off(1, 0);
         Tally {
-            book,
-            plain,
-            failed,
-            interrupted,
-            empty,
+            made: Trace::new(),
+            failed: Trace::new(),
+            interrupted: Trace::new(),
+            empty: Trace::new(),
         }
     }
 
     fn add_ok(&mut self, buf: &[u8], n: usize)
         ensures { CountsOk self.old self.new buf.now n }
     {
+        self.made = self.made.then(n);
         if n == 0 && !buf.is_empty() {
-            self.book.add(&mut self.empty, 1);
-        } else {
-            self.book.add(&mut self.plain, 1);
+            self.empty = self.empty.then(0);
         }
     }
 
@@ -105,36 +93,30 @@ impl<L: Ledger> Tally<L> {
         ensures made { self.new.made ≡ self.old.made + 1 }
         ensures counts { CountsErr self.old self.new e.now }
     {
+        self.made = self.made.then(0);
         if e.kind() == ErrorKind::Interrupted {
-            self.book.add(&mut self.interrupted, 1);
+            self.interrupted = self.interrupted.then(0);
         } else {
-            self.book.add(&mut self.failed, 1);
+            self.failed = self.failed.then(0);
         }
     }
 }
 
 /// A reader as a [`Source`], or a writer as a [`Sink`]. The counts take no room at run time.
 #[derive(Drop)]
-pub struct Counted<T, L: Ledger> {
+pub struct Counted<T> {
     inner: T,
-    tally: Tally<L>,
+    tally: Tally,
 }
 
-impl<T, L: Ledger> Counted<T, L> {
+impl<T> Counted<T> {
     /// Wraps a reader or a writer, with no call counted.
-    ///
-    /// The four parts of `blank` count the four outcomes of a call.
-    pub fn new(inner: T, blank: Blank) -> Counted<T, L>
-        requires name { blank.name ≡ L.name }
-        requires parts { blank.parts ≡ L.parts }
-        requires four { blank.parts ≡ 4 }
+    pub fn new(inner: T) -> Counted<T>
         ensures inner { result.inner ≡ inner }
         ensures tally { result.tally ≡ no_calls }
     {
-        Counted {
-            inner,
-            tally: Tally::new(blank),
-        }
+        let tally = Tally::new();
+        Counted { inner, tally }
     }
 
     /// Returns the reader or the writer, and drops the counts.
@@ -146,7 +128,7 @@ impl<T, L: Ledger> Counted<T, L> {
     }
 }
 
-impl<T: Read, L: Ledger> Source for Counted<T, L> {
+impl<T: Read> Source for Counted<T> {
     ghost remaining = { λ c. T.remaining c.inner };
 
     ghost calls = { λ c. c.tally };
@@ -161,7 +143,7 @@ impl<T: Read, L: Ledger> Source for Counted<T, L> {
     }
 }
 
-impl<T: Write, L: Ledger> Sink for Counted<T, L> {
+impl<T: Write> Sink for Counted<T> {
     ghost contents = { λ c. T.contents c.inner };
 
     ghost calls = { λ c. c.tally };
