@@ -2,17 +2,13 @@
 //! the output is flushed.
 mod cookbook;
 
-ghost use Rattle.std.specs.Prelude.{◌≡◌};
-
 use records_program::program::program;
 use records_program::{LoadFault, read_rest};
 use sj_base::Counted;
 use std::alloc::Global;
 use std::io;
 use std::io::{ErrorKind, Read, Write};
-use std::marker::Brand;
 use std::process::Abort;
-use std::sync::ledger::{Blank, Ledger};
 use std::test::Fail;
 
 const HELP: &str = "\
@@ -170,19 +166,7 @@ fn run_program<I: Read + Drop>(
     input: I,
     output: &mut Narrow,
 ) -> (u8, Vec<u8>) {
-    run_counted::<I, Brand>(alloc, given, input, output, Blank::new(4))
-}
-
-fn run_counted<I: Read + Drop, L: Ledger>(
-    alloc: Global,
-    given: Given<'_>,
-    input: I,
-    output: &mut Narrow,
-    writes: Blank,
-) -> (u8, Vec<u8>)
-    requires { (writes.name ≡ L.name) × (writes.parts ≡ L.parts) × (writes.parts ≡ 4) }
-{
-    let mut faults = Counted::<Vec<u8>, L>::new(Vec::new(alloc), writes);
+    let mut faults = Counted::new(Vec::new(alloc));
     let load = |_name: &str| given.load(alloc);
     let status = program(alloc, given.words, load, input, output, &mut faults);
     (status, faults.into_inner())

@@ -13,7 +13,6 @@ use std::alloc::Global;
 use std::io;
 use std::io::{Read, Write};
 use std::marker::{Brand, PhantomData};
-use std::sync::ledger::{Blank, Ledger};
 
 /// A `&mut` reference, by its ghost name, so that a type can say which reference a value holds.
 pub trait Named {
@@ -45,29 +44,24 @@ impl<O: Write, N: Named> Write for Lent<'_, O, N> {
     }
 }
 
-/// Runs the script on the input as the arguments ask, and returns the output. The blanks open the counts of reads and writes that `run`
-/// needs.
-pub fn run_counted<'a, I: Read + Drop, O: Write, L: Ledger, M: Ledger, N: Named>(
+/// Runs the script on the input as the arguments ask, and returns the output. Its reads and writes are counted, as `run` needs.
+pub fn run_counted<'a, I: Read + Drop, O: Write, N: Named>(
     alloc: Global,
     input: I,
     output: &'a mut O,
     script: &Script,
     arguments: RunArguments<'_>,
-    reads: Blank,
-    writes: Blank,
 ) -> (Result<(), RunError>, &'a mut O)
-    requires reads { (reads.name ≡ L.name) × (reads.parts ≡ L.parts) × (reads.parts ≡ 4) }
-    requires writes { (writes.name ≡ M.name) × (writes.parts ≡ M.parts) × (writes.parts ≡ 4) }
     requires output { output.ghost_name ≡ N.name }
     ensures same_reference { result.1.ghost_name ≡ output.entry.ghost_name }
     ensures stands { RunLeaves (I.remaining input) (O.contents output.old) (O.contents result.1.now) (run_job arguments.entry (steps_of script.now)) result.0 }
 {
-    let mut source = Counted::<I, L>::new(input, reads);
+    let mut source = Counted::new(input);
     let lent = Lent::<'a, O, N> {
         output,
         of: PhantomData,
     };
-    let mut sink = Counted::<Lent<'a, O, N>, M>::new(lent, writes);
+    let mut sink = Counted::new(lent);
     let ran = run(
         alloc,
         &mut source,
@@ -81,17 +75,15 @@ pub fn run_counted<'a, I: Read + Drop, O: Write, L: Ledger, M: Ledger, N: Named>
     (ran, output)
 }
 
-/// Writes the bytes, and returns the output. The blank opens the count of writes that `put` needs.
+/// Writes the bytes, and returns the output. The writes are counted, as `put` needs.
 ///
 /// # Errors
 ///
 /// Returns `WriteFault` if a write failed, was interrupted or took no byte. A prefix of the bytes is written then.
-pub fn put_counted<'a, O: Write, M: Ledger, N: Named>(
+pub fn put_counted<'a, O: Write, N: Named>(
     output: &'a mut O,
     bytes: &[u8],
-    writes: Blank,
 ) -> (Result<(), WriteFault>, &'a mut O)
-    requires writes { (writes.name ≡ M.name) × (writes.parts ≡ M.parts) × (writes.parts ≡ 4) }
     requires output { output.ghost_name ≡ N.name }
     ensures same_reference { result.1.ghost_name ≡ output.entry.ghost_name }
     ensures ok { OnOk result.0 (Appends (O.contents output.old) (O.contents result.1.now) bytes.now) }
@@ -101,7 +93,7 @@ pub fn put_counted<'a, O: Write, M: Ledger, N: Named>(
         output,
         of: PhantomData,
     };
-    let mut sink = Counted::<Lent<'a, O, N>, M>::new(lent, writes);
+    let mut sink = Counted::new(lent);
     let put = sink.put(bytes);
     let Lent { output, of: _ } = sink.into_inner();
     (put, output)

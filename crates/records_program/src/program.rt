@@ -20,7 +20,6 @@ use std::alloc::{AllocError, Global};
 use std::convert::AsStr;
 use std::io::{Read, Write};
 use std::marker::Brand;
-use std::sync::ledger::Blank;
 
 /// Does what the words ask for, and returns the exit status. The line of a fault is written to `faults`.
 pub fn program<S, L, I, O, E>(
@@ -89,7 +88,7 @@ fn print_help<O: Write>(output: &mut O, help: &str) -> Result<(), Fault>
     ensures err { OnErr result (AppendsPrefix (O.contents output.old) (O.contents output.new) help.now) }
     ensures only { IfErr result (λ f. f ≡ Fault.Write) }
 {
-    let (put, output) = put_counted::<O, Brand, Brand>(output, help.as_bytes(), Blank::new(4));
+    let (put, output) = put_counted::<O, Brand>(output, help.as_bytes());
     match put {
         Ok(()) => flush(output),
         Err(_) => Err(Fault::Write),
@@ -140,15 +139,7 @@ fn run_script<I: Read + Drop, O: Write>(
     ensures status { IfErr result (λ f. status_of f ≡ 1) }
     ensures stands { RunEnds (I.remaining input) (O.contents output.old) (O.contents output.new) (run_job arguments.entry (steps_of script.now)) result }
 {
-    let (ran, output) = run_counted::<I, O, Brand, Brand, Brand>(
-        alloc,
-        input,
-        output,
-        script,
-        arguments,
-        Blank::new(4),
-        Blank::new(4),
-    );
+    let (ran, output) = run_counted::<I, O, Brand>(alloc, input, output, script, arguments);
     let flushed = flush(output);
     ran?;
     flushed

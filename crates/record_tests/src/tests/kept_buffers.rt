@@ -1,5 +1,4 @@
 //! Runs that use the same buffers, one after the other.
-ghost use Rattle.std.specs.Prelude.{◌≡◌};
 
 use super::readers::Pieces;
 use super::{FORMS, script_of};
@@ -8,32 +7,8 @@ use sj_parse::Buffers;
 use sj_records::{Form, RunError, Script, run_with};
 use std::alloc::Global;
 use std::io::{Read, Write};
-use std::marker::Brand;
 use std::process::Abort;
-use std::sync::ledger::{Blank, Ledger};
 use std::test::Fail;
-
-// A run with counts, which the blanks open.
-fn counted_run_with<I: Read + Drop, O: Write + Drop, L: Ledger, M: Ledger>(
-    alloc: Global,
-    input: I,
-    output: &mut O,
-    script: &Script,
-    form: Form,
-    buffers: &mut Buffers,
-    reads: Blank,
-    writes: Blank,
-) -> Result<(), RunError>
-    requires reads { (reads.name ≡ L.name) × (reads.parts ≡ L.parts) × (reads.parts ≡ 4) }
-    requires writes { (writes.name ≡ M.name) × (writes.parts ≡ M.parts) × (writes.parts ≡ 4) }
-{
-    let mut source = Counted::<I, L>::new(input, reads);
-    let mut sink = Counted::<&mut O, M>::new(output, writes);
-    let result = run_with(alloc, &mut source, &mut sink, script, form, buffers);
-    let _ = source.into_inner();
-    let _ = sink.into_inner();
-    result
-}
 
 fn run_with_on<I: Read + Drop, O: Write + Drop>(
     alloc: Global,
@@ -43,16 +18,12 @@ fn run_with_on<I: Read + Drop, O: Write + Drop>(
     form: Form,
     buffers: &mut Buffers,
 ) -> Result<(), RunError> {
-    counted_run_with::<I, O, Brand, Brand>(
-        alloc,
-        input,
-        output,
-        script,
-        form,
-        buffers,
-        Blank::new(4),
-        Blank::new(4),
-    )
+    let mut source = Counted::new(input);
+    let mut sink = Counted::new(output);
+    let result = run_with(alloc, &mut source, &mut sink, script, form, buffers);
+    let _ = source.into_inner();
+    let _ = sink.into_inner();
+    result
 }
 
 // Looks for the records of a stream in one form, in these buffers.

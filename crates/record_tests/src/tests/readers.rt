@@ -1,5 +1,4 @@
 //! Readers and writers that give and take their bytes in pieces, and that fail, and runs on them.
-ghost use Rattle.std.specs.Prelude.{◌≡◌};
 
 use super::{LIMIT, script_of};
 use sj_base::Counted;
@@ -7,9 +6,7 @@ use sj_records::{Form, RunError, Script, run};
 use std::alloc::Global;
 use std::io;
 use std::io::{ErrorKind, Read, Write};
-use std::marker::Brand;
 use std::process::Abort;
-use std::sync::ledger::{Blank, Ledger};
 
 // Gives its bytes, at most `step` a read, then an error of the kind, and then its end. Where `is_cut`,
 // an interruption comes before each read.
@@ -89,28 +86,6 @@ impl Write for Narrow {
     }
 }
 
-// A run with counts, which the blanks open.
-pub(super) fn counted_run<I: Read + Drop, O: Write + Drop, L: Ledger, M: Ledger>(
-    alloc: Global,
-    input: I,
-    output: &mut O,
-    script: &Script,
-    depth: usize,
-    form: Form,
-    reads: Blank,
-    writes: Blank,
-) -> Result<(), RunError>
-    requires reads { (reads.name ≡ L.name) × (reads.parts ≡ L.parts) × (reads.parts ≡ 4) }
-    requires writes { (writes.name ≡ M.name) × (writes.parts ≡ M.parts) × (writes.parts ≡ 4) }
-{
-    let mut source = Counted::<I, L>::new(input, reads);
-    let mut sink = Counted::<&mut O, M>::new(output, writes);
-    let result = run(alloc, &mut source, &mut sink, script, depth, form);
-    let _ = source.into_inner();
-    let _ = sink.into_inner();
-    result
-}
-
 pub(super) fn run_on<I: Read + Drop, O: Write + Drop>(
     alloc: Global,
     input: I,
@@ -119,16 +94,12 @@ pub(super) fn run_on<I: Read + Drop, O: Write + Drop>(
     depth: usize,
     form: Form,
 ) -> Result<(), RunError> {
-    counted_run::<I, O, Brand, Brand>(
-        alloc,
-        input,
-        output,
-        script,
-        depth,
-        form,
-        Blank::new(4),
-        Blank::new(4),
-    )
+    let mut source = Counted::new(input);
+    let mut sink = Counted::new(output);
+    let result = run(alloc, &mut source, &mut sink, script, depth, form);
+    let _ = source.into_inner();
+    let _ = sink.into_inner();
+    result
 }
 
 const BOTH: &str = r#"{"replies":[],"document":1}

@@ -10,8 +10,6 @@ use sj_tape::{Node, Tape, Value};
 use std::alloc::Global;
 use std::io;
 use std::io::{ErrorKind, Write};
-use std::marker::Brand;
-use std::sync::ledger::{Blank, Ledger};
 use std::test::Fail;
 
 // The nodes that the words stand for: `[len,count` an array, `{len,count` an object, `null` and numbers themselves, and
@@ -142,22 +140,11 @@ impl Write for Narrow {
     }
 }
 
-// Writes with a count of the calls, which the blank opens.
-fn counted_write<L: Ledger>(
-    value: &Value<'_, '_>,
-    output: &mut Narrow,
-    blank: Blank,
-) -> Result<(), WriteFault>
-    requires { (blank.name ≡ L.name) × (blank.parts ≡ L.parts) × (blank.parts ≡ 4) }
-{
-    let mut sink = Counted::<&mut Narrow, L>::new(output, blank);
+fn write(value: &Value<'_, '_>, output: &mut Narrow) -> Result<(), WriteFault> {
+    let mut sink = Counted::new(output);
     let result = value.write(&mut sink);
     let _ = sink.into_inner();
     result
-}
-
-fn write(value: &Value<'_, '_>, output: &mut Narrow) -> Result<(), WriteFault> {
-    counted_write::<Brand>(value, output, Blank::new(4))
 }
 
 #[test]

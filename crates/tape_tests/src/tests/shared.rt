@@ -2,14 +2,13 @@
 //! is asked.
 use super::expect_eq;
 use sj_base::{
-    AccessError, Counted, Decimal, DecimalBuf, DecimalCow, Error, ErrorType, Layout, Reads,
-    Scalar, StaticNode, TextBuffer, Trace, TryCopy, TryTypeError, ValueType, WriteFault, print_text, put_break,
-    put_int, put_string, put_text,
+    AccessError, Counted, Decimal, DecimalBuf, DecimalCow, Error, ErrorType, Layout, Reads, Scalar,
+    StaticNode, TextBuffer, Trace, TryCopy, TryTypeError, ValueType, WriteFault, print_text,
+    put_break, put_int, put_string, put_text,
 };
 use sj_reads::ValueAsScalar;
 use std::alloc::AllocError;
 use std::borrow::CowStr;
-use std::marker::Brand;
 use std::mem::size_of;
 use std::process::Abort;
 use std::test::Fail;
@@ -161,7 +160,7 @@ fn copies_of_texts(rt: HostRuntime) -> Result<(), Fail> {
 
 #[test]
 fn counts_take_no_room(rt: HostRuntime) {
-    assert_eq!(rt; size_of::<Counted<u64, Brand>>(), size_of::<u64>());
+    assert_eq!(rt; size_of::<Counted<u64>>(), size_of::<u64>());
     assert_eq!(rt; size_of::<Trace>(), 0);
     assert_eq!(rt; size_of::<Reads<'_, u32>>(), size_of::<&[u32]>());
 }
