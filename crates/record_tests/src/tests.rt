@@ -1,6 +1,7 @@
 //! Worked lines and scripts, and the display texts of errors.
 mod documents;
 mod faults;
+mod hostile;
 mod kept_buffers;
 mod readers;
 mod reloads;

@@ -1,11 +1,11 @@
 //! Documents that own their texts. Port of the module `simd_json::owned`.
-ghost use Rattle.std.specs.Prelude.{◌≡◌, ◌<◌, ◌≤◌, Err, length, string_bytes};
+ghost use Rattle.std.specs.Prelude.{◌≡◌, ◌<◌, ◌≤◌, [], ◌∷◌, ◌++◌, Err, length, string_bytes};
 ghost use Rattle.sj_base.specs.Scalar.{decimal_buf_text};
 ghost use Rattle.sj_base.specs.Spelling.{longest};
 ghost use Rattle.sj_base.specs.declared.TheConstants.{DEFAULT_MAX_DEPTH};
 ghost use Rattle.sj_base.specs.declared.error.ErrorType.TheVariants.{InputTooLarge};
 ghost use Rattle.sj_parse.specs.Fault.{generic};
-ghost use Rattle.sj_parse.specs.Answers.{Leaves, buffer_positions, buffer_limit, buffer_room};
+ghost use Rattle.sj_parse.specs.Answers.{Leaves, buffer_texts, buffer_positions, buffer_limit, buffer_room};
 ghost use Rattle.sj_owned.specs.Reading.{AnswersKept};
 ghost use Rattle.sj_owned.specs.Views.{value_tree};
 
@@ -48,6 +48,7 @@ pub fn to_value_with_buffers(alloc: Global, s: &mut [u8], buffers: &mut Buffers)
     ensures too_large { longest < length s.old → result ≡ Err (generic InputTooLarge) }
     ensures scanned { length s.old ≤ longest → Leaves s.old result (buffer_positions buffers.new) }
     ensures not_scanned { longest < length s.old → buffer_positions buffers.new ≡ buffer_positions buffers.old }
+    ensures texts { buffer_texts buffers.new ≡ buffer_texts buffers.old ++ length s.old ∷ [] }
     ensures limit { buffer_limit buffers.new ≡ buffer_limit buffers.old }
     ensures room { buffer_room buffers.old ≤ buffer_room buffers.new }
 {

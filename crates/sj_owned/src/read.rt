@@ -1,11 +1,11 @@
 //! Documents that are read from bytes: a text is read into a tape, and a document is built of it.
-ghost use Rattle.std.specs.Prelude.{◌≡◌, ◌<◌, ◌≤◌, Err, IfOk, IfErr, length};
+ghost use Rattle.std.specs.Prelude.{◌≡◌, ◌<◌, ◌≤◌, [], ◌∷◌, ◌++◌, Err, IfOk, IfErr, length};
 ghost use Rattle.sj_base.specs.Keep.{keep};
 ghost use Rattle.sj_base.specs.Spelling.{longest};
 ghost use Rattle.sj_base.specs.declared.TheConstants.{DEFAULT_MAX_DEPTH};
 ghost use Rattle.sj_tape.specs.Views.{nodes_tree, tape_nodes};
 ghost use Rattle.sj_parse.specs.Fault.{generic};
-ghost use Rattle.sj_parse.specs.Answers.{Leaves, buffer_positions, buffer_limit, buffer_room};
+ghost use Rattle.sj_parse.specs.Answers.{Leaves, buffer_texts, buffer_positions, buffer_limit, buffer_room};
 ghost use Rattle.sj_owned.specs.Reading.{AnswersKept};
 
 use crate::build::build_tape;
@@ -51,6 +51,7 @@ pub fn deserialize_with_buffers<'de, V: BuildValue<'de, K> + Drop, K: MakeKey<'d
     ensures too_large { longest < length s.entry.now → result ≡ Err (generic ErrorType.InputTooLarge) }
     ensures scanned { length s.entry.now ≤ longest → Leaves s.entry.now result (buffer_positions buffers.new) }
     ensures not_scanned { longest < length s.entry.now → buffer_positions buffers.new ≡ buffer_positions buffers.old }
+    ensures texts { buffer_texts buffers.new ≡ buffer_texts buffers.old ++ length s.entry.now ∷ [] }
     ensures limit { buffer_limit buffers.new ≡ buffer_limit buffers.old }
     ensures room { buffer_room buffers.old ≤ buffer_room buffers.new }
 {

@@ -1,5 +1,5 @@
 -- What a call answers that reads a text, and what it leaves in its buffers.
-use Rattle.std.specs.Prelude.{◌≡◌, ℕ, List, [], length, ◌⊎◌, Option, Some, None, Result, Ok, Err, vec_capacity}
+use Rattle.std.specs.Prelude.{◌≡◌, ℕ, List, [], ◌⊎◌, Option, Some, None, Result, Ok, Err, vec_capacity}
 use Rattle.sj_base.specs.Tree.{Tree}
 use Rattle.sj_base.specs.Spelling.{Document}
 use Rattle.sj_base.specs.declared.error.Error.{Error}
@@ -34,9 +34,9 @@ Answers nodes bytes limit found (Err e) = IsErrorOf found e
 
 -- ---- buffers
 
--- the number of texts that were read with them
-abbrev pub buffer_texts : Buffers → ℕ
-buffer_texts b = length b.texts.list
+-- the lengths of the texts that were read with them, in bytes
+abbrev pub buffer_texts : Buffers → List ℕ
+buffer_texts b = b.texts.list
 
 abbrev pub buffer_positions : Buffers → List ℕ
 buffer_positions b = b.positions.items

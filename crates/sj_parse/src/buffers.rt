@@ -1,5 +1,5 @@
 //! The room that reading works in, kept from one text to the next.
-ghost use Rattle.std.specs.Prelude.{◌≡◌, ◌+◌, ◌/◌, ◌≤◌, [], IfOk};
+ghost use Rattle.std.specs.Prelude.{◌≡◌, ◌/◌, ◌≤◌, [], ◌∷◌, ◌++◌, IfOk};
 ghost use Rattle.sj_parse.specs.Answers.{buffer_texts, buffer_positions, buffer_limit, buffer_room};
 
 use crate::containers::Frame;
@@ -12,8 +12,8 @@ const BYTES_PER_POSITION: usize = 128;
 /// Room that one text after another is read in, and the limit of depth under which they are read. Port of
 /// `simd_json::Buffers`.
 ///
-/// Buffers can be used again after any error. Reading never shrinks their room for positions. Contracts count the texts that
-/// were read with them, refused ones included; the count takes no room at run time.
+/// Buffers can be used again after any error. Reading never shrinks their room for positions. Contracts list the lengths of
+/// the texts that this crate's calls read with them, refused texts included; the list takes no room at run time.
 #[derive(Debug, Drop)]
 pub struct Buffers {
     pub(crate) positions: Vec<u32>,
@@ -33,7 +33,7 @@ impl Buffers {
     ///
     /// `AllocError` if there is no memory for this room.
     pub fn new(alloc: Global, input_len: usize) -> Result<Buffers, AllocError>
-        ensures texts { IfOk result (λ buffers. buffer_texts buffers ≡ 0) }
+        ensures texts { IfOk result (λ buffers. buffer_texts buffers ≡ []) }
         ensures positions { IfOk result (λ buffers. buffer_positions buffers ≡ []) }
         ensures limit { IfOk result (λ buffers. buffer_limit buffers ≡ DEFAULT_MAX_DEPTH) }
         ensures room { IfOk result (λ buffers. input_len / 128 ≤ buffer_room buffers) }
@@ -54,7 +54,7 @@ impl Buffers {
         input_len: usize,
         max_depth: usize,
     ) -> Result<Buffers, AllocError>
-        ensures texts { IfOk result (λ buffers. buffer_texts buffers ≡ 0) }
+        ensures texts { IfOk result (λ buffers. buffer_texts buffers ≡ []) }
         ensures positions { IfOk result (λ buffers. buffer_positions buffers ≡ []) }
         ensures limit { IfOk result (λ buffers. buffer_limit buffers ≡ max_depth) }
         ensures room { IfOk result (λ buffers. input_len / 128 ≤ buffer_room buffers) }
@@ -86,9 +86,9 @@ impl Buffers {
         self.stack = Vec::new(alloc);
     }
 
-    /// Counts a text of that many bytes.
-    pub(crate) fn count(&mut self, len: usize)
-        ensures texts { buffer_texts self.new ≡ buffer_texts self.old + 1 }
+    /// Notes a text of that many bytes.
+    pub(crate) fn note(&mut self, len: usize)
+        ensures texts { buffer_texts self.new ≡ buffer_texts self.old ++ len ∷ [] }
         ensures positions { buffer_positions self.new ≡ buffer_positions self.old }
         ensures limit { buffer_limit self.new ≡ buffer_limit self.old }
         ensures room { buffer_room self.new ≡ buffer_room self.old }

@@ -7,9 +7,9 @@ use sj_base::{Error, ErrorType};
 /// The kind of a [`DescentFault`]. Lack of memory is none of them.
 #[derive(Clone, Copy, Debug, PartialEq, Eq)]
 pub enum DescentKind {
-    /// A byte that begins no value, or a token behind the root container.
+    /// A byte that begins no value, or a token behind the root container, whose closing bracket is the byte then.
     InternalError,
-    /// A container beyond the limit of levels, or a text that is cut short.
+    /// A container beyond the limit of levels, or a text that is cut short, where the byte is that of its last token.
     Syntax,
     /// Neither a value nor `]` behind `[`.
     ExpectedArrayContent,
@@ -37,7 +37,7 @@ pub enum DescentKind {
     InvalidUnicodeEscape,
     /// A surrogate that isn't part of a pair.
     InvalidUnicodeCodepoint,
-    /// A token behind a root scalar.
+    /// A token behind a root scalar, which is what the byte begins.
     TrailingData,
 }
 

@@ -1,5 +1,5 @@
 //! A tape whose nodes are taken one by one.
-ghost use Rattle.std.specs.Prelude.{◌≡◌, ◌≢◌, ◌↔◌, ◌+◌, ◌<◌, ◌≤◌, List, [], ◌++◌, Some, Err, IsTrue, IfOk, drop, length, slice_get};
+ghost use Rattle.std.specs.Prelude.{◌≡◌, ◌≢◌, ◌↔◌, ◌+◌, ◌<◌, ◌≤◌, List, [], ◌∷◌, ◌++◌, Some, Err, IsTrue, IfOk, drop, length, slice_get};
 ghost use Rattle.sj_base.specs.Tree.{IsValidTree};
 ghost use Rattle.sj_base.specs.Spelling.{longest};
 ghost use Rattle.sj_base.specs.declared.TheConstants.{DEFAULT_MAX_DEPTH};
@@ -57,7 +57,7 @@ impl<'de> Deserializer<'de> {
         ensures too_large { longest < length s.entry.now → result ≡ Err (generic InputTooLarge) }
         ensures scanned { length s.entry.now ≤ longest → Leaves s.entry.now result (buffer_positions buffers.new) }
         ensures not_scanned { longest < length s.entry.now → buffer_positions buffers.new ≡ buffer_positions buffers.old }
-        ensures texts { buffer_texts buffers.new ≡ buffer_texts buffers.old + 1 }
+        ensures texts { buffer_texts buffers.new ≡ buffer_texts buffers.old ++ length s.entry.now ∷ [] }
         ensures limit { buffer_limit buffers.new ≡ buffer_limit buffers.old }
         ensures room { buffer_room buffers.old ≤ buffer_room buffers.new }
         ensures bound { IfOk result (λ d. length (deserializer_nodes d) ≤ length (buffer_positions buffers.new)) }

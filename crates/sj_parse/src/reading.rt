@@ -3,7 +3,7 @@
 //! A call tests the length of the input, and in the padded form the padding, and then scans it: these faults are about
 //! the whole text, and stand at index 0 without a character. Then it reserves all the room that the descent over the
 //! tokens needs. The faults of the descent name a byte, and the first one is the answer.
-ghost use Rattle.std.specs.Prelude.{◌≡◌, ◌≢◌, ℕ, ◌+◌, ◌<◌, ◌≤◌, ◌⊎◌, List, [], None, Err, IfErr, IfOk, OnOk, OnErr, length, take, min, vec_capacity};
+ghost use Rattle.std.specs.Prelude.{◌≡◌, ◌≢◌, ℕ, ◌+◌, ◌<◌, ◌≤◌, ◌⊎◌, List, [], ◌∷◌, ◌++◌, None, Err, IfErr, IfOk, OnOk, OnErr, length, take, min, vec_capacity};
 ghost use Rattle.sj_base.specs.Spelling.{longest};
 ghost use Rattle.sj_base.specs.declared.TheConstants.{DEFAULT_MAX_DEPTH};
 ghost use Rattle.sj_scan.specs.Positions.{positions};
@@ -67,7 +67,7 @@ pub fn to_tape_with_buffers<'de>(
     ensures too_large { longest < length s.entry.now → result ≡ Err (generic ErrorType.InputTooLarge) }
     ensures scanned { length s.entry.now ≤ longest → Leaves s.entry.now result (buffer_positions buffers.new) }
     ensures not_scanned { longest < length s.entry.now → buffer_positions buffers.new ≡ buffer_positions buffers.old }
-    ensures texts { buffer_texts buffers.new ≡ buffer_texts buffers.old + 1 }
+    ensures texts { buffer_texts buffers.new ≡ buffer_texts buffers.old ++ length s.entry.now ∷ [] }
     ensures limit { buffer_limit buffers.new ≡ buffer_limit buffers.old }
     ensures room { buffer_room buffers.old ≤ buffer_room buffers.new }
     ensures bound { IfOk result (λ tape. length (tape_nodes tape) ≤ length (buffer_positions buffers.new)) }
@@ -94,7 +94,7 @@ pub fn fill_tape<'de>(s: &'de mut [u8], buffers: &mut Buffers, tape: &mut Tape<'
     ensures too_large { longest < length s.entry.now → result ≡ Err (generic ErrorType.InputTooLarge) }
     ensures scanned { length s.entry.now ≤ longest → Leaves s.entry.now result (buffer_positions buffers.new) }
     ensures not_scanned { longest < length s.entry.now → buffer_positions buffers.new ≡ buffer_positions buffers.old }
-    ensures texts { buffer_texts buffers.new ≡ buffer_texts buffers.old + 1 }
+    ensures texts { buffer_texts buffers.new ≡ buffer_texts buffers.old ++ length s.entry.now ∷ [] }
     ensures limit { buffer_limit buffers.new ≡ buffer_limit buffers.old }
     ensures room { buffer_room buffers.old ≤ buffer_room buffers.new }
     ensures bound { OnOk result (length (tape_nodes tape.new) ≤ length (buffer_positions buffers.new)) }
@@ -120,7 +120,7 @@ pub fn fill_tape_by<'de, S: Stage1>(
     ensures too_large { longest < length s.entry.now → result ≡ Err (generic ErrorType.InputTooLarge) }
     ensures scanned { length s.entry.now ≤ longest → Leaves s.entry.now result (buffer_positions buffers.new) }
     ensures not_scanned { longest < length s.entry.now → buffer_positions buffers.new ≡ buffer_positions buffers.old }
-    ensures texts { buffer_texts buffers.new ≡ buffer_texts buffers.old + 1 }
+    ensures texts { buffer_texts buffers.new ≡ buffer_texts buffers.old ++ length s.entry.now ∷ [] }
     ensures limit { buffer_limit buffers.new ≡ buffer_limit buffers.old }
     ensures room { buffer_room buffers.old ≤ buffer_room buffers.new }
     ensures bound { OnOk result (length (tape_nodes tape.new) ≤ length (buffer_positions buffers.new)) }
@@ -132,7 +132,7 @@ pub fn fill_tape_by<'de, S: Stage1>(
         nodes.clear();
     }
     *tape = Tape::from_listing(nodes);
-    buffers.count(len);
+    buffers.note(len);
     read
 }
 
@@ -162,13 +162,13 @@ pub fn fill_tape_padded<'de>(
         → result ≡ Err (generic ErrorType.InsufficientPadding) }
     ensures scanned { len ≤ longest → len + padding ≤ length s.entry.now → Leaves (take len s.entry.now) result (buffer_positions buffers.new) }
     ensures not_scanned { ((longest < len) ⊎ (length s.entry.now < len + padding)) → buffer_positions buffers.new ≡ buffer_positions buffers.old }
-    ensures texts { buffer_texts buffers.new ≡ buffer_texts buffers.old + 1 }
+    ensures texts { buffer_texts buffers.new ≡ buffer_texts buffers.old ++ len ∷ [] }
     ensures limit { buffer_limit buffers.new ≡ buffer_limit buffers.old }
     ensures room { buffer_room buffers.old ≤ buffer_room buffers.new }
     ensures bound { OnOk result (length (tape_nodes tape.new) ≤ length (buffer_positions buffers.new)) }
 {
     if let Err(error) = test_padding(s, len) {
-        buffers.count(len);
+        buffers.note(len);
         *tape = Tape::from_listing(take_room(buffers.allocator(), tape));
         return Err(error);
     }
@@ -229,7 +229,7 @@ fn scan<S: Stage1>(scanner: &mut S, text: &[u8], places: &mut Vec<u32>) -> Resul
     scanner.scan(text, places).map_err(scan_error)
 }
 
-/// Empties the vectors and reserves what the descent over that many tokens needs, so that it takes no memory itself.
+/// Empties the stack, and reserves what the descent over that many tokens needs, so that it can't lack memory.
 fn make_room(
     count: usize,
     limit: usize,

@@ -285,7 +285,7 @@ fn step<'i>(
 }
 
 /// Reads the tokens of a text: appends the nodes of its tree, or answers its first fault. This is all of stage two behind
-/// its reservations, and it takes no memory.
+/// its reservations, so it can't lack memory.
 ///
 /// The places are the positions of the text, and each is read once at most. The vectors are empty, and have room: the nodes
 /// for as many as there are places, the stack for as many frames as there are places or levels, whichever are fewer. Nodes

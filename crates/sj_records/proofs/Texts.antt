@@ -1,12 +1,12 @@
 -- Texts that are read one after the other.
-use Rattle.std.proofs.Common.{◌≡◌, ℕ, ◌+◌, List, [], ◌∷◌, ◌++◌, length, Result, Ok, Err, refl, sym, ap, subst, ◌∙◌, append_assoc, arith}
+use Rattle.std.proofs.Common.{◌≡◌, ℕ, List, [], ◌∷◌, ◌++◌, length, map, Result, Ok, Err, refl, sym, ap, subst, ◌∙◌, append_assoc}
 use Rattle.std.specs.Prelude.{◌≢◌, OnOk}
-use Rattle.std.proofs.lemmas.List.{append-nil, length-append}
+use Rattle.std.proofs.lemmas.List.{append-nil, map-append}
 use Rattle.sj_scripts.specs.declared.script.Command.{Command}
 use Rattle.sj_scripts.specs.declared.script.Command.TheVariants.{Get, Contains, TypeOf, Len, Keys, Insert, Remove, Push, Pop, SetAt, Undo, Reload, ReloadPp}
 use Rattle.sj_scripts.specs.Script.{command_view}
 use Rattle.sj_documents.specs.Step.{Job, State}
-use Rattle.sj_parse.specs.Answers.{buffer_positions}
+use Rattle.sj_parse.specs.Answers.{buffer_texts, buffer_positions}
 use Rattle.sj_parse.specs.declared.buffers.Buffers.{Buffers}
 use Rattle.sj_records.specs.Texts.{reread, AreTextsOf, AreTexts, LeavesPositions, HasRead, HasReadLines}
 
@@ -31,14 +31,13 @@ positions-then (x ∷ next ∷ xs) (y ∷ ys) a b c h k = positions-then (next �
 -- ---- texts
 
 pub HasRead-nothing : (a : Buffers) → HasRead a a []
-HasRead-nothing a = (omega arith, refl)
+HasRead-nothing a = (sym (append-nil (buffer_texts a)), refl)
 
 pub HasRead-then : (a b c : Buffers) (xs ys : List (List ℕ)) → HasRead a b xs → HasRead b c ys → HasRead a c (xs ++ ys)
-HasRead-then a b c xs ys h k =
-    let all : length (xs ++ ys) ≡ length xs + length ys = length-append xs ys in
-    let first = h.0 in
-    let then = k.0 in
-    (omega arith, positions-then xs ys (buffer_positions a) (buffer_positions b) (buffer_positions c) h.1 k.1)
+HasRead-then a b c xs ys h k = (
+  k.0 ∙ ap (λ (ns : List ℕ). ns ++ map length ys) h.0 ∙ append_assoc (buffer_texts a) (map length xs) (map length ys) ∙ ap (λ (ns : List ℕ). buffer_texts a ++ ns) (sym (map-append length xs ys)),
+  positions-then xs ys (buffer_positions a) (buffer_positions b) (buffer_positions c) h.1 k.1,
+)
 
 -- A command that is no reload reads none.
 pub none_reread : (c : Command) (s : State) → c ≢ Reload → c ≢ ReloadPp → reread s (command_view c) ≡ []

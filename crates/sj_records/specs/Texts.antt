@@ -1,5 +1,5 @@
 -- The texts that a run reads, and what reading them leaves in its buffers.
-use Rattle.std.specs.Prelude.{◌≡◌, ℕ, ◌+◌, ◌≤◌, nat_le, Bool, true, false, List, [], ◌∷◌, ◌++◌, length, Option}
+use Rattle.std.specs.Prelude.{◌≡◌, ℕ, ◌≤◌, nat_le, Bool, true, false, List, [], ◌∷◌, ◌++◌, length, map, Option}
 use Rattle.sj_base.specs.Spelling.{longest}
 use Rattle.sj_base.specs.Text.{text, pretty}
 use Rattle.sj_parse.specs.Answers.{scanned, buffer_texts, buffer_positions}
@@ -48,9 +48,9 @@ LeavesPositions [] old new = new ≡ old
 LeavesPositions (bytes ∷ []) old new = length bytes ≤ longest → new ≡ scanned bytes
 LeavesPositions (bytes ∷ next ∷ others) old new = LeavesPositions (next ∷ others) old new
 
--- The count rose by the number of these texts, and the last of them left the positions.
+-- These texts were read one after the other: their lengths were noted, and the last of them left the positions.
 abbrev pub HasRead : Buffers → Buffers → List (List ℕ) → Type 0
-HasRead old new texts = (buffer_texts new ≡ buffer_texts old + length texts) × LeavesPositions texts (buffer_positions old) (buffer_positions new)
+HasRead old new texts = (buffer_texts new ≡ buffer_texts old ++ map length texts) × LeavesPositions texts (buffer_positions old) (buffer_positions new)
 
 -- so for the texts of these lines
 abbrev pub HasReadLines : Job → Buffers → Buffers → List (List ℕ) → Type 0

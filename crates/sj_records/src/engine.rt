@@ -282,8 +282,8 @@ pub fn run<R: Source, W: Sink>(
 /// Does what [`run`] does, under the limit of levels of the buffers, whose room is used for each line. Runs that use the same
 /// buffers one after the other take room for them once.
 ///
-/// The count of the buffers rises by one for each line, and for each reload that replies `true`. They have the positions of the
-/// text that was read last. Room for more than 2^20 positions is given back before the next text is read.
+/// On `Ok` the buffers have read one text for each line, and one for each reload that replied `true`, and they have the positions
+/// of the last one. Room for more than 2^20 positions is given back before the next text is read.
 ///
 /// # Errors
 ///
@@ -299,11 +299,11 @@ pub fn run_with<R: Source, W: Sink>(
     // As of `run`, with the limit of the buffers in the place of `depth`.
     ensures stands { Transfers (R.remaining reader.old) (R.remaining reader.new)
         (W.contents writer.old) (W.contents writer.new)
-        (LeavesOutput result (job_of script.now buffer_limit buffers.old form)) }
+        (LeavesOutput result (job_of script.now (buffer_limit buffers.old) form)) }
     ensures at_end { OnOk result (IsAtEnd (R.remaining reader.new)) }
-    // On `Ok`: how many texts the buffers have read, which are the lines and the texts of the reloads that replied `true`, and
-    // what positions the last one left.
-    ensures texts { OnOk result (HasReadStream (job_of script.now buffer_limit buffers.old form)
+    // On `Ok`: the texts that the buffers have read, by their lengths, which are the lines and the texts of the reloads that
+    // replied `true`, and what positions the last one left.
+    ensures texts { OnOk result (HasReadStream (job_of script.now (buffer_limit buffers.old) form)
         (R.remaining reader.old) (R.remaining reader.new) (W.contents writer.old) (W.contents writer.new)
         buffers.old buffers.new) }
     ensures reads { ReadsFor (2 ^ 62) result (R.calls reader.old) (R.calls reader.new) }

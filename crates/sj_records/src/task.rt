@@ -134,9 +134,9 @@ fn read_tape<'de>(
     tape: &mut Tape<'de>,
     line: &'de mut [u8],
 ) -> Result<(), MemoryOr<Error>>
-    ensures found { OnOk result (IsTapeOf line.entry.now buffer_limit buffers.old (tape_nodes tape.new)) }
+    ensures found { OnOk result (IsTapeOf line.entry.now (buffer_limit buffers.old) (tape_nodes tape.new)) }
     ensures not_empty { OnOk result (tape_nodes tape.new ≢ []) }
-    ensures refused { IfErr result (λ e. IfRefused e (λ why. fault line.entry.now buffer_limit buffers.old ≡ Some why)) }
+    ensures refused { IfErr result (λ e. IfRefused e (λ why. fault line.entry.now (buffer_limit buffers.old) ≡ Some why)) }
     ensures texts { OnOk result (HasRead buffers.old buffers.new (line.entry.now ∷ [])) }
     ensures refused_texts { IfErr result (λ e. IfRefused e (λ why. HasRead buffers.old buffers.new (line.entry.now ∷ []))) }
     ensures limit { buffer_limit buffers.new ≡ buffer_limit buffers.old }

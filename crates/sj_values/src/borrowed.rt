@@ -1,12 +1,12 @@
 //! Documents that borrow their texts. Port of the module `simd_json::borrowed`.
-ghost use Rattle.std.specs.Prelude.{◌≡◌, ◌<◌, ◌≤◌, Err, length};
+ghost use Rattle.std.specs.Prelude.{◌≡◌, ◌<◌, ◌≤◌, [], ◌∷◌, ◌++◌, Err, length};
 ghost use Rattle.std.specs.Cow.{cow_str_bytes};
 ghost use Rattle.sj_base.specs.Scalar.{decimal_cow_text};
 ghost use Rattle.sj_base.specs.Spelling.{longest};
 ghost use Rattle.sj_base.specs.declared.TheConstants.{DEFAULT_MAX_DEPTH};
 ghost use Rattle.sj_base.specs.declared.error.ErrorType.TheVariants.{InputTooLarge};
 ghost use Rattle.sj_parse.specs.Fault.{generic};
-ghost use Rattle.sj_parse.specs.Answers.{Leaves, buffer_positions, buffer_limit, buffer_room};
+ghost use Rattle.sj_parse.specs.Answers.{Leaves, buffer_texts, buffer_positions, buffer_limit, buffer_room};
 ghost use Rattle.sj_owned.specs.Reading.{AnswersKept};
 ghost use Rattle.sj_owned.specs.Views.{value_tree};
 
@@ -56,6 +56,7 @@ pub fn to_value_with_buffers<'v>(
     ensures too_large { longest < length s.entry.now → result ≡ Err (generic InputTooLarge) }
     ensures scanned { length s.entry.now ≤ longest → Leaves s.entry.now result (buffer_positions buffers.new) }
     ensures not_scanned { longest < length s.entry.now → buffer_positions buffers.new ≡ buffer_positions buffers.old }
+    ensures texts { buffer_texts buffers.new ≡ buffer_texts buffers.old ++ length s.entry.now ∷ [] }
     ensures limit { buffer_limit buffers.new ≡ buffer_limit buffers.old }
     ensures room { buffer_room buffers.old ≤ buffer_room buffers.new }
 {

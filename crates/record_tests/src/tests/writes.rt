@@ -170,13 +170,13 @@ fn depth_limits(rt: HostRuntime) -> Result<(), Fail> {
 }
 
 // Appends a member whose key has six blocks, one for each binary digit of `number`, highest first.
-fn put_member(alloc: Global, out: &mut String, number: u8) -> Result<(), AllocError> {
+fn put_member(alloc: Global, out: &mut String, number: u8, value: u8) -> Result<(), AllocError> {
     out.push('"')?;
     for place in 0..6u8 {
         let is_one = number >> (5 - place) & 1 == 1;
         out.push_str(if is_one { "BB" } else { "Aa" })?;
     }
-    let value = format!(in alloc; r#"":{number}"#)?;
+    let value = format!(in alloc; r#"":{value}"#)?;
     out.push_str(&value)
 }
 
@@ -187,7 +187,7 @@ fn forty(alloc: Global, first: u8) -> Result<String, AllocError> {
         if number > first {
             text.push(',')?;
         }
-        put_member(alloc, &mut text, number)?;
+        put_member(alloc, &mut text, number, number)?;
     }
     text.push('}')?;
     Ok(text)
@@ -202,6 +202,33 @@ fn forty_equal_hashes(rt: HostRuntime) -> Result<(), Fail> {
     let script = r#"[["get",["BBAaAaBBBBBB"]],["remove",[],"AaAaAaAaAaAa"],["len",[]]]"#;
     check(&rt, alloc, &FORMS, script, &line, LIMIT, &record)?;
     check_reloads(&rt, alloc, &FORMS, script, &line, LIMIT, &record)
+}
+
+// All members a second time, with other values.
+#[test]
+fn forty_equal_hashes_twice(rt: HostRuntime) -> Result<(), Fail> {
+    let alloc = rt.alloc();
+    let once = forty(alloc, 0)?;
+    let mut line = String::from_str(alloc, once.strip_suffix('}').ok_or("no object")?)?;
+    for number in 0..40u8 {
+        line.push(',')?;
+        put_member(alloc, &mut line, number, number + 100)?;
+    }
+    line.push('}')?;
+    let script = r#"[["len",[]],["get",["AaAaAaAaAaAa"]]]"#;
+    let kept = format!(in alloc; r#"{{"replies":[40,[0]],"document":{once}}}"#)?;
+    check(
+        &rt,
+        alloc,
+        &[Form::Owned, Form::Borrowed],
+        script,
+        &line,
+        LIMIT,
+        &kept,
+    )?;
+    let whole = format!(in alloc; r#"{{"replies":[80,[0]],"document":{line}}}"#)?;
+    check(&rt, alloc, &[Form::Lazy], script, &line, LIMIT, &whole)?;
+    Ok(())
 }
 
 // Looks at what the call left of the document {"a":{"k":"old"}}, and at what it appended.

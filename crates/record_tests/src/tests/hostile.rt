@@ -1,0 +1,201 @@
+//! Lines that are made to mislead a reader of blocks, of levels or of hashes, by readers that give few bytes a read.
+use super::readers::{Pieces, run_on};
+use super::rows::worked_lines;
+use super::{FORMS, LIMIT, MOST_SPACES, Stream, expect, script_of, split_row};
+use sj_records::Form;
+use std::alloc::{AllocError, Global};
+use std::process::Abort;
+use std::test::Fail;
+
+// The most bytes that a reader gives a read.
+const STEPS: [usize; 3] = [1, 2, 63];
+
+const UNCLOSED: &str = r#"{"error":"Syntax","index":0,"character":null}"#;
+
+const NOT_UTF8: &str = r#"{"error":"InvalidUtf8","index":0,"character":null}"#;
+
+fn check(rt: &impl Abort, alloc: Global, lines: &Stream, depth: usize) {
+    for step in STEPS {
+        lines.check(rt, alloc, depth, step);
+    }
+}
+
+// Adds an array of one string, of so many letters and then these bytes. Its record is the fault, or has the line as document.
+fn add_string(
+    alloc: Global,
+    lines: &mut Stream,
+    letters: usize,
+    end: &[u8],
+    fault: Option<&str>,
+) -> Result<(), AllocError> {
+    let mut line = Vec::from_slice(alloc, b"[\"")?;
+    line.resize(letters + 2, b'a')?;
+    line.extend_from_slice(end)?;
+    line.extend_from_slice(b"\"]")?;
+    match fault {
+        Some(fault) => lines.add(0, &line, fault),
+        None => {
+            let text = std::str::from_utf8(&line).unwrap_or("no text");
+            let record = format!(in alloc; r#"{{"replies":[],"document":{text}}}"#)?;
+            lines.add(0, &line, &record)
+        }
+    }
+}
+
+// Runs of backslashes that end at each byte of three blocks: an odd one escapes the quote.
+#[test]
+fn runs_of_backslashes(rt: HostRuntime) -> Result<(), Fail> {
+    let alloc = rt.alloc();
+    let mut lines = Stream::new(alloc);
+    for letters in 0..=MOST_SPACES {
+        for (end, fault) in [
+            (r"", None),
+            (r"\", Some(UNCLOSED)),
+            (r"\\", None),
+            (r"\\\", Some(UNCLOSED)),
+            (r"\\\\", None),
+            (r"\\\\\", Some(UNCLOSED)),
+        ] {
+            add_string(alloc, &mut lines, letters, end.as_bytes(), fault)?;
+        }
+    }
+    check(&rt, alloc, &lines, LIMIT);
+    Ok(())
+}
+
+// A control character, a character of two bytes, and half of it.
+#[test]
+fn bytes_at_the_edges_of_blocks(rt: HostRuntime) -> Result<(), Fail> {
+    let alloc = rt.alloc();
+    let mut lines = Stream::new(alloc);
+    for letters in 0..=MOST_SPACES {
+        add_string(alloc, &mut lines, letters, b"\x1f", Some(UNCLOSED))?;
+        add_string(alloc, &mut lines, letters, b"\xc3\xa9", None)?;
+        add_string(alloc, &mut lines, letters, b"\xc3", Some(NOT_UTF8))?;
+    }
+    check(&rt, alloc, &lines, LIMIT);
+    Ok(())
+}
+
+// So many arrays, each in the one before.
+fn nested(alloc: Global, levels: usize) -> Result<Vec<u8>, AllocError> {
+    let mut line = Vec::new(alloc);
+    line.resize(levels, b'[')?;
+    for _ in 0..levels {
+        line.push(b']')?;
+    }
+    Ok(line)
+}
+
+// As many levels as the limit allows, and one more.
+#[test]
+fn levels_at_the_limit(rt: HostRuntime) -> Result<(), Fail> {
+    let alloc = rt.alloc();
+    for depth in [0, 1, 2, 1024] {
+        let mut lines = Stream::new(alloc);
+        if depth > 0 {
+            let line = nested(alloc, depth)?;
+            let text = std::str::from_utf8(&line)?;
+            let record = format!(in alloc; r#"{{"replies":[],"document":{text}}}"#)?;
+            lines.add(0, &line, &record)?;
+        }
+        let record = format!(in alloc; r#"{{"error":"Syntax","index":{depth},"character":"["}}"#)?;
+        lines.add(0, &nested(alloc, depth + 1)?, &record)?;
+        check(&rt, alloc, &lines, depth);
+    }
+    Ok(())
+}
+
+// The members `k0` to the one before `end`, with values from 0 on.
+fn put_members(alloc: Global, out: &mut String, end: usize) -> Result<(), AllocError> {
+    for number in 0..end {
+        if number > 0 {
+            out.push(',')?;
+        }
+        let member = format!(in alloc; r#""k{number}":{number}"#)?;
+        out.push_str(&member)?;
+    }
+    Ok(())
+}
+
+// About 32 keys, and the first one once more.
+#[test]
+fn first_key_again(rt: HostRuntime) -> Result<(), Fail> {
+    let alloc = rt.alloc();
+    for count in 31..=34usize {
+        let mut members = String::new(alloc);
+        put_members(alloc, &mut members, count)?;
+        let line = format!(in alloc; r#"{{{members},"k0":-1}}"#)?;
+        let kept = format!(in alloc; "{{\"replies\":[],\"document\":{{{members}}}}}\n")?;
+        for step in STEPS {
+            let forms = [Form::Owned, Form::Borrowed];
+            let bytes = line.as_bytes();
+            expect(&rt, alloc, &forms, "[]", bytes, LIMIT, step, &kept);
+        }
+    }
+    Ok(())
+}
+
+// A line that is cut behind each of its bytes.
+const CUT: &str = r#"
+ => {"error":"Eof","index":0,"character":null}
+{ => {"error":"Syntax","index":0,"character":"{"}
+{" => {"error":"Syntax","index":0,"character":null}
+{"a => {"error":"Syntax","index":0,"character":null}
+{"a" => {"error":"Syntax","index":1,"character":"\""}
+{"a": => {"error":"Syntax","index":4,"character":":"}
+{"a":[ => {"error":"Syntax","index":5,"character":"["}
+{"a":[1 => {"error":"Syntax","index":6,"character":"1"}
+{"a":[1] => {"error":"Syntax","index":7,"character":"]"}
+{"a":[1]} => {"replies":[],"document":{"a":[1]}}"#;
+
+#[test]
+fn cut_line(rt: HostRuntime) -> Result<(), Fail> {
+    let alloc = rt.alloc();
+    let mut lines = Stream::new(alloc);
+    for row in CUT.lines().skip(1) {
+        let (line, record) = split_row(row)?;
+        lines.add(0, line.as_bytes(), record)?;
+    }
+    check(&rt, alloc, &lines, LIMIT);
+    Ok(())
+}
+
+// What is written for a stream in pieces of `step` bytes.
+fn written(
+    rt: &impl Abort,
+    alloc: Global,
+    form: Form,
+    stream: &[u8],
+    step: usize,
+) -> Result<Vec<u8>, Fail> {
+    let script = script_of(alloc, "[]").ok().ok_or("no script")?;
+    let mut output = Vec::new(alloc);
+    let input = Pieces::new(stream, step);
+    let result = run_on(alloc, input, &mut output, &script, LIMIT, form);
+    assert_eq!(rt; result, Ok(()));
+    Ok(output)
+}
+
+// The worked lines, each cut behind each of its bytes: one record each, whatever a read gives.
+#[test]
+fn cut_lines(rt: HostRuntime) -> Result<(), Fail> {
+    let alloc = rt.alloc();
+    let mut stream = Vec::new(alloc);
+    for line in worked_lines() {
+        for end in 0..=line.len() {
+            stream.extend_from_slice(line.as_bytes().get(..end).unwrap_or_default())?;
+            stream.push(b'\n')?;
+        }
+    }
+    let count = |bytes: &[u8]| bytes.iter().filter(|byte| **byte == b'\n').count();
+    for form in FORMS {
+        let whole = written(&rt, alloc, form, &stream, 65536)?;
+        assert_eq!(rt; count(&whole), count(&stream));
+        for step in STEPS {
+            let records = written(&rt, alloc, form, &stream, step)?;
+            assert!(rt; records == whole);
+        }
+    }
+    Ok(())
+}
