@@ -30,14 +30,15 @@ fn count_nodes(
 #[test]
 fn stage_two_alone(rt: HostRuntime) -> Result<(), Fail> {
     let alloc = rt.alloc();
-    let nodes = count_nodes(alloc, &mut *b"[1,[2,3],4]", 2)?;
+    let mut text = *b"[1,[2,3],4]";
+    let nodes = count_nodes(alloc, &mut text, 2)?;
     expect_eq(&rt, nodes, Ok(6));
     let too_deep = DescentFault {
         kind: DescentKind::Syntax,
         index: 3,
         byte: b'[',
     };
-    let nodes = count_nodes(alloc, &mut *b"[1,[2,3],4]", 1)?;
+    let nodes = count_nodes(alloc, &mut text, 1)?;
     expect_eq(&rt, nodes, Err(too_deep));
     Ok(())
 }
