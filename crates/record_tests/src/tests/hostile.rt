@@ -1,6 +1,6 @@
 //! Lines that are made to mislead a reader of blocks, of levels or of hashes, by readers that give few bytes a read.
 use super::readers::{Pieces, run_on};
-use super::rows::worked_lines;
+use super::rows::ROWS;
 use super::{FORMS, LIMIT, MOST_SPACES, Stream, expect, script_of, split_row};
 use sj_records::Form;
 use std::alloc::{AllocError, Global};
@@ -182,7 +182,8 @@ fn written(
 fn cut_lines(rt: HostRuntime) -> Result<(), Fail> {
     let alloc = rt.alloc();
     let mut stream = Vec::new(alloc);
-    for line in worked_lines() {
+    for row in ROWS.lines().skip(1) {
+        let (line, _) = split_row(row)?;
         for end in 0..=line.len() {
             stream.extend_from_slice(line.as_bytes().get(..end).unwrap_or_default())?;
             stream.push(b'\n')?;

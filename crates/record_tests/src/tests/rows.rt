@@ -5,7 +5,7 @@ use std::process::Abort;
 use std::test::Fail;
 
 // Each row is a line and its record.
-const ROWS: &str = r#"
+pub(super) const ROWS: &str = r#"
 time => {"error":"ExpectedTrue","index":0,"character":"t"}
 [true, falsy] => {"error":"ExpectedFalse","index":7,"character":"f"}
  => {"error":"Eof","index":0,"character":null}
@@ -31,14 +31,6 @@ time => {"error":"ExpectedTrue","index":0,"character":"t"}
 [true"a"] => {"error":"ExpectedTrue","index":1,"character":"t"}
 [1"a"] => {"error":"InvalidNumber","index":1,"character":"1"}
 [-0, 1.50] => {"replies":[],"document":[0,1.50]}"#;
-
-// The lines of the rows.
-pub(super) fn worked_lines() -> impl Iterator<Item = &'static str> {
-    ROWS.lines()
-        .skip(1)
-        .filter_map(|row| row.split_once(" => "))
-        .map(|(line, _)| line)
-}
 
 // Lines whose strings end at the edge of a block of 64 bytes. In the first, bytes 63 and 64 are backslashes, and a bracket
 // stands in the string behind them. In the second, byte 63 is a backslash and byte 64 the quote that it escapes.
