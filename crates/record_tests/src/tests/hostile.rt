@@ -29,7 +29,9 @@ fn add_string(
     fault: Option<&str>,
 ) -> Result<(), AllocError> {
     let mut line = Vec::from_slice(alloc, b"[\"")?;
-    line.resize(letters + 2, b'a')?;
+    for _ in 0..letters {
+        line.push(b'a')?;
+    }
     line.extend_from_slice(end)?;
     line.extend_from_slice(b"\"]")?;
     match fault {
