@@ -10,3 +10,5 @@ pub mod Children
 pub mod Finding
 pub mod ChildTrees
 pub mod Beginnings
+pub mod Repeating
+pub mod NoRepeats

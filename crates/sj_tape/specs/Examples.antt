@@ -1,4 +1,4 @@
--- Worked values of `listing`, `tree_of`, `child_nodes`, `item_runs` and `member_runs`.
+-- Worked values of `listing`, `tree_of`, `child_nodes`, `item_runs`, `member_runs` and `repeated`.
 use Rattle.std.specs.Prelude.{◌≡◌, ◌*◌, refl, ℕ, pos, List, [], ◌∷◌, drop, None, Some, codes}
 use Rattle.std.specs.Borrow.{Bor}
 use Rattle.sj_base.specs.Containers.{members_len}
@@ -8,6 +8,7 @@ use Rattle.sj_base.specs.declared.static_node.StaticNode.TheVariants.{Null, I64,
 use Rattle.sj_tape.specs.Children.{item_runs, member_runs, child_nodes}
 use Rattle.sj_tape.specs.Listing.{null_entry, integer_entry, string_entry, list_entry, object_entry, listing}
 use Rattle.sj_tape.specs.Listed.{tree_of}
+use Rattle.sj_tape.specs.Repeats.{repeated}
 use Rattle.sj_tape.specs.declared.node.Node.{Node}
 use Rattle.sj_tape.specs.declared.node.Node.TheVariants.{String, Object, Array, Static}
 
@@ -94,3 +95,28 @@ two_listing = refl
 
 two_reads : 2 * members_len two ≡ 4
 two_reads = refl
+
+-- ---- the first repeated key
+
+abbrev number : Tree
+number = integer (pos 1)
+
+-- {"x":1,"x":1}
+abbrev x_twice : Tree
+x_twice = object (member (codes "x") number (member (codes "x") number no_members))
+
+-- {"a":{"x":1,"x":1},"a":1}
+inner_first : repeated (object (member (codes "a") x_twice (member (codes "a") number no_members))) ≡ Some (key (codes "a") ∷ [], codes "x")
+inner_first = refl
+
+-- {"a":1,"a":{"x":1,"x":1}}
+outer_first : repeated (object (member (codes "a") number (member (codes "a") x_twice no_members))) ≡ Some ([], codes "a")
+outer_first = refl
+
+-- [1,{"x":1,"x":1}]
+in_item : repeated (list (item number (item x_twice no_items))) ≡ Some (place 1 ∷ [], codes "x")
+in_item = refl
+
+-- {"a":{"a":1}}
+across_objects : repeated (object (member (codes "a") (object (member (codes "a") number no_members)) no_members)) ≡ None
+across_objects = refl

@@ -1,7 +1,8 @@
 -- Laws of listings, of the nodes that counts find, and of views.
-use Rattle.std.specs.Prelude.{◌≡◌, ℕ, List, ◌++◌, IfSome, option_map, bytes_eq}
+use Rattle.std.specs.Prelude.{◌≡◌, ◌↔◌, ℕ, List, ◌++◌, None, IfSome, option_map, bytes_eq}
 use Rattle.std.specs.List.{slice_get, find}
 use Rattle.sj_base.specs.Containers.{scalar_in}
+use Rattle.sj_base.specs.Keep.{IsKept}
 use Rattle.sj_base.specs.Path.{Part, key, child}
 use Rattle.sj_base.specs.Spelling.{Spells}
 use Rattle.sj_base.specs.Tree.{Tree, IsValidTree, AreValidItems, AreValidMembers}
@@ -11,6 +12,7 @@ use Rattle.sj_tape.specs.Children.{member_nodes, item_nodes, item_runs, member_r
 use Rattle.sj_tape.specs.Listing.{Entry, listing}
 use Rattle.sj_tape.specs.Listed.{IsTape, tree_of}
 use Rattle.sj_tape.specs.Nodes.{entries}
+use Rattle.sj_tape.specs.Repeats.{repeated}
 use Rattle.sj_tape.specs.Views.{nodes_tree, tape_tree, value_tree, array_items, object_members}
 use Rattle.sj_tape.specs.declared.array.Array.{Array}
 use Rattle.sj_tape.specs.declared.node.Node.{Node}
@@ -58,3 +60,7 @@ ObjectsAreValid = (o : Object) → AreValidMembers (object_members o)
 -- The text that `print` gives for the tree of a view spells that tree.
 abbrev pub ValuesPrintBack : (Tree → List ℕ) → Type 0
 ValuesPrintBack print = (v : Value) → Spells (print (value_tree v)) (value_tree v)
+
+-- A tree repeats no key exactly where `keep` leaves it as it is.
+abbrev pub RepeatsAndKeep : Type 0
+RepeatsAndKeep = (t : Tree) → (repeated t ≡ None) ↔ IsKept t

@@ -6,6 +6,7 @@ pub mod Views
 pub mod ByName
 pub mod Compare
 pub mod Counts
+pub mod Repeats
 pub mod Laws
 pub mod Examples
 pub mod inside

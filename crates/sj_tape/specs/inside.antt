@@ -2,3 +2,4 @@
 pub mod Invariants
 pub mod Leaves
 pub mod Passing
+pub mod Earlier

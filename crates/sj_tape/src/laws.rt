@@ -3,7 +3,7 @@
 //! Each law is the contract of a function that does nothing. [`find`] is the look-up.
 ghost use Rattle.sj_tape.specs.Laws.{ChildrenByCounts, SeenMembers, ItemsByPlace, MembersByKey};
 ghost use Rattle.sj_base.specs.Text.{text, pretty};
-ghost use Rattle.sj_tape.specs.Laws.{OneListing, ListingBack};
+ghost use Rattle.sj_tape.specs.Laws.{OneListing, ListingBack, RepeatsAndKeep};
 ghost use Rattle.sj_tape.specs.Laws.{TapesAreValid, ValuesAreValid, ArraysAreValid, ObjectsAreValid, ValuesPrintBack};
 
 pub use crate::find::find;
@@ -54,3 +54,8 @@ pub fn texts_of_values()
 {
     printing_reads_back();
 }
+
+/// A tree repeats no key exactly where keeping the first member of each key leaves it as it is.
+pub fn repeats_and_keep()
+    ensures { RepeatsAndKeep }
+{}

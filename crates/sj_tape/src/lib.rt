@@ -13,11 +13,13 @@ mod find;
 pub mod laws;
 mod node;
 pub mod object;
+mod repeat;
 mod tape;
 mod value;
 
 pub use array::Array;
 pub use node::Node;
 pub use object::Object;
+pub use repeat::{Repeat, RepeatPart};
 pub use tape::Tape;
 pub use value::Value;

@@ -2,6 +2,7 @@
 mod counts;
 mod nodes;
 mod objects;
+mod repeats;
 mod scans;
 mod shared;
 mod tapes;
