@@ -5,6 +5,7 @@ mod hostile;
 mod kept_buffers;
 mod readers;
 mod reloads;
+mod repeats;
 mod rows;
 mod undo;
 mod writes;

@@ -15,11 +15,17 @@ pub data Keeping : Type 0 where
   from_start : Keeping
   from_write : Keeping
 
+-- What becomes of a line whose document repeats a key in one of its objects: the script is run on it, or it is refused.
+pub data RepeatRule : Type 0 where
+  runs_on_repeats : RepeatRule
+  refuses_repeats : RepeatRule
+
 -- What is done to each line of a stream.
 pub record Job : Type 0 where
   pub script : List Step  -- the commands, in order
   pub limit : ℕ  -- the levels that a document may nest
   pub keeping : Keeping  -- how the document is kept meanwhile
+  pub repeats : RepeatRule  -- what becomes of repeated keys
 
 -- the document, and for each write that was not refused the tree on which it was tested, newest first
 pub record State : Type 0 where

@@ -1,5 +1,5 @@
 -- A second script continues the first.
-use Rattle.std.proofs.Common.{◌≡◌, false, List, [], ◌∷◌, Result, Ok, Err, sym, refl, ap, ap₂, subst, ◌∙◌, inl}
+use Rattle.std.proofs.Common.{◌≡◌, false, List, [], ◌∷◌, ◌++◌, Result, Ok, Err, sym, refl, ap, ap₂, subst, ◌∙◌, inl}
 use Rattle.sj_base.specs.Laws.{PrintsBack}
 use Rattle.std.specs.List.{AllByRecursion}
 use Rattle.sj_base.specs.Path.{Part, at}
@@ -11,8 +11,9 @@ use Rattle.sj_documents.specs.Step.{Job, State, Word, Rewrite, begun, start, bas
 use Rattle.sj_records.specs.Record.{record_of, outcome}
 use Rattle.sj_records.specs.Laws.{with_script, is_undo, ScriptsContinue}
 use Rattle.sj_records.proofs.Accepted.{accepted_sound}
+use Rattle.sj_records.proofs.KeptAlong.{taken_after}
 use Rattle.sj_records.proofs.Readable.{readable_after, started_again}
-use Rattle.sj_records.proofs.Reloaded.{same_replies, same_after, joined}
+use Rattle.sj_records.proofs.Reloaded.{same_replies, same_after, joined, taken}
 
 -- what commands other than `undo` do hangs on the tree of the state alone
 abbrev Alike : Tree × State → Tree × State → Type 0
@@ -52,7 +53,7 @@ module _ (job : Job) where
   alike_after s u (c ∷ cs) others is = let one = alike_step s u c others.0 is in alike_after (step job s c).1 (step job u c).1 cs others.1 one.1
 
 pub scripts_continue : PrintsBack text → ScriptsContinue
-scripts_continue prints job line t first second accepted others document short =
+scripts_continue prints job line t first second accepted others document none short =
     let s = after job (begun job t) first in
     let sound = accepted_sound first accepted in
     let readable = readable_after job t first sound (only_trees line t document.spells, document.shallow) in
@@ -62,6 +63,6 @@ scripts_continue prints job line t first second accepted others document short =
     ap₂ record_of
     (alike_replies job s again second others begins ∙ sym (same_replies job second again second))
     (alike_after job s again second others begins ∙ sym (ap (λ (u : State). u.tree) (same_after job second again second))) in (
-      inl (t, document, ap text (sym (joined job t first second))),
-      inl (s.tree, record { short = short; spells = prints s.tree readable.0; shallow = readable.1 }, ap text same),
+      inl (t, document, ap text (sym (taken (with_script job (first ++ second)) t none ∙ joined job t first second))),
+      inl (s.tree, record { short = short; spells = prints s.tree readable.0; shallow = readable.1 }, ap text (same ∙ sym (taken (with_script job second) s.tree (taken_after job t first sound none)))),
     )

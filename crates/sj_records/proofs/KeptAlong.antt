@@ -1,5 +1,5 @@
 -- Trees without repeated keys along an accepted script, and what does not hang on how repeated keys are kept.
-use Rattle.std.proofs.Common.{◌≡◌, ℕ, zero, suc, Bool, true, false, List, [], ◌∷◌, take, refl, sym, ap, ap₂, subst, ◌∙◌, inl, inr}
+use Rattle.std.proofs.Common.{◌≡◌, ℕ, zero, suc, Bool, true, false, List, [], ◌∷◌, take, Option, Some, None, refl, sym, ap, ap₂, subst, ◌∙◌, inl, inr}
 use Rattle.std.specs.Prelude.{◌||◌}
 use Rattle.std.specs.List.{AllByRecursion}
 use Rattle.sj_base.specs.Tree.{Tree, item}
@@ -7,9 +7,11 @@ use Rattle.sj_base.specs.Keep.{IsKept}
 use Rattle.sj_base.specs.Text.{text}
 use Rattle.sj_base.proofs.Keeping.{keeps_once}
 use Rattle.sj_scripts.specs.Command.{Step, get, contains, type_of, len, keys, insert, remove, push, pop, set_at, undo, reload, reload_pp}
-use Rattle.sj_documents.specs.Step.{Job, Keeping, from_start, from_write, State, start, begun, base, fits, fits_below, insertion, removal, pushing, popping, setting, write_at, settled, undone, step, replies, after}
-use Rattle.sj_records.specs.Record.{record_of, outcome}
-use Rattle.sj_records.specs.Laws.{is_write, has_dropped, BasesAreKept, TreesAreKept, FormsAgree}
+use Rattle.sj_documents.specs.Step.{Job, Keeping, from_start, from_write, RepeatRule, runs_on_repeats, refuses_repeats, State, start, begun, base, fits, fits_below, insertion, removal, pushing, popping, setting, write_at, settled, undone, step, replies, after}
+use Rattle.sj_tape.specs.Repeats.{Repetition, repeated}
+use Rattle.sj_tape.proofs.NoRepeats.{repeats_and_keep}
+use Rattle.sj_records.specs.Record.{record_of, outcome, repeat_record, refused_repeat, unless_refused, tree_record}
+use Rattle.sj_records.specs.Laws.{is_write, has_dropped, state_at, job_with, NoneIsRepeated, BasesAreKept, TreesAreKept, FormsAgree, RefusingFormsAgree}
 use Rattle.sj_documents.proofs.KeptChanges.{BothKept, settled_kept, insertion_kept, removal_kept, pushing_kept, popping_kept, setting_kept}
 use Rattle.sj_records.proofs.Accepted.{Sound, accepted_sound}
 
@@ -114,9 +116,6 @@ after_kept job s (c ∷ cs) sound h = after_kept job (step job s c).1 cs sound.1
 
 -- ---- how repeated keys are kept makes no difference to a kept tree
 
-abbrev job_with : List Step → ℕ → Keeping → Job
-job_with script limit keeping = record { script = script; limit = limit; keeping = keeping }
-
 same_base : (t : Tree) (a b : Keeping) → IsKept t → base t a ≡ base t b
 same_base t from_start from_start h = refl
 same_base t from_start from_write h = sym h
@@ -129,8 +128,12 @@ same_start t from_start from_write h = h
 same_start t from_write from_start h = sym h
 same_start t from_write from_write h = refl
 
-module _ (script : List Step) (limit : ℕ) (a b : Keeping) where
-  same_step : (s : State) (c : Step) → IsKept s.tree → step (job_with script limit a) s c ≡ step (job_with script limit b) s c
+start_kept : (t : Tree) (keeping : Keeping) → IsKept t → IsKept (start t keeping)
+start_kept t from_start h = keeps_once t
+start_kept t from_write h = h
+
+module _ (script : List Step) (limit : ℕ) (rule : RepeatRule) (a b : Keeping) where
+  same_step : (s : State) (c : Step) → IsKept s.tree → step (job_with script limit rule a) s c ≡ step (job_with script limit rule b) s c
   same_step s (get path) h = refl
   same_step s (contains path k) h = refl
   same_step s (type_of path) h = refl
@@ -145,34 +148,46 @@ module _ (script : List Step) (limit : ℕ) (a b : Keeping) where
   same_step s (pop path) h = ap (λ t. settled t s.bases (write_at t path popping)) (same_base s.tree a b h)
   same_step s (set_at path v) h = ap (λ t. settled t s.bases (write_at t path (setting (fits path v limit) v))) (same_base s.tree a b h)
 
-  same_replies : (s : State) (cs : List Step) → AllByRecursion Sound cs → BothKept s → replies (job_with script limit a) s cs ≡ replies (job_with script limit b) s cs
+  same_replies : (s : State) (cs : List Step) → AllByRecursion Sound cs → BothKept s → replies (job_with script limit rule a) s cs ≡ replies (job_with script limit rule b) s cs
   same_replies s [] sound h = refl
   same_replies s (c ∷ cs) sound h =
-      ap (λ (p : Tree × State). item p.0 (replies (job_with script limit a) p.1 cs)) (same_step s c h.0)
-      ∙ ap (item (step (job_with script limit b) s c).0) (same_replies (step (job_with script limit b) s c).1 cs sound.1 (step_kept (job_with script limit b) s c sound.0 h))
+      ap (λ (p : Tree × State). item p.0 (replies (job_with script limit rule a) p.1 cs)) (same_step s c h.0)
+      ∙ ap (item (step (job_with script limit rule b) s c).0) (same_replies (step (job_with script limit rule b) s c).1 cs sound.1 (step_kept (job_with script limit rule b) s c sound.0 h))
 
-  same_after : (s : State) (cs : List Step) → AllByRecursion Sound cs → BothKept s → after (job_with script limit a) s cs ≡ after (job_with script limit b) s cs
+  same_after : (s : State) (cs : List Step) → AllByRecursion Sound cs → BothKept s → after (job_with script limit rule a) s cs ≡ after (job_with script limit rule b) s cs
   same_after s [] sound h = refl
   same_after s (c ∷ cs) sound h =
-      ap (λ (p : Tree × State). after (job_with script limit a) p.1 cs) (same_step s c h.0)
-      ∙ same_after (step (job_with script limit b) s c).1 cs sound.1 (step_kept (job_with script limit b) s c sound.0 h)
+      ap (λ (p : Tree × State). after (job_with script limit rule a) p.1 cs) (same_step s c h.0)
+      ∙ same_after (step (job_with script limit rule b) s c).1 cs sound.1 (step_kept (job_with script limit rule b) s c sound.0 h)
 
-  start_kept : (t : Tree) (keeping : Keeping) → IsKept t → IsKept (start t keeping)
-  start_kept t from_start h = keeps_once t
-  start_kept t from_write h = h
-
-  same_outcome : (t : Tree) → AllByRecursion Sound script → IsKept t → outcome (job_with script limit a) t ≡ outcome (job_with script limit b) t
+  same_outcome : (t : Tree) → AllByRecursion Sound script → IsKept t → outcome (job_with script limit rule a) t ≡ outcome (job_with script limit rule b) t
   same_outcome t sound h =
-      let s = begun (job_with script limit b) t in
-      let first : begun (job_with script limit a) t ≡ s = ap (λ (u : Tree). record { tree = u; bases = [] }) (same_start t a b h) in
+      let s = begun (job_with script limit rule b) t in
+      let first : begun (job_with script limit rule a) t ≡ s = ap (λ (u : Tree). record { tree = u; bases = [] }) (same_start t a b h) in
       let good : BothKept s = (start_kept t b h, tt) in
-      ap (λ (s : State). record_of (replies (job_with script limit a) s script) (after (job_with script limit a) s script).tree) first
+      ap (λ (s : State). record_of (replies (job_with script limit rule a) s script) (after (job_with script limit rule a) s script).tree) first
       ∙ ap₂ (λ rs (s : State). record_of rs s.tree) (same_replies s script sound good) (same_after s script sound good)
 
+  same_record : (t : Tree) → AllByRecursion Sound script → IsKept t → tree_record (job_with script limit rule a) t ≡ tree_record (job_with script limit rule b) t
+  same_record t sound h = ap (unless_refused (refused_repeat rule t) repeat_record) (same_outcome t sound h)
+
 pub forms_agree : FormsAgree
-forms_agree script limit a b line bytes accepted kept (inl (t, document, is)) =
-    inl (t, document, is ∙ ap text (same_outcome script limit a b t (accepted_sound script accepted) (kept t document)))
-forms_agree script limit a b line bytes accepted kept (inr faulty) = inr faulty
+forms_agree script limit rule a b line bytes accepted kept (inl (t, document, is)) =
+    inl (t, document, is ∙ ap text (same_record script limit rule a b t (accepted_sound script accepted) (kept t document)))
+forms_agree script limit rule a b line bytes accepted kept (inr faulty) = inr faulty
+
+-- a tree that repeats no key, or is refused
+same_refusing : (script : List Step) (limit : ℕ) (a b : Keeping) (t : Tree) (o : Option Repetition) → repeated t ≡ o → AllByRecursion Sound script
+    → tree_record (job_with script limit refuses_repeats a) t ≡ tree_record (job_with script limit refuses_repeats b) t
+same_refusing script limit a b t None none sound = same_record script limit refuses_repeats a b t sound ((repeats_and_keep t).0 none)
+same_refusing script limit a b t (Some r) found sound =
+    ap (λ o. unless_refused o repeat_record (outcome (job_with script limit refuses_repeats a) t)) found
+    ∙ sym (ap (λ o. unless_refused o repeat_record (outcome (job_with script limit refuses_repeats b) t)) found)
+
+pub refusing_forms_agree : RefusingFormsAgree
+refusing_forms_agree script limit a b line bytes accepted (inl (t, document, is)) =
+    inl (t, document, is ∙ ap text (same_refusing script limit a b t (repeated t) refl (accepted_sound script accepted)))
+refusing_forms_agree script limit a b line bytes accepted (inr faulty) = inr faulty
 
 -- ---- trees and bases along a script
 
@@ -196,22 +211,43 @@ once_step job s c cs true writes sound sounds h hs rest =
     (λ e. kept.0, kept.1)
 once_step job s c cs false other sound sounds h hs rest = rest (step job s c).1 (other_bases job s c other hs)
 
-once : (limit : ℕ) (script : List Step) (s : State) (cs : List Step) → AllByRecursion Sound cs → AllByRecursion IsKept s.bases
-    → KeptOnce (has_dropped from_write cs) (after (job_with script limit from_write) s cs)
-once limit script s [] sound hs = (λ e. absurd cc, hs)
-once limit script s (c ∷ cs) sound hs =
-    once_step (job_with script limit from_write) s c cs (is_write c) refl sound.0 sound.1 (keeps_once s.tree) hs
-    (λ u kept. once limit script u cs sound.1 kept)
+once : (limit : ℕ) (rule : RepeatRule) (script : List Step) (s : State) (cs : List Step) → AllByRecursion Sound cs → AllByRecursion IsKept s.bases
+    → KeptOnce (has_dropped from_write cs) (after (job_with script limit rule from_write) s cs)
+once limit rule script s [] sound hs = (λ e. absurd cc, hs)
+once limit rule script s (c ∷ cs) sound hs =
+    once_step (job_with script limit rule from_write) s c cs (is_write c) refl sound.0 sound.1 (keeps_once s.tree) hs
+    (λ u kept. once limit rule script u cs sound.1 kept)
 
-along : (script : List Step) (limit : ℕ) (keeping : Keeping) (t : Tree) (n : ℕ) → AllByRecursion Sound script
-    → KeptOnce (has_dropped keeping (take n script)) (after (job_with script limit keeping) (begun (job_with script limit keeping) t) (take n script))
-along script limit from_start t n sound =
-    let kept = after_kept (job_with script limit from_start) (begun (job_with script limit from_start) t) (take n script) (take_sound n script sound) (keeps_once t, tt) in
+along : (script : List Step) (limit : ℕ) (rule : RepeatRule) (keeping : Keeping) (t : Tree) (n : ℕ) → AllByRecursion Sound script
+    → KeptOnce (has_dropped keeping (take n script)) (after (job_with script limit rule keeping) (begun (job_with script limit rule keeping) t) (take n script))
+along script limit rule from_start t n sound =
+    let kept = after_kept (job_with script limit rule from_start) (begun (job_with script limit rule from_start) t) (take n script) (take_sound n script sound) (keeps_once t, tt) in
     (λ e. kept.0, kept.1)
-along script limit from_write t n sound = once limit script (begun (job_with script limit from_write) t) (take n script) (take_sound n script sound) tt
+along script limit rule from_write t n sound = once limit rule script (begun (job_with script limit rule from_write) t) (take n script) (take_sound n script sound) tt
 
 pub bases_are_kept : BasesAreKept
-bases_are_kept job t n accepted = (along job.script job.limit job.keeping t n (accepted_sound job.script accepted)).1
+bases_are_kept job t n accepted = (along job.script job.limit job.repeats job.keeping t n (accepted_sound job.script accepted)).1
 
 pub trees_are_kept : TreesAreKept
-trees_are_kept job t n accepted dropped = (along job.script job.limit job.keeping t n (accepted_sound job.script accepted)).0 dropped
+trees_are_kept job t n accepted dropped = (along job.script job.limit job.repeats job.keeping t n (accepted_sound job.script accepted)).0 dropped
+
+-- ---- where repeated keys are refused
+
+still_taken : (rule : RepeatRule) (t u : Tree) → (IsKept t → IsKept u) → refused_repeat rule t ≡ None → refused_repeat rule u ≡ None
+still_taken runs_on_repeats t u stays none = refl
+still_taken refuses_repeats t u stays none = (repeats_and_keep u).1 (stays ((repeats_and_keep t).0 none))
+
+-- What a script comes to on a tree that isn't refused isn't refused.
+pub taken_after : (job : Job) (t : Tree) (cs : List Step) → AllByRecursion Sound cs → refused_repeat job.repeats t ≡ None → refused_repeat job.repeats (after job (begun job t) cs).tree ≡ None
+taken_after job t cs sound none =
+    still_taken job.repeats t (after job (begun job t) cs).tree (λ h. (after_kept job (begun job t) cs sound (start_kept t job.keeping h, tt)).0) none
+
+all_unrepeated : (ts : List Tree) → AllByRecursion IsKept ts → AllByRecursion (λ u. repeated u ≡ None) ts
+all_unrepeated [] h = tt
+all_unrepeated (t ∷ ts) h = ((repeats_and_keep t).1 h.0, all_unrepeated ts h.1)
+
+pub none_is_repeated : NoneIsRepeated
+none_is_repeated job t n accepted refuses none =
+    let kept = (repeats_and_keep t).0 (subst (λ (rule : RepeatRule). refused_repeat rule t ≡ None) refuses none) in
+    let along = after_kept job (begun job t) (take n job.script) (take_sound n job.script (accepted_sound job.script accepted)) (start_kept t job.keeping kept, tt) in
+    ((repeats_and_keep (state_at job t n).tree).1 along.0, all_unrepeated (state_at job t n).bases along.1)

@@ -2,14 +2,15 @@
 use Rattle.std.proofs.Common.{◌≡◌, ℕ, suc, ◌<◌, ◌≤◌, Bool, true, false, List, [], ◌∷◌, ◌++◌, length, Option, Some, None, codes, append_assoc, refl, sym, ap, ap₂, subst, ◌∙◌, arith}
 use Rattle.std.proofs.lemmas.List.{append-nil}
 use Rattle.sj_base.specs.Tree.{Tree, Items, no_items, item}
-use Rattle.sj_base.specs.Text.{text, more_items_text}
+use Rattle.sj_base.specs.Text.{quoted, text, items_text, more_items_text}
 use Rattle.sj_scripts.specs.declared.script.Command.{Command}
 use Rattle.sj_scripts.specs.Command.{Step, get, contains, type_of, len, keys, insert, remove, push, pop, set_at, undo, reload, reload_pp}
 use Rattle.sj_documents.specs.Step.{Job, Keeping, State, step, replies, after}
 use Rattle.sj_documents.specs.declared.inverse.Inverse.{Inverse}
 use Rattle.sj_records.specs.History.{StandFor, bare, Applied}
 use Rattle.sj_records.specs.Laws.{with_script}
-use Rattle.sj_records.specs.Record.{record_of}
+use Rattle.sj_tape.specs.Repeats.{Repetition}
+use Rattle.sj_records.specs.Record.{record_of, part_items, repeat_record}
 use Rattle.sj_scripts.specs.Script.{commands_view}
 use Rattle.sj_documents.specs.inside.Documents.{separator, items_left}
 use Rattle.sj_records.specs.inside.Reloads.{record_from, IsPrinted, Reloads, Runs}
@@ -153,3 +154,14 @@ left_len (Some left) = suc (length (commands_view left))
 pub fewer_left : (job : Job) (s : State) (cs : List Step) (b : Bool) (next : Option (List Command)) (history : List Inverse) (printed old new : List ℕ) (texts : List (List ℕ)) → Runs job s cs b next history printed old new texts → left_len next ≤ length cs
 fewer_left job s cs b None history printed old new texts done = omega arith
 fewer_left job s cs b (Some next) history printed old new texts more = let fewer = more.fewer in omega arith
+
+-- the record of a repeated key, piece by piece
+pub repeat_printed : (r : Repetition) (out opened path named key ended : List ℕ) → opened ≡ out ++ codes "{\"error\":\"RepeatedKey\",\"path\":[" → path ≡ opened ++ items_text (part_items r.0)
+    → named ≡ path ++ codes "],\"key\":" → key ≡ named ++ quoted r.1 → ended ≡ key ++ 0x7d ∷ [] → ended ≡ out ++ text (repeat_record r)
+repeat_printed r out opened path named key ended begins parts names shows ends =
+    let first = codes "{\"error\":\"RepeatedKey\",\"path\":[" in
+    let second = codes "],\"key\":" in
+    let items = items_text (part_items r.0) in
+    let pieces : ((((out ++ first) ++ items) ++ second) ++ quoted r.1) ++ 0x7d ∷ [] ≡ out ++ (first ++ (items ++ (second ++ (quoted r.1 ++ 0x7d ∷ [])))) = simp (append_assoc) in
+    let whole : text (repeat_record r) ≡ first ++ (items ++ (second ++ (quoted r.1 ++ 0x7d ∷ []))) = simp (append_assoc, append-nil) in
+    ends ∙ ap (λ bs. bs ++ 0x7d ∷ []) (shows ∙ ap (λ bs. bs ++ quoted r.1) (names ∙ ap (λ bs. bs ++ second) (parts ∙ ap (λ bs. bs ++ items) begins))) ∙ pieces ∙ ap (λ bs. out ++ bs) (sym whole)

@@ -5,7 +5,7 @@ use Rattle.std.specs.List.{AllByRecursion}
 use Rattle.std.specs.Fmt.{digits, digits_onto, digit_glyph, decimal}
 use Rattle.std.proofs.lemmas.Bool.{cond_both}
 use Rattle.sj_base.specs.Tree.{Tree, null, boolean, integer, decimal as a_decimal, string, list, object, Items, no_items, item, Members, no_members, member, IsValidTree}
-use Rattle.sj_base.specs.Path.{Part, key, member_at, child, at}
+use Rattle.sj_base.specs.Path.{Part, key, place, member_at, child, at}
 use Rattle.sj_base.specs.Containers.{items_len, members_len, members_in}
 use Rattle.sj_base.specs.Edit.{last_item}
 use Rattle.sj_base.specs.Names.{name_of}
@@ -19,7 +19,8 @@ use Rattle.sj_base.proofs.Trees.{only_trees}
 use Rattle.sj_base.proofs.Valid.{valid_when_kept, valid_part, valid_last, valid_put, valid_with_member, valid_dropped, valid_pushed, valid_popped}
 use Rattle.sj_scripts.specs.Command.{Step, get, contains, type_of, len, keys, insert, remove, push, pop, set_at, undo, reload, reload_pp, ◌>>=◌}
 use Rattle.sj_documents.specs.Step.{Job, Keeping, from_start, from_write, State, Word, Rewrite, start, begun, base, answer, part_at, reply_of, type_name, count, key_items, fits, fits_below, insertion, removal, pushing, popping, setting, write_at, settled, undone, rewritten, step, replies, after}
-use Rattle.sj_records.specs.Record.{record_of, character_of, fault_record}
+use Rattle.sj_records.specs.Record.{record_of, character_of, fault_record, part_tree, part_items, repeat_record, refused_repeat, unless_refused, outcome}
+use Rattle.sj_tape.specs.Repeats.{Repetition}
 use Rattle.sj_records.specs.Laws.{HoldsInState, NoLineFeed}
 use Rattle.sj_documents.proofs.Changes.{inserted, removed, pushed, popped, within, write_done}
 use Rattle.sj_records.proofs.Accepted.{Sound, accepted_sound}
@@ -214,6 +215,30 @@ module _ (text_visible : OneLine) where
       let first = pair_shown (codes "error") behind (visible_append (quoted (name_of e.error)) (0x2c ∷ index) (quoted_visible (name_of e.error)) (omega arith, middle)) in
       (omega arith, visible_append (quoted (codes "error") ++ 0x3a ∷ behind) (0x7d ∷ []) first (omega arith, tt))
 
+  part_shown : (part : Part) → Shown (part_tree part)
+  part_shown (key k) = quoted_visible k
+  part_shown (place n) = decimal_visible n
+
+  parts_shown : (path : List Part) → AllShown (part_items path)
+  parts_shown [] = tt
+  parts_shown (part ∷ path) = (part_shown part, parts_shown path)
+
+  repeat_shown : (r : Repetition) → Shown (repeat_record r)
+  repeat_shown r =
+      let name = quoted (codes "key") ++ 0x3a ∷ (quoted r.1 ++ []) in
+      let last : Visible name = pair_shown (codes "key") (quoted r.1 ++ []) (visible_append (quoted r.1) [] (quoted_visible r.1) tt) in
+      let shown = text (list (part_items r.0)) in
+      let path = quoted (codes "path") ++ 0x3a ∷ (shown ++ 0x2c ∷ name) in
+      let middle : Visible path = pair_shown (codes "path") (shown ++ 0x2c ∷ name) (visible_append shown (0x2c ∷ name) (list_shown (part_items r.0) (parts_shown r.0)) (omega arith, last)) in
+      let behind = quoted (codes "RepeatedKey") ++ 0x2c ∷ path in
+      let first = pair_shown (codes "error") behind (visible_append (quoted (codes "RepeatedKey")) (0x2c ∷ path) (quoted_visible (codes "RepeatedKey")) (omega arith, middle)) in
+      (omega arith, visible_append (quoted (codes "error") ++ 0x3a ∷ behind) (0x7d ∷ []) first (omega arith, tt))
+
+  -- what a job makes of a tree
+  taken_shown : (o : Option Repetition) (t : Tree) → Shown t → Shown (unless_refused o repeat_record t)
+  taken_shown None t h = h
+  taken_shown (Some r) t h = repeat_shown r
+
   visible_free : (bytes : List ℕ) → Visible bytes → AllByRecursion (λ b. b ≢ 0x0a) bytes
   visible_free bytes h = AllByRecursion-weaker (λ b. 0x20 ≤ b) (λ b. b ≢ 0x0a) (λ b low is. omega arith) bytes h
 
@@ -222,5 +247,5 @@ module _ (text_visible : OneLine) where
       let sound = accepted_sound job.script accepted in
       let s = begun job t in
       let valid : AllValid s = (start_valid t job.keeping (only_trees line t document.spells), tt) in
-      visible_free bytes (subst Visible (sym is) (record_shown (replies job s job.script) (after job s job.script).tree (replies_shown job s job.script sound valid) (after_valid job s job.script sound valid).0))
+      visible_free bytes (subst Visible (sym is) (taken_shown (refused_repeat job.repeats t) (outcome job t) (record_shown (replies job s job.script) (after job s job.script).tree (replies_shown job s job.script sound valid) (after_valid job s job.script sound valid).0)))
   no_line_feed job line bytes accepted (inr (e, fault, is)) = visible_free bytes (subst Visible (sym is) (fault_shown e))

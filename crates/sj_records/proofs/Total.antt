@@ -10,7 +10,7 @@ use Rattle.sj_base.proofs.Meanings.{same_tree}
 use Rattle.sj_documents.specs.Step.{Job}
 use Rattle.sj_scripts.specs.Command.{json, commands_of}
 use Rattle.sj_scripts.specs.Reading.{ComesOf}
-use Rattle.sj_records.specs.Record.{fault_record, outcome, AreRecords}
+use Rattle.sj_records.specs.Record.{fault_record, tree_record, AreRecords}
 use Rattle.sj_scripts.specs.Script.{script_limit}
 use Rattle.sj_records.specs.Laws.{ExactlyOne, OneRecord, OneReading}
 
@@ -38,7 +38,7 @@ module _ {A : Type 0} (g : Tree → A) (h : Error → A) (line : List ℕ) (limi
   one_outcome = let some = some_outcome (fault line limit) refl in (some.0, some.1, λ y read. same_outcome some.0 y some.1 read)
 
 pub one_record : OneRecord
-one_record job line = one_outcome (λ t. text (outcome job t)) (λ e. text (fault_record e)) line job.limit
+one_record job line = one_outcome (λ t. text (tree_record job t)) (λ e. text (fault_record e)) line job.limit
 
 pub one_reading : OneReading
 one_reading bytes = one_outcome commands_of (λ e. Err (json e)) bytes script_limit

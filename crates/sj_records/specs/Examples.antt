@@ -12,12 +12,12 @@ use Rattle.sj_base.specs.declared.error.ErrorType.TheVariants.{Eof, ExpectedTrue
 use Rattle.sj_records.specs.Lines.{lines}
 use Rattle.sj_scripts.specs.Command.{Step, get, contains, type_of, len, keys, insert, remove, push, pop, set_at, undo, reload, reload_pp}
 use Rattle.sj_documents.specs.Inverse.{drop_item, set_part}
-use Rattle.sj_documents.specs.Step.{Job, Keeping, from_start, from_write, begun, after}
+use Rattle.sj_documents.specs.Step.{Job, Keeping, from_start, from_write, runs_on_repeats, refuses_repeats, begun, after}
 use Rattle.sj_parse.specs.Descent.{value}
 use Rattle.sj_parse.specs.Fault.{generic}
 use Rattle.sj_records.specs.History.{bases_from}
-use Rattle.sj_records.specs.Record.{outcome, IsRecord}
-use Rattle.sj_records.specs.Texts.{reloads}
+use Rattle.sj_records.specs.Record.{outcome, tree_record, IsRecord}
+use Rattle.sj_records.specs.Texts.{reloads, rereads}
 use Rattle.sj_scripts.specs.Examples.{one, two, word, number, empty_list, empty_object, repeated_key, a_is_1}
 
 -- lines
@@ -43,7 +43,7 @@ empty_line_between = refl
 -- records of documents
 
 abbrev job : Keeping → ℕ → List Step → Job
-job keeping limit script = record { script = script; limit = limit; keeping = keeping }
+job keeping limit script = record { script = script; limit = limit; keeping = keeping; repeats = runs_on_repeats }
 
 -- the script on documents whose repeats are dropped at the start
 abbrev owned : List Step → Job
@@ -234,6 +234,33 @@ bases_of_writes = refl
 
 bases_of_owned : (after (owned []) (begun (owned []) a_is_1) (set_at [] null ∷ get [] ∷ set_at [] empty_list ∷ [])) ≡ record { tree = empty_list; bases = null ∷ a_is_1 ∷ [] }
 bases_of_owned = refl
+
+-- repeated keys that are refused, in any form
+
+abbrev refusing : Keeping → List Step → Job
+refusing keeping script = record { script = script; limit = 1024; keeping = keeping; repeats = refuses_repeats }
+
+-- [7,{"a":[{"a":1,"a":2}],"a":7}]
+abbrev repeats_inside : Tree
+repeats_inside = list (two (number 7) (object (member (codes "a") (list (one repeated_key)) (member (codes "a") (number 7) no_members))))
+
+repeats_named : text (tree_record (refusing from_write reload_len) repeats_inside) ≡ codes "{\"error\":\"RepeatedKey\",\"path\":[1,\"a\",0],\"key\":\"a\"}"
+unfolding digits
+repeats_named = refl
+
+root_named : text (tree_record (refusing from_start []) repeated_key) ≡ codes "{\"error\":\"RepeatedKey\",\"path\":[],\"key\":\"a\"}"
+root_named = refl
+
+nothing_reread : rereads (refusing from_write reload_len) repeated_key ≡ []
+nothing_reread = refl
+
+nothing_repeated : text (tree_record (refusing from_start (len [] ∷ [])) a_is_1) ≡ codes "{\"replies\":[1],\"document\":{\"a\":1}}"
+unfolding digits
+nothing_repeated = refl
+
+-- and that are kept
+repeats_kept : tree_record (lazy reload_len) repeated_key ≡ outcome (lazy reload_len) repeated_key
+repeats_kept = refl
 
 -- lines that are no documents, and their records
 

@@ -9,7 +9,7 @@ use Rattle.sj_scripts.specs.Command.{Step, insert, remove, push, pop, set_at, un
 use Rattle.sj_documents.specs.Inverse.{Change, drop_item, place_at, back, insertion_back, removal_back, popping_back, setting_back}
 use Rattle.sj_documents.specs.Inverses.{change_view, Settles, TakesBack}
 use Rattle.sj_scripts.specs.Script.{path_view}
-use Rattle.sj_documents.specs.Step.{Job, Keeping, State, Rewrite, start, base, fits, fits_below, insertion, removal, pushing, popping, setting, step}
+use Rattle.sj_documents.specs.Step.{Job, Keeping, runs_on_repeats, State, Rewrite, start, base, fits, fits_below, insertion, removal, pushing, popping, setting, step}
 use Rattle.sj_documents.specs.declared.inverse.Inverse.{Inverse}
 
 -- ---- what a command leaves of a document and its history, whose newest inverse stands last
@@ -35,9 +35,9 @@ UndoLeaves (Err e) keeping t u history after old new =
     × ((u ≡ t)
     ⊎ ((inverse : Inverse) × (front : List Inverse) × (history ≡ front ++ inverse ∷ []) × TakesBack (Err e) keeping t u (path_view inverse.path.items) (change_view inverse.change)))
 
--- what commands are run under, without their script
+-- what commands are run under, without their script; `step` doesn't look at the rule for repeated keys
 abbrev pub bare : Keeping → ℕ → Job
-bare keeping limit = record { script = []; limit = limit; keeping = keeping }
+bare keeping limit = record { script = []; limit = limit; keeping = keeping; repeats = runs_on_repeats }
 
 -- Any other command leaves both.
 abbrev pub ReadLeaves : {E : Type 0} → Result Unit E → Keeping → ℕ → Tree → Tree → List Inverse → List Inverse → List ℕ → List ℕ → Step → Type 0

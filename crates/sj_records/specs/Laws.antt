@@ -1,6 +1,6 @@
 -- Laws of the definitions: each line has one record, any bytes are read as a script in one way, the depth limit holds along a
--- script, a second script continues the first, and a reload changes nothing.
-use Rattle.std.specs.Prelude.{◌≡◌, ◌≢◌, ℕ, ◌≤◌, Bool, true, false, ◌||◌, List, [], ◌∷◌, ◌++◌, length, take, Option, Some, Ok, ⊤}
+-- script, no key is repeated along it where that is refused, a second script continues the first, and a reload changes nothing.
+use Rattle.std.specs.Prelude.{◌≡◌, ◌≢◌, ℕ, ◌≤◌, Bool, true, false, ◌||◌, List, [], ◌∷◌, ◌++◌, length, take, Option, Some, None, Ok, ⊤}
 use Rattle.std.specs.declared.alloc.AllocError.{AllocError}
 use Rattle.std.specs.List.{AllByRecursion}
 use Rattle.sj_base.specs.Tree.{Tree, Items, no_items, item, depth}
@@ -10,10 +10,11 @@ use Rattle.sj_base.specs.Text.{text}
 use Rattle.sj_base.specs.declared.error.Error.{Error}
 use Rattle.sj_parse.specs.Fault.{fault}
 use Rattle.sj_scripts.specs.Command.{Step, insert, remove, push, pop, set_at, undo, reload, reload_pp}
-use Rattle.sj_documents.specs.Step.{Job, Keeping, from_start, from_write, State, begun, reload_reply, replies, after, Rewrite, reply_of, insertion, removal, pushing, popping, setting, write_at}
+use Rattle.sj_documents.specs.Step.{Job, Keeping, from_start, from_write, RepeatRule, refuses_repeats, State, begun, reload_reply, replies, after, Rewrite, reply_of, insertion, removal, pushing, popping, setting, write_at}
 use Rattle.sj_documents.specs.Inverse.{Change, drop_item, place_in, back, insertion_back, removal_back, popping_back, setting_back}
 use Rattle.sj_base.specs.Path.{Part, at}
-use Rattle.sj_records.specs.Record.{IsRecord, record_of, fault_record}
+use Rattle.sj_tape.specs.Repeats.{Repetition, repeated}
+use Rattle.sj_records.specs.Record.{IsRecord, record_of, repeat_record, refused_repeat, fault_record}
 use Rattle.sj_scripts.specs.Script.{IsReadAs, IsAccepted}
 use Rattle.sj_documents.specs.declared.inverse.Inverse.{Inverse}
 use Rattle.sj_records.specs.History.{CommandLeaves, StandFor, Applied}
@@ -22,7 +23,7 @@ use Rattle.sj_records.specs.History.{CommandLeaves, StandFor, Applied}
 abbrev pub ExactlyOne : {A : Type 0} → (A → Type 0) → Type 0
 ExactlyOne {A} P = (x : A) × P x × ((y : A) → P y → y ≡ x)
 
--- Each line has exactly one record under each job: script, limit and form.
+-- Each line has exactly one record under each job: script, limit, form and rule for repeated keys.
 abbrev pub OneRecord : Type 0
 OneRecord = (job : Job) (line : List ℕ) → ExactlyOne (IsRecord job line)
 
@@ -63,11 +64,24 @@ BasesAreKept = (job : Job) (t : Tree) (n : ℕ) → IsAccepted job.script → Al
 abbrev pub TreesAreKept : Type 0
 TreesAreKept = (job : Job) (t : Tree) (n : ℕ) → IsAccepted job.script → has_dropped job.keeping (take n job.script) ≡ true → IsKept (state_at job t n).tree
 
+-- Where repeated keys are refused and the tree of a line repeats none, no tree and no base along an accepted script repeats one.
+abbrev pub NoneIsRepeated : Type 0
+NoneIsRepeated = (job : Job) (t : Tree) (n : ℕ) → IsAccepted job.script → job.repeats ≡ refuses_repeats → refused_repeat job.repeats t ≡ None → HoldsInState (λ u. repeated u ≡ None) (state_at job t n)
+
+abbrev pub job_with : List Step → ℕ → RepeatRule → Keeping → Job
+job_with script limit rule keeping = record { script = script; limit = limit; keeping = keeping; repeats = rule }
+
 -- Where the tree of a line repeats no key, its records under an accepted script are the same, however repeated keys are kept.
 abbrev pub FormsAgree : Type 0
 FormsAgree =
-    (script : List Step) (limit : ℕ) (a b : Keeping) (line bytes : List ℕ) → IsAccepted script → ((t : Tree) → Document line limit t → IsKept t)
-    → IsRecord (record { script = script; limit = limit; keeping = a }) line bytes → IsRecord (record { script = script; limit = limit; keeping = b }) line bytes
+    (script : List Step) (limit : ℕ) (rule : RepeatRule) (a b : Keeping) (line bytes : List ℕ) → IsAccepted script → ((t : Tree) → Document line limit t → IsKept t)
+    → IsRecord (job_with script limit rule a) line bytes → IsRecord (job_with script limit rule b) line bytes
+
+-- Where repeated keys are refused, the records of any line under an accepted script are the same, however repeated keys are kept.
+abbrev pub RefusingFormsAgree : Type 0
+RefusingFormsAgree =
+    (script : List Step) (limit : ℕ) (a b : Keeping) (line bytes : List ℕ) → IsAccepted script
+    → IsRecord (job_with script limit refuses_repeats a) line bytes → IsRecord (job_with script limit refuses_repeats b) line bytes
 
 -- No record under an accepted script holds a line feed.
 abbrev pub NoLineFeed : Type 0
@@ -75,7 +89,7 @@ NoLineFeed = (job : Job) (line bytes : List ℕ) → IsAccepted job.script → I
 
 -- the job with another script
 abbrev pub with_script : Job → List Step → Job
-with_script job cs = record { script = cs; limit = job.limit; keeping = job.keeping }
+with_script job cs = record { script = cs; limit = job.limit; keeping = job.keeping; repeats = job.repeats }
 
 -- items, and others behind them
 abbrev pub items_then : Items → Items → Items
@@ -91,11 +105,11 @@ abbrev pub is_undo : Step → Bool
 is_undo undo = true
 is_undo _ = false
 
--- A second script without `undo` on the text that the first comes to, as a line, gives what it gives behind the first: the same replies and the
--- same document.
+-- A second script without `undo` on the text that the first comes to, as a line, gives what it gives behind the first, by the same rule
+-- for repeated keys: the same replies and the same document, unless the first line is refused.
 abbrev pub ScriptsContinue : Type 0
 ScriptsContinue =
-    (job : Job) (line : List ℕ) (t : Tree) (first second : List Step) → IsAccepted first → AllByRecursion (λ c. is_undo c ≡ false) second → Document line job.limit t →
+    (job : Job) (line : List ℕ) (t : Tree) (first second : List Step) → IsAccepted first → AllByRecursion (λ c. is_undo c ≡ false) second → Document line job.limit t → refused_repeat job.repeats t ≡ None →
     let s = after job (begun job t) first in
     let rest = replies job s second in
     let last = (after job s second).tree in
@@ -104,17 +118,19 @@ ScriptsContinue =
     × IsRecord (with_script job second) (text s.tree) (text (record_of rest last))
 
 -- With the reload c, whose text is `print`, between other commands, the record of a document has one reply more than without it.
--- The other replies and the document are the same. A record of a fault stays as it is.
+-- The other replies and the document are the same. A record of a repeated key or of a fault stays as it is.
 abbrev pub ChangesNothing : Step → (Tree → List ℕ) → Type 0
 ChangesNothing c print =
     (job : Job) (line : List ℕ) (before behind : List Step) →
-    ((t : Tree) → Document line job.limit t →
+    ((t : Tree) → Document line job.limit t → refused_repeat job.repeats t ≡ None →
     let s = after job (begun job t) before in
     let first = replies job (begun job t) before in
     let rest = replies job s behind in
     let last = (after job s behind).tree in
     IsRecord (with_script job (before ++ behind)) line (text (record_of (items_then first rest) last))
     × IsRecord (with_script job (before ++ c ∷ behind)) line (text (record_of (items_then first (item (reload_reply (print s.tree)) rest)) last)))
+    × ((t : Tree) (r : Repetition) → Document line job.limit t → refused_repeat job.repeats t ≡ Some r →
+    IsRecord (with_script job (before ++ behind)) line (text (repeat_record r)) × IsRecord (with_script job (before ++ c ∷ behind)) line (text (repeat_record r)))
     × ((e : Error) → fault line job.limit ≡ Some e →
     IsRecord (with_script job (before ++ behind)) line (text (fault_record e)) × IsRecord (with_script job (before ++ c ∷ behind)) line (text (fault_record e)))
 

@@ -2,13 +2,14 @@
 use Rattle.std.specs.Prelude.{◌≡◌, ℕ, ◌≤◌, nat_le, Bool, true, false, List, [], ◌∷◌, ◌++◌, length, map, Option}
 use Rattle.sj_base.specs.Spelling.{longest}
 use Rattle.sj_base.specs.Text.{text, pretty}
+use Rattle.sj_base.specs.Tree.{Tree}
 use Rattle.sj_parse.specs.Answers.{scanned, buffer_texts, buffer_positions}
 use Rattle.sj_parse.specs.declared.buffers.Buffers.{Buffers}
 use Rattle.sj_scripts.specs.Command.{Step, reload, reload_pp}
 use Rattle.sj_scripts.specs.Reading.{ComesOf}
 use Rattle.sj_documents.specs.Step.{Job, State, begun, step}
 use Rattle.sj_records.specs.Lines.{lines}
-use Rattle.sj_records.specs.Record.{IsOutput}
+use Rattle.sj_records.specs.Record.{refused_repeat, unless_refused, IsOutput}
 use Rattle.sj_records.specs.Run.{Transfers}
 
 -- ---- which texts are read
@@ -29,9 +30,14 @@ abbrev pub reloads : Job → State → List Step → List (List ℕ)
 reloads job s [] = []
 reloads job s (c ∷ cs) = reread s c ++ reloads job (step job s c).1 cs
 
--- The texts that are read for a line: the line itself, and where it is a document, those that the script's reloads read.
+-- those that the script's reloads read on a line's tree: none if the tree is refused
+abbrev pub rereads : Job → Tree → List (List ℕ)
+rereads job t = unless_refused (refused_repeat job.repeats t) (λ r. []) (reloads job (begun job t) job.script)
+
+-- The texts that are read for a line: the line itself, and where it is a document that isn't refused, those that the script's reloads
+-- read.
 abbrev pub AreTextsOf : Job → List ℕ → List (List ℕ) → Type 0
-AreTextsOf job line texts = ComesOf (λ t. line ∷ reloads job (begun job t) job.script) (λ e. line ∷ []) line job.limit texts
+AreTextsOf job line texts = ComesOf (λ t. line ∷ rereads job t) (λ e. line ∷ []) line job.limit texts
 
 -- the texts of these lines, in order
 abbrev pub AreTexts : Job → List (List ℕ) → List (List ℕ) → Type 0

@@ -9,6 +9,7 @@ ghost use Rattle.sj_records.specs.Texts.{HasReadLines, HasReadStream};
 ghost use Rattle.sj_records.specs.inside.Progress.{HasNoLineFeed, LeavesLines, LeavesBytes, task_job};
 
 use crate::form::Form;
+use crate::repeats::Repeats;
 use crate::run_error::RunError;
 use crate::task::{Scratch, Task, make_record};
 use sj_base::{Output, Sink, Source, WriteFault};
@@ -249,9 +250,10 @@ fn run_within<R: Source, W: Sink>(
 
 /// Runs a script on each line of a stream, and writes one record for each line, in order.
 ///
-/// The record of a JSON document that nests at most `depth` levels has the replies to the script's commands and
-/// the document after them. The record of any other line says why it is not a document. An interrupted read is tried
-/// again; an interrupted write is not. Nothing is flushed. The recursion is as deep as a line's document nests.
+/// The record of a JSON document that nests at most `depth` levels has the replies to the script's commands and the document
+/// after them. With `Repeats::Refuse` the script doesn't run on a document that repeats a key, and the record names the
+/// first such key. The record of any other line says why it is not a document. An interrupted read is tried again; an
+/// interrupted write is not. Nothing is flushed. The recursion is as deep as a line's document nests.
 ///
 /// # Errors
 ///
@@ -263,11 +265,12 @@ pub fn run<R: Source, W: Sink>(
     script: &Script,
     depth: usize,
     form: Form,
+    repeats: Repeats,
 ) -> Result<(), RunError>
     // What is written, by the result.
     ensures stands { Transfers (R.remaining reader.old) (R.remaining reader.new)
         (W.contents writer.old) (W.contents writer.new)
-        (LeavesOutput result (job_of script.now depth form)) }
+        (LeavesOutput result (job_of script.now depth form repeats)) }
     ensures at_end { OnOk result (IsAtEnd (R.remaining reader.new)) }
 
     // When each result comes, by the calls of the reader and the writer.
@@ -276,7 +279,7 @@ pub fn run<R: Source, W: Sink>(
     ensures writes { WritesFor result (W.calls writer.old) (W.calls writer.new) }
 {
     let mut buffers = Buffers::with_max_depth(alloc, 0, depth)?;
-    run_with(alloc, reader, writer, script, form, &mut buffers)
+    run_with(alloc, reader, writer, script, form, &mut buffers, repeats)
 }
 
 /// Does what [`run`] does, under the limit of levels of the buffers, whose room is used for each line. Runs that use the same
@@ -295,15 +298,16 @@ pub fn run_with<R: Source, W: Sink>(
     script: &Script,
     form: Form,
     buffers: &mut Buffers,
+    repeats: Repeats,
 ) -> Result<(), RunError>
     // As of `run`, with the limit of the buffers in the place of `depth`.
     ensures stands { Transfers (R.remaining reader.old) (R.remaining reader.new)
         (W.contents writer.old) (W.contents writer.new)
-        (LeavesOutput result (job_of script.now (buffer_limit buffers.old) form)) }
+        (LeavesOutput result (job_of script.now (buffer_limit buffers.old) form repeats)) }
     ensures at_end { OnOk result (IsAtEnd (R.remaining reader.new)) }
     // On `Ok`: the texts that the buffers have read, by their lengths, which are the lines and the texts of the reloads that
     // replied `true`, and what positions the last one left.
-    ensures texts { OnOk result (HasReadStream (job_of script.now (buffer_limit buffers.old) form)
+    ensures texts { OnOk result (HasReadStream (job_of script.now (buffer_limit buffers.old) form repeats)
         (R.remaining reader.old) (R.remaining reader.new) (W.contents writer.old) (W.contents writer.new)
         buffers.old buffers.new) }
     ensures reads { ReadsFor (2 ^ 62) result (R.calls reader.old) (R.calls reader.new) }
@@ -315,6 +319,7 @@ pub fn run_with<R: Source, W: Sink>(
         script,
         depth: buffers.max_depth(),
         form,
+        repeats,
     };
     run_within(alloc, reader, writer, buffers, task, MAX_READS)
 }

@@ -1,10 +1,10 @@
 //! Laws of the definitions: each function does nothing but call other laws, and its contract is the law.
-ghost use Rattle.sj_records.specs.Laws.{OneRecord, OneReading, DepthStays, BasesAreKept, TreesAreKept, FormsAgree, NoLineFeed, ChangesNothing, ScriptsContinue};
+ghost use Rattle.sj_records.specs.Laws.{OneRecord, OneReading, DepthStays, NoneIsRepeated, BasesAreKept, TreesAreKept, FormsAgree, RefusingFormsAgree, NoLineFeed, ChangesNothing, ScriptsContinue};
 ghost use Rattle.sj_records.specs.Laws.{InsertUndone, RemoveUndone, PushUndone, PopUndone, SetUndone, HistoriesStand};
 ghost use Rattle.sj_scripts.specs.Command.{reload, reload_pp};
 ghost use Rattle.sj_base.specs.Text.{text, pretty};
 
-/// Each line has exactly one record, whatever the script, the limit of levels and the form.
+/// Each line has exactly one record, whatever the script, the limit of levels, the form and the rule for repeated keys.
 pub fn one_record()
     ensures { OneRecord }
 {}
@@ -14,14 +14,18 @@ pub fn one_reading()
     ensures { OneReading }
 {}
 
-/// Along a script, each tree and each base nests at most as deep as the limit, if the line's tree does.
+/// Along a script, each tree and each base nests at most as deep as the limit, if the line's tree does. Where repeated keys are
+/// refused and the line isn't, none of them repeats a key, for any script that `Script::read` accepts.
 pub fn depth_stays()
-    ensures { DepthStays }
+    ensures depth { DepthStays }
+    ensures keys { NoneIsRepeated }
 {}
 
-/// A line whose document repeats no key has the same record in each form, for any script that `Script::read` accepts.
+/// A line whose document repeats no key has the same record in each form, for any script that `Script::read` accepts. Where
+/// repeated keys are refused, every line has, also one that repeats a key.
 pub fn forms_agree()
-    ensures { FormsAgree }
+    ensures kept { FormsAgree }
+    ensures refused { RefusingFormsAgree }
 {}
 
 /// Along a script that `Script::read` accepts, no base repeats a key, and no tree does once repeated keys have been dropped.
@@ -31,7 +35,8 @@ pub fn kept_along()
 {}
 
 /// A second script without `undo` continues the first: on the text that the first comes to, if it has at most 4294967295 bytes,
-/// it gives the replies and the document that it gives behind the first, under the same limit of levels and in the same form.
+/// it gives the replies and the document that it gives behind the first, under the same limit of levels, in the
+/// same form and by the same rule for repeated keys. This is said of a first line that isn't refused for a repeated key.
 pub fn scripts_continue()
     ensures { ScriptsContinue }
 {

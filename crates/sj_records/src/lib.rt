@@ -5,12 +5,14 @@ mod engine;
 mod form;
 mod history;
 pub mod laws;
+mod repeats;
 mod run_error;
 mod task;
 
 pub use engine::{run, run_with};
 pub use form::Form;
 pub use history::apply;
+pub use repeats::Repeats;
 pub use run_error::RunError;
 pub use sj_documents::{Change, Document, Inverse, LazyDocument};
 pub use sj_scripts::{Command, CommandFault, PathPart, Script, ScriptFault, ScriptValue};

@@ -1,25 +1,28 @@
 //! The record of one line, in bytes.
-ghost use Rattle.std.specs.Prelude.{◌≡◌, ◌≢◌, ℕ, nat_le, true, false, List, ◌∷◌, [], ◌++◌, length, Some, OnOk, IfOk, IfErr};
+ghost use Rattle.std.specs.Prelude.{◌≡◌, ◌≢◌, ℕ, nat_le, true, false, List, ◌∷◌, [], ◌++◌, length, map, Some, option_map, OnOk, IfOk, IfErr};
 ghost use Rattle.std.specs.Option.{option_copied};
 ghost use Rattle.sj_base.specs.Spelling.{longest};
 ghost use Rattle.sj_base.specs.Tree.{Tree};
 ghost use Rattle.sj_base.specs.Keep.{keep};
-ghost use Rattle.sj_base.specs.Text.{text as text_of};
+ghost use Rattle.sj_base.specs.Text.{text as text_of, items_text};
 ghost use Rattle.sj_parse.specs.Answers.{IsTapeOf, buffer_limit};
 ghost use Rattle.sj_parse.specs.Fault.{fault};
 ghost use Rattle.sj_records.specs.History.{StandFor, Applied};
-ghost use Rattle.sj_records.specs.Record.{IsRecord, outcome, fault_record, character_of};
-ghost use Rattle.sj_records.specs.Texts.{if_read, reread, reloads, HasRead, HasReadLines};
+ghost use Rattle.sj_records.specs.Record.{IsRecord, tree_record, outcome, repeat_record, refused_repeat, part_items, part_tree, fault_record, character_of};
+ghost use Rattle.sj_records.specs.Texts.{if_read, reread, reloads, rereads, HasRead, HasReadLines};
 ghost use Rattle.sj_owned.specs.Views.{value_tree};
 ghost use Rattle.sj_scripts.specs.Script.{command_view, commands_view};
 ghost use Rattle.sj_documents.specs.Step.{State, begun, start, reload_reply};
+ghost use Rattle.sj_tape.specs.Repeats.{part_view, repeat_view};
 ghost use Rattle.sj_tape.specs.Views.{tape_nodes, nodes_tree};
 ghost use Rattle.sj_scripts.specs.inside.ReadErrors.{IfRefused};
+ghost use Rattle.sj_records.specs.Job.{repeats_of};
 ghost use Rattle.sj_records.specs.inside.Progress.{task_job};
 ghost use Rattle.sj_records.specs.inside.Reloads.{IsReadable, IsPrinted, Runs};
 
 use crate::form::Form;
 use crate::history::{apply, put_bool};
+use crate::repeats::Repeats;
 use sj_base::laws::printing_reads_back;
 use sj_base::{DecimalBuf, DecimalCow, Error, put_int, put_string};
 use sj_documents::{Document, Inverse, LazyDocument, put_separator};
@@ -28,7 +31,7 @@ use sj_owned::{MakeLiteral, Value, build_tape, build_value};
 use sj_parse::laws::printed_texts;
 use sj_parse::{Buffers, fill_tape};
 use sj_scripts::{Command, MemoryOr, Script};
-use sj_tape::Tape;
+use sj_tape::{Repeat, RepeatPart, Tape};
 use std::alloc::{AllocError, Global};
 use std::borrow::CowStr;
 use std::mem;
@@ -40,6 +43,7 @@ pub(crate) struct Task<'s> {
     /// In levels.
     pub(crate) depth: usize,
     pub(crate) form: Form,
+    pub(crate) repeats: Repeats,
 }
 
 /// Room that is kept from one line to the next.
@@ -118,7 +122,7 @@ fn put_record<'de>(
     ensures limit { buffer_limit buffers.new ≡ buffer_limit buffers.old }
 {
     match read_tape(buffers, tape, line) {
-        Ok(()) => put_document_record(alloc, buffers, room, tape, task, out),
+        Ok(()) => put_tape_record(alloc, buffers, room, tape, task, out),
         Err(MemoryOr::Refused(fault)) => put_fault_record(fault, out),
         Err(MemoryOr::Memory) => Err(AllocError),
     }
@@ -148,7 +152,48 @@ fn read_tape<'de>(
     Ok(())
 }
 
-/// Appends the record of the document of a tape, in the task's form.
+/// Appends the record of a line that was read into the tape.
+fn put_tape_record(
+    alloc: Global,
+    buffers: &mut Buffers,
+    room: &mut Room,
+    tape: &mut Tape<'_>,
+    task: Task<'_>,
+    out: &mut Vec<u8>,
+) -> Result<(), AllocError>
+    requires limit { buffer_limit buffers.old ≡ task.depth }
+    requires new_line { room.old.history.items ≡ [] }
+    requires not_empty { tape_nodes tape.old ≢ [] }
+    requires readable { IsReadable task.depth (nodes_tree (tape_nodes tape.old)) }
+    ensures holds { OnOk result (out.new.items ≡ out.old.items
+        ++ text_of (tree_record (task_job task.entry) (nodes_tree (tape_nodes tape.old)))) }
+    ensures texts { OnOk result (HasRead buffers.old buffers.new
+        (rereads (task_job task.entry) (nodes_tree (tape_nodes tape.old)))) }
+    ensures limit { buffer_limit buffers.new ≡ buffer_limit buffers.old }
+{
+    match find_refused(alloc, tape, task.repeats)? {
+        Some(repeat) => put_repeat_record(&repeat, out),
+        None => put_document_record(alloc, buffers, room, tape, task, out),
+    }
+}
+
+/// Returns the first repeated key of the tape's document, if it is to be refused.
+fn find_refused<'de>(
+    alloc: Global,
+    tape: &Tape<'de>,
+    repeats: Repeats,
+) -> Result<Option<Repeat<'de>>, AllocError>
+    requires { tape_nodes tape.now ≢ [] }
+    ensures { IfOk result (λ found. option_map repeat_view found
+        ≡ refused_repeat (repeats_of repeats) (nodes_tree (tape_nodes tape.now))) }
+{
+    match repeats {
+        Repeats::Keep => Ok(None),
+        Repeats::Refuse => tape.as_value().first_repeat(alloc),
+    }
+}
+
+/// Appends the record of a document that isn't refused, in the task's form.
 fn put_document_record(
     alloc: Global,
     buffers: &mut Buffers,
@@ -360,6 +405,39 @@ fn put_fault_record(fault: Error, out: &mut Vec<u8>) -> Result<(), AllocError>
     put_character(fault.character(), out)?;
     out.push(b'}')?;
     Ok(())
+}
+
+fn put_repeat_record(repeat: &Repeat<'_>, out: &mut Vec<u8>) -> Result<(), AllocError>
+    ensures { OnOk result (out.new.items ≡ out.old.items ++ text_of (repeat_record (repeat_view repeat.now))) }
+{
+    out.extend_from_slice(b"{\"error\":\"RepeatedKey\",\"path\":[")?;
+    put_path(&repeat.path, out)?;
+    out.extend_from_slice(b"],\"key\":")?;
+    put_string(out, repeat.key)?;
+    out.push(b'}')?;
+    Ok(())
+}
+
+/// Appends the keys and places of a path.
+fn put_path(path: &[RepeatPart<'_>], out: &mut Vec<u8>) -> Result<(), AllocError>
+    ensures { OnOk result (out.new.items ≡ out.old.items ++ items_text (part_items (map part_view path.now))) }
+{
+    let mut is_first = true;
+    for part in path {
+        put_separator(is_first, out)?;
+        put_part(part, out)?;
+        is_first = false;
+    }
+    Ok(())
+}
+
+fn put_part(part: &RepeatPart<'_>, out: &mut Vec<u8>) -> Result<(), AllocError>
+    ensures { OnOk result (out.new.items ≡ out.old.items ++ text_of (part_tree (part_view part.now))) }
+{
+    match part {
+        RepeatPart::Key(key) => put_string(out, key),
+        RepeatPart::Item(place) => put_int(out, *place),
+    }
 }
 
 fn put_character(character: Option<char>, out: &mut Vec<u8>) -> Result<(), AllocError>

@@ -4,7 +4,7 @@ use super::readers::Pieces;
 use super::{FORMS, script_of};
 use sj_base::Counted;
 use sj_parse::Buffers;
-use sj_records::{Form, RunError, Script, run_with};
+use sj_records::{Form, Repeats, RunError, Script, run_with};
 use std::alloc::Global;
 use std::io::{Read, Write};
 use std::process::Abort;
@@ -20,7 +20,8 @@ fn run_with_on<I: Read + Drop, O: Write + Drop>(
 ) -> Result<(), RunError> {
     let mut source = Counted::new(input);
     let mut sink = Counted::new(output);
-    let result = run_with(alloc, &mut source, &mut sink, script, form, buffers);
+    let keep = Repeats::Keep;
+    let result = run_with(alloc, &mut source, &mut sink, script, form, buffers, keep);
     let _ = source.into_inner();
     let _ = sink.into_inner();
     result

@@ -2,7 +2,7 @@
 
 use super::{LIMIT, script_of};
 use sj_base::Counted;
-use sj_records::{Form, RunError, Script, run};
+use sj_records::{Form, Repeats, RunError, Script, run};
 use std::alloc::Global;
 use std::io;
 use std::io::{ErrorKind, Read, Write};
@@ -94,9 +94,21 @@ pub(super) fn run_on<I: Read + Drop, O: Write + Drop>(
     depth: usize,
     form: Form,
 ) -> Result<(), RunError> {
+    run_by(alloc, input, output, script, depth, form, Repeats::Keep)
+}
+
+pub(super) fn run_by<I: Read + Drop, O: Write + Drop>(
+    alloc: Global,
+    input: I,
+    output: &mut O,
+    script: &Script,
+    depth: usize,
+    form: Form,
+    repeats: Repeats,
+) -> Result<(), RunError> {
     let mut source = Counted::new(input);
     let mut sink = Counted::new(output);
-    let result = run(alloc, &mut source, &mut sink, script, depth, form);
+    let result = run(alloc, &mut source, &mut sink, script, depth, form, repeats);
     let _ = source.into_inner();
     let _ = sink.into_inner();
     result

@@ -14,7 +14,7 @@ abbrev pub HasNoLineFeed : List ℕ → Type 0
 HasNoLineFeed bs = AllByRecursion (λ b. b ≢ 0x0a) bs
 
 abbrev pub task_job : Task → Job
-task_job task = job_of task.script.now task.depth task.form
+task_job task = job_of task.script.now task.depth task.form task.repeats
 
 -- the records of these lines were written, and nothing else
 abbrev pub Wrote : Job → Option (List ℕ) → Option (List ℕ) → List (List ℕ) → Type 0

@@ -8,16 +8,15 @@ use Rattle.sj_parse.specs.Fault.{fault}
 use Rattle.sj_tape.specs.Nodes.{entries}
 use Rattle.sj_tape.specs.Views.{tape_nodes, nodes_tree}
 use Rattle.sj_tape.proofs.Listings.{tree_from}
-use Rattle.sj_records.specs.Record.{outcome, fault_record}
+use Rattle.sj_records.specs.Record.{tree_record, fault_record}
 use Rattle.sj_records.specs.inside.Progress.{task_job}
-use Rattle.sj_documents.specs.Step.{begun}
 use Rattle.sj_records.specs.inside.Reloads.{IsReadable}
-use Rattle.sj_records.specs.Texts.{reloads}
+use Rattle.sj_records.specs.Texts.{rereads}
 use Rattle.sj_records.proofs.Texts.{if_ok, HasRead-then, HasReadLines-one}
 use Rattle.sj_records.proofs.task.put_record.Goals as goal
 
-pub put_document_record-requires-clause-readable : goal.put_document_record-requires-clause-readable
-put_document_record-requires-clause-readable c =
+pub put_tape_record-requires-clause-readable : goal.put_tape_record-requires-clause-readable
+put_tape_record-requires-clause-readable c =
     let found = c.in-Ok.ensures.found in
     let nodes = tape_nodes c.read_tape.new.tape in
     let document = subst (λ (limit : ℕ). Document c.args.line.now limit found.0) c.requires.limit found.1 in
@@ -31,7 +30,7 @@ returns-in-Ok-clause-holds c =
     let nodes = tape_nodes c.read_tape.new.tape in
     let document = subst (λ (limit : ℕ). Document c.args.line.now limit found.0) c.requires.limit found.1 in
     let is : nodes_tree nodes ≡ found.0 = tree_from (entries nodes) found.0 found.2 in
-    on_ok_weaker c.put_document_record.result (λ put. (text (outcome job (nodes_tree nodes)), put, inl (found.0, document, ap (λ t. text (outcome job t)) is))) c.put_document_record.ensures.holds
+    on_ok_weaker c.put_tape_record.result (λ put. (text (tree_record job (nodes_tree nodes)), put, inl (found.0, document, ap (λ t. text (tree_record job t)) is))) c.put_tape_record.ensures.holds
 
 pub returns-in-Err-Refused-clause-holds : goal.returns-in-Err-Refused-clause-holds
 returns-in-Err-Refused-clause-holds c =
@@ -45,11 +44,11 @@ returns-in-Ok-clause-texts c =
     let line = c.args.line.now in
     let found = c.in-Ok.ensures.found in
     let nodes = tape_nodes c.read_tape.new.tape in
-    let texts = reloads job (begun job (nodes_tree nodes)) job.script in
+    let texts = rereads job (nodes_tree nodes) in
     let document = subst (λ (limit : ℕ). Document line limit found.0) c.requires.limit found.1 in
     let is : nodes_tree nodes ≡ found.0 = tree_from (entries nodes) found.0 found.2 in
-    on_ok_weaker c.put_document_record.result (λ read. HasReadLines-one job c.args.buffers.now c.put_document_record.new.buffers line (line ∷ texts) (inl (found.0, document, ap (λ t. line ∷ reloads job (begun job t) job.script) is))
-    (HasRead-then c.args.buffers.now c.read_tape.new.buffers c.put_document_record.new.buffers (line ∷ []) texts c.in-Ok.ensures.texts read)) c.put_document_record.ensures.texts
+    on_ok_weaker c.put_tape_record.result (λ read. HasReadLines-one job c.args.buffers.now c.put_tape_record.new.buffers line (line ∷ texts) (inl (found.0, document, ap (λ t. line ∷ rereads job t) is))
+    (HasRead-then c.args.buffers.now c.read_tape.new.buffers c.put_tape_record.new.buffers (line ∷ []) texts c.in-Ok.ensures.texts read)) c.put_tape_record.ensures.texts
 
 pub returns-in-Err-Refused-clause-texts : goal.returns-in-Err-Refused-clause-texts
 returns-in-Err-Refused-clause-texts c =
