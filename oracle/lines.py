@@ -3,9 +3,9 @@
 
     oracle/lines.py SEED LINES FOLDER
 
-It writes FOLDER/lines.jsonl, FOLDER/script.json, and FOLDER/arguments with a form and a depth. About half of the lines are
-documents. The others are documents with a few bytes changed, so that every fault but `InputTooLarge` comes up. A sixth of the
-scripts has a fault, too.
+It writes FOLDER/lines.jsonl, FOLDER/script.json, and FOLDER/arguments with a form, a depth and, for half of the seeds, a rule for
+repeated keys. About half of the lines are documents. The others are documents with a few bytes changed, so that every fault but
+`InputTooLarge` comes up. A sixth of the scripts has a fault, too.
 """
 
 import json
@@ -86,7 +86,7 @@ class Lines:
         return self.choice([b"[" * count + b"]" * count, b'{"a":' * count + b"1" + b"}" * count])
 
     def many_members(self):
-        count = self.choice([40, 192, 193, 194, 300])
+        count = self.choice([32, 33, 34, 40, 192, 193, 194, 300])
         keys = self.choice([count, count, count - 1, 30])
         return ("{" + ",".join(f'"k{i % keys}":{i}' for i in range(count)) + "}").encode()
 
@@ -143,7 +143,8 @@ def main():
     lines = Lines(seed)
     (folder / "script.json").write_bytes(lines.script())
     form, depth = lines.choice(["owned", "borrowed", "lazy"]), lines.choice([0, 1, 2, 3, 5, 1024])
-    (folder / "arguments").write_text(f"--form {form} --depth {depth}\n")
+    rule = lines.choice(["", "", " --repeats keep", " --repeats refuse"])
+    (folder / "arguments").write_text(f"--form {form} --depth {depth}{rule}\n")
     with open(folder / "lines.jsonl", "wb") as file:
         for number in range(count):
             ending = b"" if number + 1 == count and lines.chance(0.5) else b"\n"

@@ -1,7 +1,7 @@
 #!/usr/bin/env python3
 """What `records` has to write: its tables read a second time.
 
-    oracle/records.py [--form FORM] [--depth LEVELS] SCRIPT < lines.jsonl
+    oracle/records.py [--form FORM] [--depth LEVELS] [--repeats RULE] SCRIPT < lines.jsonl
 
 It was written from RFC 8259, the tables of README.md and the rules of docs/DECISIONS.md, and shares nothing with the crates. It
 is short and slow. It leaves out what needs more than 4294967295 bytes, what is refused before the script is read, and streams
@@ -431,12 +431,35 @@ class State:
         return compact(old)
 
 
-def record(line, script, form, limit):
+def first_repeat(tree, path=()):
+    """The path to the object of the first member whose key stands earlier in it, and the key; or None."""
+    if isinstance(tree, list):
+        parts = enumerate(tree)
+    elif isinstance(tree, Object):
+        parts = tree.members
+    else:
+        return None
+    earlier = set()
+    for step, part in parts:
+        if step in earlier:
+            return path, step
+        earlier.add(step)
+        found = first_repeat(part, (*path, step))
+        if found:
+            return found
+    return None
+
+
+def record(line, script, form, limit, refuses):
     try:
         tree = Reader(line, limit).document()
     except Fault as fault:
         character = "null" if fault.byte is None else quoted(chr(fault.byte))
         return f'{{"error":"{fault.kind}","index":{fault.index},"character":{character}}}'
+    repeat = first_repeat(tree) if refuses else None
+    if repeat:
+        path, key = repeat
+        return f'{{"error":"RepeatedKey","path":{compact([*path])},"key":{quoted(key)}}}'
     is_lazy = form == "lazy"
     state = State(tree if is_lazy else keep(tree), is_lazy, limit)
     replies = ",".join(state.reply(command) for command in script)
@@ -447,6 +470,7 @@ def main():
     parser = argparse.ArgumentParser()
     parser.add_argument("--form", choices=["owned", "borrowed", "lazy"], default="owned")
     parser.add_argument("--depth", type=int, default=1024)
+    parser.add_argument("--repeats", choices=["keep", "refuse"], default="keep")
     parser.add_argument("script")
     arguments = parser.parse_args()
     sys.setrecursionlimit(100_000)
@@ -459,8 +483,9 @@ def main():
     lines = sys.stdin.buffer.read().split(b"\n")
     if not lines[-1]:
         lines.pop()
+    refuses = arguments.repeats == "refuse"
     for line in lines:
-        sys.stdout.buffer.write(record(line, script, arguments.form, arguments.depth).encode() + b"\n")
+        sys.stdout.buffer.write(record(line, script, arguments.form, arguments.depth, refuses).encode() + b"\n")
     return 0
 
 

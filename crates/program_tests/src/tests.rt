@@ -22,6 +22,7 @@ Arguments:
 Options:
       --form <FORM>     The form of each document: owned, borrowed or lazy [default: owned]
       --depth <LEVELS>  The most levels that a document may nest, from 0 to 1024 [default: 1024]
+      --repeats <RULE>  Whether the script runs on a document that repeats a key: keep or refuse [default: keep]
   -h, --help            Print help
 
 Commands of a script:
@@ -54,6 +55,15 @@ For more information, try '--help'.
 const TAPE: &str = "\
 error: invalid value 'tape' for '--form <FORM>'
   [possible values: owned, borrowed, lazy]
+
+Usage: records [OPTIONS] <SCRIPT>
+
+For more information, try '--help'.
+";
+
+const DROP: &str = "\
+error: invalid value 'drop' for '--repeats <RULE>'
+  [possible values: keep, refuse]
 
 Usage: records [OPTIONS] <SCRIPT>
 
@@ -204,10 +214,11 @@ fn refuses_arguments(rt: HostRuntime) {
         assert!(rt; faults.starts_with(b"error: "));
         assert!(rt; faults.ends_with(b"\n"));
     }
-    let texts: [(&[&str], &str); 4] = [
+    let texts: [(&[&str], &str); 5] = [
         (&["records"], NO_SCRIPT),
         (&["records_cli"], NO_SCRIPT),
         (&["records", "--form", "tape", "a.json"], TAPE),
+        (&["records", "--repeats", "drop", "a.json"], DROP),
         (&["records", "--depth", "1025", "a.json"], TOO_DEEP),
     ];
     for (words, text) in &texts {
@@ -409,6 +420,26 @@ fn takes_forms_and_depths(rt: HostRuntime) {
             alloc,
             Given::new(&words),
             b"[1]\n[[]]\n".as_slice(),
+            &mut output,
+            want,
+        );
+    }
+}
+
+#[test]
+fn takes_rules_for_repeated_keys(rt: HostRuntime) {
+    let alloc = rt.alloc();
+    let kept = "{\"replies\":[[]],\"document\":{\"a\":1}}\n";
+    let refused = "{\"error\":\"RepeatedKey\",\"path\":[],\"key\":\"a\"}\n";
+    for (rule, record) in [("keep", kept), ("refuse", refused)] {
+        let words = ["records", "get.json", "--repeats", rule];
+        let mut output = Narrow::new(alloc, usize::MAX, false);
+        let want = (0, record.as_bytes(), "");
+        expect(
+            &rt,
+            alloc,
+            Given::new(&words),
+            br#"{"a":1,"a":2}"#.as_slice(),
             &mut output,
             want,
         );

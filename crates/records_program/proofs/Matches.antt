@@ -8,7 +8,7 @@ use Rattle.clap.specs.declared.parser.matches.ArgMatches.{ArgMatches}
 use Rattle.clap.specs.declared.parser.matches.Found.{Found}
 use Rattle.clap.specs.Walk.{Row}
 use Rattle.clap.proofs.WalkLemmas.{first_value-rows}
-use Rattle.records_program.specs.Arguments.{Hold, IsNumber, app, form_named, kinds_of, rows_in}
+use Rattle.records_program.specs.Arguments.{Hold, IsNumber, app, form_named, repeats_named, kinds_of, rows_in}
 use Rattle.records_program.specs.declared.arguments.RunArguments.{RunArguments}
 
 pub rows_in-parse : (a : App) (words : List (List ℕ)) (m : ArgMatches) → a ≡ app → HasMatchesOf a words m → rows_of (found_of m) ≡ rows_in words
@@ -40,17 +40,20 @@ pub refused-number : {E : Type 0} (text : List ℕ) (n : ℕ) (e : E) (r : Resul
 refused-number text n e (Ok m) parses is number = absurd cc
 refused-number text n e (Err f) parses is number = parses (number.0, rw number.1 number.2)
 
--- no run has values that aren't there, or that name no form
+-- no run has values that aren't there, or that name no form or no rule
 pub no-script : (rows : List Row) (run : RunArguments) → first_of (codes "SCRIPT") rows ≡ None → Hold rows run → ⊥
 no-script rows run none h = let some = h.0 in absurd cc
 
 pub no-form : (rows : List Row) (run : RunArguments) → option_and_then form_named (first_of (codes "form") rows) ≡ None → Hold rows run → ⊥
 no-form rows run none h = let some = h.1 in absurd cc
 
+pub no-rule : (rows : List Row) (run : RunArguments) → option_and_then repeats_named (first_of (codes "repeats") rows) ≡ None → Hold rows run → ⊥
+no-rule rows run none h = let some = h.2 in absurd cc
+
 pub no-depth : (rows : List Row) (run : RunArguments) → first_of (codes "depth") rows ≡ None → Hold rows run → ⊥
-no-depth rows run none h = let some = h.2.1 in absurd cc
+no-depth rows run none h = let some = h.3.1 in absurd cc
 
 pub no-number : {E : Type 0} (rows : List Row) (run : RunArguments) (text : List ℕ) (e : E) (r : Result ℕ E) → first_of (codes "depth") rows ≡ Some text → ParsesUnsigned 64 10 text r → r ≡ Err e → Hold rows run → ⊥
 no-number rows run text e r is parses refused h =
-    let same : h.2.0 ≡ text = let some = h.2.1 in cc in
-    refused-number text run.depth e r parses refused (rw same at h.2.2)
+    let same : h.3.0 ≡ text = let some = h.3.1 in cc in
+    refused-number text run.depth e r parses refused (rw same at h.3.2)

@@ -8,7 +8,7 @@ use Rattle.sj_scripts.specs.Command.{Step}
 use Rattle.sj_documents.specs.Step.{Job}
 use Rattle.sj_records.specs.Record.{IsOutput}
 use Rattle.sj_records.specs.Run.{Transfers, RecordsOfSome, RecordsOfEnded, RecordsPrefix}
-use Rattle.sj_records.specs.Job.{keeping_of}
+use Rattle.sj_records.specs.Job.{keeping_of, repeats_of}
 use Rattle.sj_scripts.specs.Script.{IsReadAs, IsRefusedAs}
 use Rattle.sj_scripts.specs.declared.script.ScriptFault.{ScriptFault}
 use Rattle.sj_scripts.specs.declared.script.ScriptFault.TheVariants.{Memory as NoMemory}
@@ -53,7 +53,7 @@ HasCommands loads words run script = (bytes : Vec ℕ Global) × GivesScript loa
 
 -- what the run does to each line
 abbrev pub run_job : RunArguments → List Step → Job
-run_job run script = record { script = script; limit = run.depth; keeping = keeping_of run.form }
+run_job run script = record { script = script; limit = run.depth; keeping = keeping_of run.form; repeats = repeats_of run.repeats }
 
 -- The bytes are refused as a script with this line.
 abbrev pub IsRefusedWith : List ℕ → List ℕ → Type 0

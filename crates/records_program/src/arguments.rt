@@ -1,13 +1,13 @@
 //! The arguments of the command line.
 ghost use Rattle.std.specs.Prelude.{◌≡◌, IfOk, IfSome, List, [], ℕ, None, codes, false, map};
 ghost use Rattle.clap.specs.Words.{FailsBy, HasKind, app_of, found_of, new_app, rows_of, rule_of};
-ghost use Rattle.records_program.specs.Arguments.{Hold, app, depth_rule, form_named, form_rule, kinds_of, rows_in, script_rule};
+ghost use Rattle.records_program.specs.Arguments.{Hold, app, depth_rule, form_named, form_rule, kinds_of, repeats_named, repeats_rule, rows_in, script_rule};
 ghost use Rattle.records_program.specs.inside.Parts.{AreParsedAs};
 
 use crate::fault::Fault;
 use clap::error::ErrorKind;
 use clap::{Arg, ArgAction, ArgMatches, Command, Error, value_parser};
-use sj_records::Form;
+use sj_records::{Form, Repeats};
 use std::alloc::{AllocError, Global};
 use std::convert::AsStr;
 use std::rt::Env;
@@ -51,6 +51,8 @@ pub struct RunArguments<'a> {
     pub form: Form,
     /// The most levels that a document may nest.
     pub depth: usize,
+    /// Whether a document that repeats a key is refused.
+    pub repeats: Repeats,
 }
 
 /// Parses the words of the command line, of which the first is the program's name.
@@ -74,13 +76,13 @@ fn parse_words<'a, S: AsStr>(alloc: Global, words: &'a [S]) -> Result<ArgMatches
     command(alloc)?.try_get_matches_from(words)
 }
 
-/// Returns the run that the words ask for, from `clap`'s matches, or a fault if the form's name is none.
+/// Returns the run that the words ask for, from `clap`'s matches, or a fault if a name is none of a form or a rule.
 fn run_or_fault<'a>(alloc: Global, matches: &ArgMatches<'a>) -> Result<Arguments<'a>, Fault>
     ensures { (words : List (List ℕ)) → kinds_of words ≡ [] → rows_of (found_of matches.now) ≡ rows_in words → AreParsedAs words result }
 {
     match run_of(matches) {
         Some(run) => Ok(Arguments::Run(run)),
-        None => Err(Fault::Arguments(unknown_form(alloc, matches.get_str("form"))?)),
+        None => Err(Fault::Arguments(unknown_name(alloc, matches)?)),
     }
 }
 
@@ -91,11 +93,13 @@ fn run_of<'a>(matches: &ArgMatches<'a>) -> Option<RunArguments<'a>>
 {
     let script = matches.get_str("SCRIPT")?;
     let form = find_form(matches.get_str("form")?)?;
+    let repeats = find_repeats(matches.get_str("repeats")?)?;
     match matches.get_str("depth")?.parse() {
         Ok(depth) => Some(RunArguments {
             script,
             form,
             depth,
+            repeats,
         }),
         Err(_) => None,
     }
@@ -112,6 +116,16 @@ fn find_form(name: &str) -> Option<Form>
     }
 }
 
+fn find_repeats(name: &str) -> Option<Repeats>
+    ensures { result ≡ repeats_named name.now }
+{
+    match name {
+        "keep" => Some(Repeats::Keep),
+        "refuse" => Some(Repeats::Refuse),
+        _ => None,
+    }
+}
+
 /// The program's command.
 fn command<'a>(alloc: Global) -> Result<Command<'a>, AllocError>
     ensures { IfOk result (λ command. app_of command ≡ app) }
@@ -119,6 +133,7 @@ fn command<'a>(alloc: Global) -> Result<Command<'a>, AllocError>
     let command = texts(alloc)?
         .arg(form_argument(alloc))?
         .arg(depth_argument(alloc))?
+        .arg(repeats_argument(alloc))?
         .arg(script_argument(alloc))?;
     Ok(command)
 }
@@ -159,6 +174,18 @@ fn depth_argument<'a>(alloc: Global) -> Arg<'a>
         .help("The most levels that a document may nest, from 0 to 1024")
 }
 
+fn repeats_argument<'a>(alloc: Global) -> Arg<'a>
+    ensures rule { rule_of result ≡ repeats_rule }
+    ensures local { result.global ≡ false }
+{
+    Arg::new(alloc, "repeats")
+        .long("repeats")
+        .value_name("RULE")
+        .action(ArgAction::Set)
+        .default_value("keep")
+        .help("Whether the script runs on a document that repeats a key: keep or refuse")
+}
+
 fn script_argument<'a>(alloc: Global) -> Arg<'a>
     ensures rule { rule_of result ≡ script_rule }
     ensures local { result.global ≡ false }
@@ -184,11 +211,20 @@ fn help_or_fault<'a>(alloc: Global, error: &Error) -> Result<Arguments<'a>, Faul
     }
 }
 
-/// The text for a name of no form.
-fn unknown_form(alloc: Global, name: Option<&str>) -> Result<String, AllocError> {
-    let name = name.unwrap_or_default();
+/// The text for a name of no form, or else for one of no rule for repeated keys.
+fn unknown_name(alloc: Global, matches: &ArgMatches<'_>) -> Result<String, AllocError> {
+    let form = matches.get_str("form").unwrap_or_default();
+    if find_form(form).is_none() {
+        return unknown(alloc, form, "--form <FORM>", "owned, borrowed, lazy");
+    }
+    let rule = matches.get_str("repeats").unwrap_or_default();
+    unknown(alloc, rule, "--repeats <RULE>", "keep, refuse")
+}
+
+/// The text for a value of an argument that takes only these names.
+fn unknown(alloc: Global, value: &str, argument: &str, names: &str) -> Result<String, AllocError> {
     let message = format!(in alloc;
-        "invalid value '{name}' for '--form <FORM>'\n  [possible values: owned, borrowed, lazy]"
+        "invalid value '{value}' for '{argument}'\n  [possible values: {names}]"
     )?;
     refusal(alloc, &message)
 }

@@ -69,6 +69,7 @@ pub fn run_counted<'a, I: Read + Drop, O: Write, N: Named>(
         script,
         arguments.depth,
         arguments.form,
+        arguments.repeats,
     );
     let _ = source.into_inner();
     let Lent { output, of: _ } = sink.into_inner();
