@@ -264,8 +264,8 @@ fn refused_scripts(rt: HostRuntime) -> Result<(), Fail> {
         ),
         (
             r#"[["get",[18446744073709551616]]]"#,
-            ScriptFault::Json(Error::at(ErrorType::InvalidNumber, 9, b'1')),
-            "InvalidNumber at 9",
+            command_fault(CommandFault::BadPath),
+            "command 0: BadPath",
         ),
         ("{}", ScriptFault::NotAnArray, "NotAnArray"),
         (

@@ -6,8 +6,7 @@ use Rattle.std.specs.Fmt.{signed_decimal}
 use Rattle.std.proofs.Common.{refl, sym, ap, inl, inr, arith, eq-zero-or-pos}
 use Rattle.std.proofs.lemmas.Fmt.{decimal_by_steps, decimal_is_IsNumeral}
 use Rattle.std.proofs.lemmas.Nat.{mod_below, le-div}
-use Rattle.sj_base.specs.Tree.{IsInRange}
-use Rattle.sj_base.specs.Number.{IsWhole, SpellsInteger}
+use Rattle.sj_base.specs.Number.{IsWhole, IsInRange, SpellsInteger}
 use Rattle.sj_base.proofs.Fronts.{AllByRecursion-append}
 
 -- the decimal digits of a number, without leading zeros

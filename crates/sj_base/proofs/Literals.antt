@@ -1,17 +1,18 @@
 -- The tests on the parts of a number hold exactly of what the grammar says.
-use Rattle.std.specs.Prelude.{◌≡◌, ◌≢◌, ℕ, ◌<◌, ◌≤◌, ◌⊎◌, Bool, true, false, not, ◌&&◌, ◌||◌, ◌==◌, nat_le, List, [], ◌∷◌, ◌++◌, ◌+◌, length, drop, slice_index}
+use Rattle.std.specs.Prelude.{◌≡◌, ◌≢◌, ℕ, zero, suc, ◌<◌, ◌≤◌, ◌^◌, ◌⊎◌, Bool, true, false, not, ◌&&◌, ◌||◌, ◌==◌, nat_le, List, [], ◌∷◌, ◌++◌, length, drop, slice_index}
 use Rattle.std.specs.List.{AllByRecursion}
 use Rattle.std.specs.Char.{is_ascii_digit, IsAsciiDigit}
 use Rattle.std.specs.Str.{all_ascii_digits}
+use Rattle.std.specs.Str.Parse.{digits_value}
 use Rattle.std.proofs.Math.Seq.{drop-cons}
 use Rattle.std.proofs.Common.{refl, sym, ap, ap₂, ◌∙◌, inl, inr, arith}
 use Rattle.std.proofs.Math.Bool.{Bool-set}
 use Rattle.std.proofs.Math.Logic.{∥∥₁_elim}
-use Rattle.std.proofs.lemmas.Bool.{leb-true, le-leb, cases_Bool, cases_eq, and_parts, and_from, or_cases, or_left, or_right, or_from, not-true, not_from_false, eqb-true, eqb-false, eq-eqb, ne_eqb}
-use Rattle.sj_base.specs.Number.{minus, IsDigits, IsWhole, IsFraction, IsExponent, IsDecimal}
+use Rattle.std.proofs.lemmas.Bool.{leb-true, le-leb, le-ltb, lt-leb, ltb-true, lt-ltb, false_from_ne_true, cases_Bool, cases_eq, and_parts, and_from, or_cases, or_left, or_right, or_from, not-true, not_from_false, eqb-true, eqb-false, eq-eqb, ne_eqb}
+use Rattle.sj_base.specs.Number.{minus, signed, IsInRange, IsDigits, IsWhole, IsFraction, IsExponent, IsDecimal}
 use Rattle.sj_base.proofs.Fronts.{NotFirst}
 use Rattle.sj_base.proofs.NumberBytes.{no_minus, whole_digits, fraction_start, exponent_start}
-use Rattle.sj_base.specs.NumberTests.{is_empty, is_negative, magnitude, unsigned, front_digits, behind_digits, is_digits, is_whole, is_exponent, is_fraction_or_exponent, is_decimal}
+use Rattle.sj_base.specs.NumberTests.{is_empty, is_negative, magnitude, unsigned, front_digits, behind_digits, is_digits, is_whole, is_exponent, is_fraction_or_exponent, is_in_range, is_kept_by, is_decimal}
 
 abbrev pub IsSign : List ℕ → Type 0
 IsSign sign = (sign ≡ []) ⊎ ((sign ≡ 0x2b ∷ []) ⊎ (sign ≡ 0x2d ∷ []))
@@ -251,22 +252,53 @@ pub sign_of : (negative : Bool) (whole rest : List ℕ) → IsWhole whole → (i
 sign_of true whole rest w = (refl, refl)
 sign_of false whole rest w = unsigned_sign (whole ++ rest) (no_minus whole rest w)
 
+-- ---- the range of integers
+
+pub IsInRange-from_is_in_range : (negative : Bool) (n : ℕ) → is_in_range negative n ≡ true → IsInRange (signed negative n)
+IsInRange-from_is_in_range false n e = ltb-true n (2 ^ 64) e
+IsInRange-from_is_in_range true zero e = omega arith
+IsInRange-from_is_in_range true (suc n) e = let le : suc n ≤ 2 ^ 63 = leb-true (suc n) (2 ^ 63) e in omega arith
+
+pub is_in_range-from_IsInRange : (negative : Bool) (n : ℕ) → IsInRange (signed negative n) → is_in_range negative n ≡ true
+is_in_range-from_IsInRange false n h = lt-ltb n (2 ^ 64) h
+is_in_range-from_IsInRange true zero h = refl
+is_in_range-from_IsInRange true (suc n) h = le-leb (suc n) (2 ^ 63) (omega arith)
+
+pub out_of_range : (negative : Bool) (n : ℕ) → (n < 2 ^ 64 → ⊥) → is_in_range negative n ≡ false
+out_of_range false n large = le-ltb n (2 ^ 64) (omega arith)
+out_of_range true n large = lt-leb n (2 ^ 63) (omega arith)
+
 -- ---- decimal literals
+
+Tail-from_is_kept_by : (negative : Bool) (digits bs : List ℕ) → is_kept_by negative digits bs ≡ true → Tail bs × (IsInRange (signed negative (digits_value 10 digits)) → bs ≢ [])
+Tail-from_is_kept_by negative digits [] e = (
+  record { fraction = []; exponent = []; parts = refl; is_fraction = inl refl; is_exponent = inl refl },
+  λ range. let in_range = is_in_range-from_IsInRange negative (digits_value 10 digits) range in absurd cc,
+)
+Tail-from_is_kept_by negative digits (b ∷ bs) e = let t = Tail-from_is_fraction_or_exponent (b ∷ bs) e in (t.0, λ range. t.1)
+
+kept_by-from_Tail : (negative : Bool) (digits fraction exponent behind : List ℕ) → fraction ++ exponent ≡ behind → IsFraction fraction → IsExponent exponent → (IsInRange (signed negative (digits_value 10 digits)) → fraction ++ exponent ≢ [])
+    → is_kept_by negative digits behind ≡ true
+kept_by-from_Tail negative digits fraction exponent [] is f x kept =
+    not_from_false (is_in_range negative (digits_value 10 digits)) (false_from_ne_true (is_in_range negative (digits_value 10 digits)) (λ e. kept (IsInRange-from_is_in_range negative (digits_value 10 digits) e) is))
+kept_by-from_Tail negative digits fraction exponent (b ∷ bs) is f x kept =
+    ap is_fraction_or_exponent (sym is) ∙ is_fraction_or_exponent-from_Tail fraction exponent f x (λ none. absurd cc)
 
 pub IsDecimal-from_is_decimal : (bs : List ℕ) → is_decimal bs ≡ true → IsDecimal bs
 IsDecimal-from_is_decimal bs e =
-    let p = and_parts (is_whole (front_digits (magnitude bs))) (is_fraction_or_exponent (behind_digits (magnitude bs))) e in
-    let t = Tail-from_is_fraction_or_exponent (behind_digits (magnitude bs)) p.1 in
+    let digits = front_digits (magnitude bs) in
+    let p = and_parts (is_whole digits) (is_kept_by (is_negative bs) digits (behind_digits (magnitude bs))) e in
+    let t = Tail-from_is_kept_by (is_negative bs) digits (behind_digits (magnitude bs)) p.1 in
     record {
       negative = is_negative bs;
-      whole = front_digits (magnitude bs);
+      whole = digits;
       fraction = t.0.fraction;
       exponent = t.0.exponent;
-      parts = sign_parts bs ∙ ap (λ (xs : List ℕ). minus (is_negative bs) ++ xs) (digits_parts (magnitude bs) ∙ ap (λ (xs : List ℕ). front_digits (magnitude bs) ++ xs) t.0.parts);
-      is_whole = IsWhole-from_is_whole (front_digits (magnitude bs)) p.0;
+      parts = sign_parts bs ∙ ap (λ (xs : List ℕ). minus (is_negative bs) ++ xs) (digits_parts (magnitude bs) ∙ ap (λ (xs : List ℕ). digits ++ xs) t.0.parts);
+      is_whole = IsWhole-from_is_whole digits p.0;
       is_fraction = t.0.is_fraction;
       is_exponent = t.0.is_exponent;
-      has_one = λ none. t.1 (t.0.parts ∙ none);
+      is_kept = λ range none. t.1 range (t.0.parts ∙ none);
     }
 
 pub is_decimal-from_IsDecimal : (bs : List ℕ) → IsDecimal bs → is_decimal bs ≡ true
@@ -274,9 +306,14 @@ is_decimal-from_IsDecimal bs h =
     let s = sign_of h.negative h.whole (h.fraction ++ h.exponent) h.is_whole in
     let whole : magnitude bs ≡ h.whole ++ (h.fraction ++ h.exponent) = ap magnitude h.parts ∙ s.1 in
     let k = digits-append h.whole (h.fraction ++ h.exponent) (whole_digits h.whole h.is_whole) (fraction_start h.fraction h.exponent h.is_fraction (exponent_start h.exponent h.is_exponent)) in
-    and_from (is_whole (front_digits (magnitude bs))) (is_fraction_or_exponent (behind_digits (magnitude bs)))
-    (ap (λ (xs : List ℕ). is_whole (front_digits xs)) whole ∙ ap is_whole k.0 ∙ is_whole-from_IsWhole h.whole h.is_whole)
-    (ap (λ (xs : List ℕ). is_fraction_or_exponent (behind_digits xs)) whole ∙ ap is_fraction_or_exponent k.1 ∙ is_fraction_or_exponent-from_Tail h.fraction h.exponent h.is_fraction h.is_exponent h.has_one)
+    let negative : is_negative bs ≡ h.negative = ap is_negative h.parts ∙ s.0 in
+    let digits : front_digits (magnitude bs) ≡ h.whole = ap front_digits whole ∙ k.0 in
+    let behind : behind_digits (magnitude bs) ≡ h.fraction ++ h.exponent = ap behind_digits whole ∙ k.1 in
+    and_from (is_whole (front_digits (magnitude bs))) (is_kept_by (is_negative bs) (front_digits (magnitude bs)) (behind_digits (magnitude bs)))
+    (ap is_whole digits ∙ is_whole-from_IsWhole h.whole h.is_whole)
+    (ap (λ (b : Bool). is_kept_by b (front_digits (magnitude bs)) (behind_digits (magnitude bs))) negative
+    ∙ ap₂ (λ (ds xs : List ℕ). is_kept_by h.negative ds xs) digits behind
+    ∙ kept_by-from_Tail h.negative h.whole h.fraction h.exponent (h.fraction ++ h.exponent) refl h.is_fraction h.is_exponent h.is_kept)
 
 -- The parts of a literal can be found, so the truncated proof that there are some gives them.
 pub found : (bs : List ℕ) → ∥ IsDecimal bs ∥₁ → IsDecimal bs

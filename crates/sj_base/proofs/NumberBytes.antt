@@ -1,10 +1,10 @@
 -- The bytes of numbers. No bytes spell two integers, or an integer and a decimal literal.
-use Rattle.std.specs.Prelude.{◌≡◌, ℕ, ℤ, ◌⊎◌, ◌≤◌, Bool, true, false, List, [], ◌∷◌, ◌++◌}
+use Rattle.std.specs.Prelude.{◌≡◌, ℕ, ℤ, ◌⊎◌, ◌<◌, ◌≤◌, length, Bool, true, false, List, [], ◌∷◌, ◌++◌}
 use Rattle.std.specs.List.{AllByRecursion}
 use Rattle.std.specs.Char.{IsAsciiDigit}
 use Rattle.std.specs.Str.Parse.{digits_value}
 use Rattle.std.proofs.Common.{refl, sym, ap, ap₂, ◌∙◌, subst, inl, inr, arith, append-nil}
-use Rattle.sj_base.specs.Number.{minus, signed, IsWhole, IsFraction, IsExponent, SpellsInteger, IsDecimal}
+use Rattle.sj_base.specs.Number.{minus, signed, IsWhole, IsFraction, IsExponent, SpellsInteger, IsInRange, IsDecimal}
 use Rattle.sj_base.proofs.Fronts.{cons_parts, NotFirst, all_none, AllByRecursion-append, AllByRecursion-parts, AllByRecursion-weaker}
 
 -- the bytes that occur in numbers
@@ -31,6 +31,9 @@ whole_digits ds (inr h) =
 whole_first : (ds : List ℕ) → IsWhole ds → (d : ℕ) × (others : List ℕ) × (ds ≡ d ∷ others) × IsAsciiDigit d
 whole_first ds (inl e) = (0x30, [], e, (omega arith, omega arith))
 whole_first ds (inr h) = let low : 0x31 ≤ h.0 = h.3 in (h.0, h.1, h.2, (omega arith, h.4))
+
+pub whole_some : (ds : List ℕ) → IsWhole ds → 0 < length ds
+whole_some ds w = let p = whole_first ds w in omega (arith, ap length p.2)
 
 -- so it begins with no minus
 pub no_minus : (ds rest : List ℕ) → IsWhole ds → NotFirst (λ b. b ≡ 0x2d) (ds ++ rest)
@@ -71,13 +74,15 @@ exponent_start bs (inr h) = subst (λ (ys : List ℕ). NotFirst IsAsciiDigit ys)
     letter b high (inl e) = omega arith
     letter b high (inr e) = omega arith
 
--- No bytes both spell an integer and are a decimal literal.
-pub no_decimal : (n : ℤ) (bs : List ℕ) → SpellsInteger n bs → IsDecimal bs → ⊥
-no_decimal n bs h k =
+-- No bytes both spell an integer in range and are a decimal literal.
+pub no_decimal : (n : ℤ) (bs : List ℕ) → IsInRange n → SpellsInteger n bs → IsDecimal bs → ⊥
+no_decimal n bs range h k =
     let more = k.fraction ++ k.exponent in
     let p = same_sign h.negative k.negative (h.whole ++ []) (k.whole ++ more) (no_minus h.whole [] h.is_whole) (no_minus k.whole more k.is_whole) (sym (integer_parts n bs h) ∙ k.parts) in
     let digits : AllByRecursion IsAsciiDigit (k.whole ++ more) = subst (λ (ys : List ℕ). AllByRecursion IsAsciiDigit ys) (sym (append-nil h.whole) ∙ p.1) (whole_digits h.whole h.is_whole) in
-    k.has_one (all_none IsAsciiDigit more (AllByRecursion-parts IsAsciiDigit k.whole more digits).1 (fraction_start k.fraction k.exponent k.is_fraction (exponent_start k.exponent k.is_exponent)))
+    let none : more ≡ [] = all_none IsAsciiDigit more (AllByRecursion-parts IsAsciiDigit k.whole more digits).1 (fraction_start k.fraction k.exponent k.is_fraction (exponent_start k.exponent k.is_exponent)) in
+    let same : h.whole ≡ k.whole = sym (append-nil h.whole) ∙ p.1 ∙ ap (λ (ys : List ℕ). k.whole ++ ys) none ∙ append-nil k.whole in
+    k.is_kept (subst IsInRange (h.value ∙ ap₂ (λ b ds. signed b (digits_value 10 ds)) p.0 same) range) none
 
 -- the bytes of a sign
 minus_bytes : (b : Bool) → AllByRecursion IsInNumber (minus b)

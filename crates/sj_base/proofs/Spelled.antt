@@ -12,6 +12,7 @@ use Rattle.sj_base.specs.Spelling.{AreSpaces, Padded, SpellsValue, Spells}
 use Rattle.sj_base.specs.Spelling.{Document}
 use Rattle.sj_base.proofs.Fronts.{cons_parts}
 use Rattle.sj_base.proofs.Cuts.{kind_at, space_low, padded_begins}
+use Rattle.sj_base.proofs.Literals.{IsDecimal-from_is_decimal}
 use Rattle.sj_base.proofs.NumberBytes.{no_decimal}
 use Rattle.sj_base.proofs.Values.{value_opens}
 
@@ -103,7 +104,7 @@ exponent_of_zero = record {
   is_whole = inl refl;
   is_fraction = inl refl;
   is_exponent = inr (0x65, [], codes "0", refl, inl refl, inl refl, (omega arith, ((omega arith, omega arith), tt)));
-  has_one = λ e. let n = ap length e in omega arith;
+  is_kept = λ range e. let n = ap length e in omega arith;
 }
 
 exponent_with_plus : IsDecimal (codes "1E+5")
@@ -116,12 +117,16 @@ exponent_with_plus = record {
   is_whole = inr (0x31, [], refl, omega arith, omega arith, tt);
   is_fraction = inl refl;
   is_exponent = inr (0x45, codes "+", codes "5", refl, inr refl, inr (inl refl), (omega arith, ((omega arith, omega arith), tt)));
-  has_one = λ e. let n = ap length e in omega arith;
+  is_kept = λ range e. let n = ap length e in omega arith;
 }
 
--- An integer isn't a decimal literal.
+-- An integer in range isn't a decimal literal.
 integer_no_decimal : IsDecimal (codes "-0") → ⊥
-integer_no_decimal h = no_decimal (pos 0) (codes "-0") minus_zero h
+integer_no_decimal h = no_decimal (pos 0) (codes "-0") (omega arith) minus_zero h
+
+-- The first one past the range is.
+large_integer : IsDecimal (codes "18446744073709551616")
+large_integer = IsDecimal-from_is_decimal (codes "18446744073709551616") refl
 
 -- A point has to be followed by digits.
 no_point_alone : (before rest : List ℕ) → codes "." ≡ before ++ rest → IsFraction before → IsExponent rest → ⊥

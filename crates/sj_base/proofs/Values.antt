@@ -109,7 +109,7 @@ integer_cuts z (integer y) f g r q h k m n e =
 integer_cuts z (decimal literal) f g r q h k m n e =
     let is : IsDecimal g = subst IsDecimal (sym k.0) k.1 in
     let p = same_front IsInNumber f g r q (integer_bytes z f h.1) (decimal_bytes g is) m n e in
-    absurd (no_decimal z g (subst (λ (ys : List ℕ). SpellsInteger z ys) p.0 h.1) is)
+    absurd (no_decimal z g h.0 (subst (λ (ys : List ℕ). SpellsInteger z ys) p.0 h.1) is)
 integer_cuts z t f g r q h k m n e = let d = same_kind (integer z) t f g r q h k e in absurd (omega arith)
 
 -- a decimal literal
@@ -121,7 +121,7 @@ decimal_cuts l (decimal literal) f g r q h k m n e =
 decimal_cuts l (integer y) f g r q h k m n e =
     let is : IsDecimal f = subst IsDecimal (sym h.0) h.1 in
     let p = same_front IsInNumber g f q r (integer_bytes y g k.1) (decimal_bytes f is) n m (sym e) in
-    absurd (no_decimal y f (subst (λ (ys : List ℕ). SpellsInteger y ys) p.0 k.1) is)
+    absurd (no_decimal y f k.0 (subst (λ (ys : List ℕ). SpellsInteger y ys) p.0 k.1) is)
 decimal_cuts l t f g r q h k m n e = let d = same_kind (decimal l) t f g r q h k e in absurd (omega arith)
 
 -- a string

@@ -1,6 +1,6 @@
 -- The grammar of numbers (RFC 8259, section 6): an optional minus, `0` or a digit 1 to 9 followed by
 -- digits, an optional fraction, an optional exponent.
-use Rattle.std.specs.Prelude.{◌≡◌, ℕ, ◌≤◌, ◌<◌, ◌⊎◌, ◌≢◌, ℤ, pos, neg_ℤ, Bool, true, false, cond, List, [], ◌∷◌, ◌++◌, length}
+use Rattle.std.specs.Prelude.{◌≡◌, ℕ, ◌≤◌, ◌<◌, ◌^◌, ◌⊎◌, ◌≢◌, ℤ, pos, negsuc, neg_ℤ, Bool, true, false, cond, List, [], ◌∷◌, ◌++◌, length}
 use Rattle.std.specs.List.{AllByRecursion}
 use Rattle.std.specs.Char.{IsAsciiDigit}
 use Rattle.std.specs.Str.Parse.{digits_value}
@@ -13,6 +13,11 @@ minus false = []
 -- the integer of n, with a minus or without
 abbrev pub signed : Bool → ℕ → ℤ
 signed b n = cond b (neg_ℤ (pos n)) (pos n)
+
+-- from -2^63 to 2^64 - 1; `negsuc n` is -(n + 1)
+abbrev pub IsInRange : ℤ → Type 0
+IsInRange (pos n) = n < 2 ^ 64
+IsInRange (negsuc n) = n < 2 ^ 63
 
 -- one digit or more
 abbrev pub IsDigits : List ℕ → Type 0
@@ -38,7 +43,7 @@ pub record SpellsInteger (n : ℤ) (bs : List ℕ) : Type 0 where
   pub is_whole : IsWhole whole
   pub value : n ≡ signed negative (digits_value 10 whole)
 
--- A decimal literal: a number with a fraction or an exponent.
+-- A decimal literal: a number with a fraction or an exponent, or an integer out of range.
 pub record IsDecimal (bs : List ℕ) : Type 0 where
   pub negative : Bool
   pub whole : List ℕ
@@ -48,4 +53,4 @@ pub record IsDecimal (bs : List ℕ) : Type 0 where
   pub is_whole : IsWhole whole
   pub is_fraction : IsFraction fraction
   pub is_exponent : IsExponent exponent
-  pub has_one : fraction ++ exponent ≢ []
+  pub is_kept : IsInRange (signed negative (digits_value 10 whole)) → fraction ++ exponent ≢ []

@@ -56,13 +56,18 @@ abbrev pub is_fraction_or_exponent : List ℕ → Bool
 is_fraction_or_exponent [] = false
 is_fraction_or_exponent (b ∷ bs) = if b == 0x2e then is_behind_point bs else is_exponent (b ∷ bs)
 
--- a number with a fraction or an exponent
-abbrev pub is_decimal : List ℕ → Bool
-is_decimal bs = is_whole (front_digits (magnitude bs)) && is_fraction_or_exponent (behind_digits (magnitude bs))
-
 -- from -2^63 to 2^64 - 1
 abbrev pub is_in_range : Bool → ℕ → Bool
 is_in_range negative n = if negative then nat_le n (2 ^ 63) else nat_lt n (2 ^ 64)
+
+-- what stands behind the digits of a number that is kept as text: a fraction or an exponent, or nothing if they are out of range
+abbrev pub is_kept_by : Bool → List ℕ → List ℕ → Bool
+is_kept_by negative digits [] = not (is_in_range negative (digits_value 10 digits))
+is_kept_by negative digits (b ∷ bs) = is_fraction_or_exponent (b ∷ bs)
+
+-- a number with a fraction or an exponent, or an integer out of range
+abbrev pub is_decimal : List ℕ → Bool
+is_decimal bs = is_whole (front_digits (magnitude bs)) && is_kept_by (is_negative bs) (front_digits (magnitude bs)) (behind_digits (magnitude bs))
 
 abbrev pub is_integer : List ℕ → Bool
 is_integer bs = is_whole (magnitude bs) && is_in_range (is_negative bs) (digits_value 10 (magnitude bs))

@@ -1,7 +1,8 @@
 -- The value of a JSON text (RFC 8259, sections 3 to 7), as a tree. An integer is its number, whichever carrier holds it,
 -- and an object may have several members with the same key.
-use Rattle.std.specs.Prelude.{ℕ, ℤ, pos, negsuc, suc, ◌<◌, ◌^◌, max, Bool, List, ⊤, IsUtf8}
+use Rattle.std.specs.Prelude.{ℕ, ℤ, suc, max, Bool, List, ⊤, IsUtf8}
 use Rattle.sj_base.specs.Number.{IsDecimal}
+pub use Rattle.sj_base.specs.Number.{IsInRange}
 
 -- Strings, keys and decimal literals are lists of bytes.
 mutual
@@ -21,11 +22,6 @@ mutual
   pub data Members : Type 0 where
     no_members : Members
     member : List ℕ → Tree → Members → Members
-
--- from -2^63 to 2^64 - 1; `negsuc n` is -(n + 1)
-abbrev pub IsInRange : ℤ → Type 0
-IsInRange (pos n) = n < 2 ^ 64
-IsInRange (negsuc n) = n < 2 ^ 63
 
 -- Each integer is in range, each decimal literal follows the grammar of numbers, and each string and key is UTF-8.
 abbrev mutual

@@ -1,4 +1,4 @@
-//! Decimal literals: numbers with a fraction or an exponent, kept as text.
+//! Decimal literals: numbers with a fraction or an exponent, and integers that no carrier holds, kept as text.
 ghost use Rattle.std.specs.Prelude.{◌≡◌, ◌↔◌, IsSome, IfSome, IfOk, string_bytes, List, ℕ, Bool};
 ghost use Rattle.sj_base.specs.Number.{IsDecimal};
 
@@ -6,7 +6,8 @@ use crate::number::is_decimal;
 use crate::try_copy::TryCopy;
 use std::alloc::{AllocError, Global};
 
-/// A borrowed decimal literal: the text of a number with a fraction or an exponent.
+/// A borrowed decimal literal: the text of a number with a fraction or an exponent, or of an integer below -2^63 or above
+/// 2^64 - 1.
 ///
 /// The number keeps the digits that it was written with, and is never converted to a float.
 #[derive(Clone, Copy, Debug)]
@@ -18,7 +19,7 @@ pub struct Decimal<'a> {
 impl<'a> Decimal<'a> {
     ghost use Rattle.sj_base.specs.Scalar.{decimal_text};
 
-    /// Returns `text` as a decimal literal, or `None` if it isn't a JSON number with a fraction or an exponent.
+    /// Returns `text` as a decimal literal, or `None` if it isn't a JSON number of that kind.
     ///
     /// The whole of `text` is tested, so whitespace around a number is refused. No memory is allocated.
     pub fn new(text: &'a str) -> Option<Decimal<'a>>
@@ -28,7 +29,7 @@ impl<'a> Decimal<'a> {
         Decimal::from_bytes(text.as_bytes())
     }
 
-    /// Returns `bytes` as a decimal literal, or `None` if they aren't a JSON number with a fraction or an exponent.
+    /// Returns `bytes` as a decimal literal, or `None` if they aren't a JSON number of that kind.
     ///
     /// Any bytes will do: those of a literal are ASCII. As in [`Decimal::new`], all of them are tested.
     pub fn from_bytes(bytes: &'a [u8]) -> Option<Decimal<'a>>
@@ -43,7 +44,7 @@ impl<'a> Decimal<'a> {
     }
 
     /// Returns `bytes` as a decimal literal, for a caller that has tested them: they have to be a JSON number with a fraction
-    /// or an exponent.
+    /// or an exponent, or an integer out of range.
     #[inline(always)]
     pub fn from_bytes_unchecked(bytes: &'a [u8]) -> Decimal<'a>
         requires { IsDecimal bytes.now }

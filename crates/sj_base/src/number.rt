@@ -1,24 +1,50 @@
 //! Recognition of decimal literals, part by part.
 ghost use Rattle.std.specs.Prelude.{◌≡◌, ◌||◌, true};
 ghost use Rattle.std.specs.Str.{all_ascii_digits};
-ghost use Rattle.sj_base.specs.NumberTests.{magnitude, unsigned, front_digits, behind_digits, is_digits, is_whole, is_exponent, is_behind_point, is_fraction_or_exponent, is_decimal};
+ghost use Rattle.sj_base.specs.NumberTests.{is_negative, magnitude, unsigned, front_digits, behind_digits, is_digits, is_whole, is_exponent, is_behind_point, is_fraction_or_exponent, is_in_range, is_kept_by, is_decimal};
+ghost use Rattle.std.specs.Str.Parse.{digits_value};
 
 /// Returns `true` if the bytes are a decimal literal.
 pub(crate) fn is_decimal(bytes: &[u8]) -> bool
     ensures { result ≡ is_decimal bytes.now }
 {
-    let (digits, behind) = split_digits(magnitude(bytes));
-    is_whole(digits) && is_fraction_or_exponent(behind)
+    let (is_negative, magnitude) = split_minus(bytes);
+    let (digits, behind) = split_digits(magnitude);
+    is_whole(digits) && is_kept_by(is_negative, digits, behind)
 }
 
-/// The bytes behind a minus, or all if there is none.
+/// Whether a number is kept as text, by what stands behind its digits.
+fn is_kept_by(is_negative: bool, digits: &[u8], behind: &[u8]) -> bool
+    requires { is_whole digits.now ≡ true }
+    ensures { result ≡ is_kept_by is_negative digits.now behind.now }
+{
+    if behind.is_empty() {
+        !is_in_range(is_negative, digits)
+    } else {
+        is_fraction_or_exponent(behind)
+    }
+}
+
+/// Whether the integer of these digits goes from -2^63 to 2^64 - 1.
+fn is_in_range(is_negative: bool, digits: &[u8]) -> bool
+    requires { is_whole digits.now ≡ true }
+    ensures { result ≡ is_in_range is_negative (digits_value 10 digits.now) }
+{
+    match fast_float::parse_u64(digits) {
+        Ok(value) => !is_negative || value <= 1 << 63,
+        Err(_) => false,
+    }
+}
+
+/// Whether a minus stands in front, and the bytes behind it.
 #[inline(always)]
-fn magnitude(bytes: &[u8]) -> &[u8]
-    ensures { result.now ≡ magnitude bytes.now }
+fn split_minus(bytes: &[u8]) -> (bool, &[u8])
+    ensures negative { result.0 ≡ is_negative bytes.now }
+    ensures magnitude { result.1.now ≡ magnitude bytes.now }
 {
     match bytes {
-        [b'-', behind @ ..] => behind,
-        _ => bytes,
+        [b'-', behind @ ..] => (true, behind),
+        _ => (false, bytes),
     }
 }
 

@@ -9,6 +9,6 @@ pub enum Scalar<'a> {
     Static(StaticNode),
     /// A string.
     Text(&'a str),
-    /// A number with a fraction or an exponent.
+    /// A number with a fraction or an exponent, or an integer below -2^63 or above 2^64 - 1.
     Literal(Decimal<'a>),
 }

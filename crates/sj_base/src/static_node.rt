@@ -20,7 +20,7 @@ pub enum ValueType {
     I64,
     /// An integer in an unsigned carrier.
     U64,
-    /// A number with a fraction or an exponent. It stands in the place of `F64`.
+    /// A number with a fraction or an exponent, or an integer below -2^63 or above 2^64 - 1. It stands in the place of `F64`.
     Decimal,
     /// A string.
     String,

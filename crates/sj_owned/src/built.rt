@@ -26,7 +26,7 @@ pub trait BuildValue<'de, K: ObjectKey>: Sized {
     fn from_static(alloc: Global, scalar: StaticNode) -> Result<Self, AllocError>
         ensures { IfOk result (λ v. tree v ≡ static_tree scalar) };
 
-    /// Builds a number with a fraction or an exponent.
+    /// Builds a number with a fraction or an exponent, or an integer below -2^63 or above 2^64 - 1.
     ///
     /// # Errors
     ///

@@ -13,7 +13,7 @@ use std::alloc::{AllocError, Global};
 pub enum Value<K: ObjectKey, D> {
     /// Null, a boolean or an integer.
     Static(StaticNode),
-    /// A number with a fraction or an exponent.
+    /// A number with a fraction or an exponent, or an integer below -2^63 or above 2^64 - 1.
     Decimal(D),
     /// A string.
     String(K),

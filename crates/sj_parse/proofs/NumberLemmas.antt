@@ -5,27 +5,17 @@ use Rattle.std.specs.Char.{is_ascii_digit, IsAsciiDigit}
 use Rattle.std.specs.Str.{all_ascii_digits}
 use Rattle.std.specs.Str.Parse.{digits_value}
 use Rattle.std.proofs.Common.{refl, sym, ap, ap₂, ◌∙◌, subst, inl, inr, arith, append-nil}
-use Rattle.std.proofs.lemmas.Bool.{and_right, lt-leb, and_parts, and_from, or_cases, or_left, or_right, or_from, false_from_ne_true, agree_below_at, leb-true, le-leb, ltb-true, lt-ltb, le-ltb, cases_Bool}
-use Rattle.sj_base.specs.Tree.{IsInRange, integer, decimal}
-use Rattle.sj_base.specs.Number.{minus, signed, SpellsInteger}
+use Rattle.std.proofs.lemmas.Bool.{not_from_false, and_right, lt-leb, and_parts, and_from, or_cases, or_left, or_right, or_from, false_from_ne_true, agree_below_at, leb-true, le-leb, ltb-true, lt-ltb, le-ltb, cases_Bool}
+use Rattle.sj_base.specs.Tree.{integer, decimal}
+use Rattle.sj_base.specs.Number.{minus, signed, IsInRange, SpellsInteger}
 use Rattle.sj_base.specs.Spelling.{SpellsValue}
 use Rattle.sj_base.proofs.NumberBytes.{IsInNumber, integer_parts, no_decimal, integer_bytes, decimal_bytes, number_first, whole_digits}
-use Rattle.sj_base.specs.NumberTests.{is_negative, magnitude, is_whole, is_decimal, is_in_range, is_integer, integer_value, is_number}
+use Rattle.sj_base.specs.NumberTests.{is_negative, magnitude, front_digits, behind_digits, is_whole, is_decimal, is_kept_by, is_in_range, is_integer, integer_value, is_number}
 use Rattle.sj_parse.specs.inside.Trees.{number_tree}
 use Rattle.sj_parse.specs.inside.WordBytes.{is_word_byte}
-use Rattle.sj_base.proofs.Literals.{to_test, all_digits-from_AllDigits, IsWhole-from_is_whole, is_whole-from_IsWhole, sign_parts, sign_of, IsDecimal-from_is_decimal, is_decimal-from_IsDecimal}
+use Rattle.sj_base.proofs.Literals.{digits-append, out_of_range, IsInRange-from_is_in_range, is_in_range-from_IsInRange, to_test, all_digits-from_AllDigits, IsWhole-from_is_whole, is_whole-from_IsWhole, sign_parts, sign_of, IsDecimal-from_is_decimal, is_decimal-from_IsDecimal}
 
 -- ---- integers
-
-IsInRange-from_is_in_range : (negative : Bool) (n : ℕ) → is_in_range negative n ≡ true → IsInRange (signed negative n)
-IsInRange-from_is_in_range false n e = ltb-true n (2 ^ 64) e
-IsInRange-from_is_in_range true zero e = omega arith
-IsInRange-from_is_in_range true (suc n) e = let le : suc n ≤ 2 ^ 63 = leb-true (suc n) (2 ^ 63) e in omega arith
-
-is_in_range-from_IsInRange : (negative : Bool) (n : ℕ) → IsInRange (signed negative n) → is_in_range negative n ≡ true
-is_in_range-from_IsInRange false n h = lt-ltb n (2 ^ 64) h
-is_in_range-from_IsInRange true zero h = refl
-is_in_range-from_IsInRange true (suc n) h = le-leb (suc n) (2 ^ 63) (omega arith)
 
 -- also past the range
 SpellsInteger-from_is_whole : (bs : List ℕ) → is_whole (magnitude bs) ≡ true → SpellsInteger (integer_value bs) bs
@@ -52,24 +42,30 @@ is_integer-from_SpellsInteger n bs h range =
 -- ---- decimal literals
 
 pub is_integer-decimal : (bs : List ℕ) → is_decimal bs ≡ true → is_integer bs ≡ false
-is_integer-decimal bs e = false_from_ne_true (is_integer bs) (λ i. no_decimal (integer_value bs) bs (SpellsInteger-from_is_integer bs i).0 (IsDecimal-from_is_decimal bs e))
+is_integer-decimal bs e = false_from_ne_true (is_integer bs) (λ i. let p = SpellsInteger-from_is_integer bs i in no_decimal (integer_value bs) bs p.1 p.0 (IsDecimal-from_is_decimal bs e))
 
--- A whole number out of range is no number.
-pub is_number-out : (bs : List ℕ) → is_whole (magnitude bs) ≡ true → is_in_range (is_negative bs) (digits_value 10 (magnitude bs)) ≡ false → is_number bs ≡ false
-is_number-out bs whole out =
-    or_from (is_integer bs) (is_decimal bs)
-    (and_right (is_whole (magnitude bs)) (is_in_range (is_negative bs) (digits_value 10 (magnitude bs))) out)
-    (false_from_ne_true (is_decimal bs) (λ d. no_decimal (integer_value bs) bs (SpellsInteger-from_is_whole bs whole) (IsDecimal-from_is_decimal bs d)))
+-- A whole number out of range is no integer that a carrier holds.
+is_integer-out : (bs : List ℕ) → is_in_range (is_negative bs) (digits_value 10 (magnitude bs)) ≡ false → is_integer bs ≡ false
+is_integer-out bs out = and_right (is_whole (magnitude bs)) (is_in_range (is_negative bs) (digits_value 10 (magnitude bs))) out
 
-pub is_number-below : (bs : List ℕ) → is_negative bs ≡ true → is_whole (magnitude bs) ≡ true → (digits_value 10 (magnitude bs) ≤ 2 ^ 63 → ⊥) → is_number bs ≡ false
-is_number-below bs negative whole large =
-    is_number-out bs whole (ap (λ b. is_in_range b (digits_value 10 (magnitude bs))) negative ∙ lt-leb (digits_value 10 (magnitude bs)) (2 ^ 63) (omega arith))
+pub is_integer-below : (bs : List ℕ) → is_negative bs ≡ true → (digits_value 10 (magnitude bs) ≤ 2 ^ 63 → ⊥) → is_integer bs ≡ false
+is_integer-below bs negative large =
+    is_integer-out bs (ap (λ b. is_in_range b (digits_value 10 (magnitude bs))) negative ∙ lt-leb (digits_value 10 (magnitude bs)) (2 ^ 63) (omega arith))
 
-pub is_number-above : (bs : List ℕ) → is_whole (magnitude bs) ≡ true → (digits_value 10 (magnitude bs) < 2 ^ 64 → ⊥) → is_number bs ≡ false
-is_number-above bs whole large = elim (cases_Bool (is_negative bs)) [
-  | inl e ↦ is_number-below bs e whole (λ le. large (omega (arith, le)))
-  | inr e ↦ is_number-out bs whole (ap (λ b. is_in_range b (digits_value 10 (magnitude bs))) e ∙ le-ltb (digits_value 10 (magnitude bs)) (2 ^ 64) (omega arith))
-]
+pub is_integer-above : (bs : List ℕ) → (digits_value 10 (magnitude bs) < 2 ^ 64 → ⊥) → is_integer bs ≡ false
+is_integer-above bs large = is_integer-out bs (out_of_range (is_negative bs) (digits_value 10 (magnitude bs)) large)
+
+-- It is kept as its text.
+pub large_decimal : (bs : List ℕ) → is_whole (magnitude bs) ≡ true → is_integer bs ≡ false → is_decimal bs ≡ true
+large_decimal bs whole none =
+    let digits = magnitude bs in
+    let all = digits-append digits [] (whole_digits digits (IsWhole-from_is_whole digits whole)) tt in
+    let front : front_digits digits ≡ digits = ap front_digits (sym (append-nil digits)) ∙ all.0 in
+    let behind : behind_digits digits ≡ [] = ap behind_digits (sym (append-nil digits)) ∙ all.1 in
+    let out : is_in_range (is_negative bs) (digits_value 10 digits) ≡ false = rw whole at none in
+    and_from (is_whole (front_digits digits)) (is_kept_by (is_negative bs) (front_digits digits) (behind_digits digits))
+    (ap is_whole front ∙ whole)
+    (ap₂ (λ ds xs. is_kept_by (is_negative bs) ds xs) front behind ∙ not_from_false (is_in_range (is_negative bs) (digits_value 10 digits)) out)
 
 -- a whole number is digits
 pub whole-digits : (ds : List ℕ) → is_whole ds ≡ true → all_ascii_digits ds ≡ true

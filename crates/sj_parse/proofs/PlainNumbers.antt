@@ -146,7 +146,7 @@ plain_decimal bytes negative m k n p f parts sign within digits point within_f d
       is_whole = IsWhole-from_is_whole ds whole;
       is_fraction = inr (fs, refl, (omega (arith, behind, some), all_f));
       is_exponent = inl refl;
-      has_one = λ e. absurd cc;
+      is_kept = λ range e. absurd cc;
     } in (
       front_is_word bytes text (drop p f) (k + n + 1 + p) split size inside ends,
       ap is_decimal (ap word split ∙ word-front text (drop p f) inside ends) ∙ is_decimal-from_IsDecimal text decimal,

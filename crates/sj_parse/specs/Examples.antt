@@ -118,11 +118,11 @@ number_before_a_quote : fault (codes "[1\"a\"]") 1024 ≡ Some (record { error =
 unfolding is_utf8 chars encode_utf8 value
 number_before_a_quote = refl
 
-above_the_range : fault (codes "[18446744073709551616]") 1024 ≡ Some (record { error = InvalidNumber; index = 1; character = Some 0x31 })
+above_the_range : fault (codes "[18446744073709551616]") 1024 ≡ None
 unfolding is_utf8 chars encode_utf8 value
 above_the_range = refl
 
-below_the_range : fault (codes "[-9223372036854775809]") 1024 ≡ Some (record { error = InvalidNumber; index = 1; character = Some 0x2d })
+below_the_range : fault (codes "[-9223372036854775809]") 1024 ≡ None
 unfolding is_utf8 chars encode_utf8 value
 below_the_range = refl
 

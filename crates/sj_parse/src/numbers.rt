@@ -1,9 +1,9 @@
-//! Numbers: an integer by its value, any other by its text.
+//! Numbers: an integer in range by its value, any other by its text.
 ghost use Rattle.std.specs.Prelude.{◌≡◌, ◌<◌, ◌≤◌, ◌^◌, true, false, pos, neg_ℤ, length, take, MatchOption, IfSome, IfNone, SomeIff};
 ghost use Rattle.std.specs.Str.{all_ascii_digits};
 ghost use Rattle.sj_parse.specs.Token.{word};
 ghost use Rattle.std.specs.Str.Parse.{digits_value};
-ghost use Rattle.sj_base.specs.NumberTests.{is_negative, magnitude, is_whole, is_decimal, is_number};
+ghost use Rattle.sj_base.specs.NumberTests.{is_negative, magnitude, is_whole, is_integer, is_decimal, is_number};
 ghost use Rattle.sj_parse.specs.inside.NumberNode.{IsNumberNode, HasShape};
 
 use crate::atoms::ends_word;
@@ -23,31 +23,44 @@ pub(crate) enum Shape {
     Other,
 }
 
-/// Returns the node of a number, or `None` for any other text. An integer with a minus is an `I64`, any other a `U64`.
+/// Returns the node of a number, or `None` for any other text. An integer in range with a minus is an `I64`, any other
+/// such a `U64`.
 #[inline(always)]
 pub(crate) fn number<'a>(text: &'a [u8], shape: Shape) -> Option<Node<'a>>
     requires { HasShape text.now shape }
     ensures { MatchOption result (is_number text.now ≡ false) (IsNumberNode text.now) }
 {
     match shape {
-        Shape::Whole => integer(text),
+        Shape::Whole => Some(integer(text)),
         Shape::Decimal => Some(Node::Decimal(Decimal::from_bytes_unchecked(text))),
         Shape::Other => decimal(text),
     }
 }
 
-// The node of a whole number, where it is in range.
+// The node of a whole number. One that is out of range is kept as its text.
 #[inline(always)]
-fn integer<'a>(text: &'a [u8]) -> Option<Node<'a>>
+fn integer<'a>(text: &'a [u8]) -> Node<'a>
     requires { is_whole (magnitude text.now) ≡ true }
-    ensures { MatchOption result (is_number text.now ≡ false) (IsNumberNode text.now) }
+    ensures { IsNumberNode text.now result }
+{
+    match in_range(text) {
+        Some(integer) => Node::Static(integer),
+        None => Node::Decimal(Decimal::from_bytes_unchecked(text)),
+    }
+}
+
+// A whole number in its carrier, where it is in range.
+#[inline(always)]
+fn in_range(text: &[u8]) -> Option<StaticNode>
+    requires { is_whole (magnitude text.now) ≡ true }
+    ensures { MatchOption result (is_integer text.now ≡ false) (λ n. IsNumberNode text.now (Node.Static n)) }
 {
     let (negative, digits) = split_minus(text);
     let value = whole(digits)?;
     if negative {
-        Some(Node::Static(StaticNode::I64(negated(value)?)))
+        Some(StaticNode::I64(negated(value)?))
     } else {
-        Some(Node::Static(StaticNode::U64(value)))
+        Some(StaticNode::U64(value))
     }
 }
 

@@ -8,7 +8,7 @@ use Rattle.sj_base.specs.Path.{Part, key, place, member_at}
 use Rattle.sj_base.specs.Tree.{Tree, null, boolean, integer, decimal, string, list, object, Items, no_items, item, Members, no_members, member}
 use Rattle.sj_base.proofs.Kept.{list_parts, object_parts, item_parts, kept_member, kept_with}
 use Rattle.sj_tape.specs.Laws.{RepeatsAndKeep}
-use Rattle.sj_tape.specs.Repeats.{Repetition, inside, is_among, repeated, repeated_in_items, repeated_in_members}
+use Rattle.sj_tape.specs.Repeats.{Repetition, one_level_out, is_among, repeated, repeated_in_items, repeated_in_members}
 use Rattle.sj_tape.proofs.Repeating.{among_last}
 
 -- ---- what is found in no part
@@ -17,7 +17,7 @@ none_of : {A : Type 0} (x y : Option A) → option_or x y ≡ None → (x ≡ No
 none_of None y e = (refl, e)
 none_of (Some a) y e = absurd cc
 
-none_inside : (part : Part) (x : Option Repetition) → inside part x ≡ None → x ≡ None
+none_inside : (part : Part) (x : Option Repetition) → one_level_out part x ≡ None → x ≡ None
 none_inside part None e = refl
 none_inside part (Some r) e = absurd cc
 
@@ -80,14 +80,14 @@ mutual
   items_kept : (n : ℕ) (ts : Items) → repeated_in_items n ts ≡ None → keep_items ts ≡ ts
   items_kept n no_items e = refl
   items_kept n (item t ts) e =
-      let none = none_of (inside (place n) (repeated t)) (repeated_in_items (suc n) ts) e in
+      let none = none_of (one_level_out (place n) (repeated t)) (repeated_in_items (suc n) ts) e in
       ap₂ item (kept_where t (none_inside (place n) (repeated t) none.0)) (items_kept (suc n) ts none.1)
 
   members_kept : (names : List (List ℕ)) (ms : Members) → repeated_in_members names ms ≡ None → (keep_members ms ≡ ms) × Apart names ms
   members_kept names no_members e = (refl, λ q there. refl)
   members_kept names (member k t ms) e =
-      let new = new_key (is_among k names) ([], k) (option_or (inside (key k) (repeated t)) (repeated_in_members (names ++ k ∷ []) ms)) e in
-      let none = none_of (inside (key k) (repeated t)) (repeated_in_members (names ++ k ∷ []) ms) new.1 in
+      let new = new_key (is_among k names) ([], k) (option_or (one_level_out (key k) (repeated t)) (repeated_in_members (names ++ k ∷ []) ms)) e in
+      let none = none_of (one_level_out (key k) (repeated t)) (repeated_in_members (names ++ k ∷ []) ms) new.1 in
       let rest = members_kept (names ++ k ∷ []) ms none.1 in (
         kept_with k t ms (kept_where t (none_inside (key k) (repeated t) none.0)) (rest.1 k (last_among names k)) rest.0,
         λ q there. apart_at names k t ms q (bytes_eq k q) refl new.0 there rest.1,
@@ -107,15 +107,15 @@ mutual
   none_in_items n no_items h = refl
   none_in_items n (item t ts) h =
       let parts = item_parts (keep t) t (keep_items ts) ts h in
-      ap₂ (λ x y. option_or (inside (place n) x) y) (none_where t parts.0) (none_in_items (suc n) ts parts.1)
+      ap₂ (λ x y. option_or (one_level_out (place n) x) y) (none_where t parts.0) (none_in_items (suc n) ts parts.1)
 
   none_in_members : (names : List (List ℕ)) (ms : Members) → keep_members ms ≡ ms → Apart names ms → repeated_in_members names ms ≡ None
   none_in_members names no_members h apart = refl
   none_in_members names (member k t ms) h apart =
       let parts = kept_member k t ms h in
       let rest = none_in_members (names ++ k ∷ []) ms parts.2 (λ q there. apart_from names k t ms q (bytes_eq k q) refl parts.1 there apart) in
-      ap (λ b. cond b (Some ([], k)) (option_or (inside (key k) (repeated t)) (repeated_in_members (names ++ k ∷ []) ms))) (fresh names k t ms (is_among k names) refl apart)
-      ∙ ap₂ (λ x y. option_or (inside (key k) x) y) (none_where t parts.0) rest
+      ap (λ b. cond b (Some ([], k)) (option_or (one_level_out (key k) (repeated t)) (repeated_in_members (names ++ k ∷ []) ms))) (fresh names k t ms (is_among k names) refl apart)
+      ∙ ap₂ (λ x y. option_or (one_level_out (key k) x) y) (none_where t parts.0) rest
 
 pub repeats_and_keep : RepeatsAndKeep
 repeats_and_keep t = (kept_where t, none_where t)

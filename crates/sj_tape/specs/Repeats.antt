@@ -13,8 +13,8 @@ abbrev pub Repetition : Type 0
 Repetition = List Part × List ℕ
 
 -- the same, seen from one level further out
-abbrev pub inside : Part → Option Repetition → Option Repetition
-inside part found = option_map (λ r. (part ∷ r.0, r.1)) found
+abbrev pub one_level_out : Part → Option Repetition → Option Repetition
+one_level_out part found = option_map (λ r. (part ∷ r.0, r.1)) found
 
 -- whether the key is one of these
 abbrev pub is_among : List ℕ → List (List ℕ) → Bool
@@ -34,13 +34,13 @@ abbrev mutual
   -- n: the place of the first of these items
   pub repeated_in_items : ℕ → Items → Option Repetition
   repeated_in_items n no_items = None
-  repeated_in_items n (item t ts) = option_or (inside (place n) (repeated t)) (repeated_in_items (suc n) ts)
+  repeated_in_items n (item t ts) = option_or (one_level_out (place n) (repeated t)) (repeated_in_items (suc n) ts)
 
   -- earlier: the keys of the members before these
   pub repeated_in_members : List (List ℕ) → Members → Option Repetition
   repeated_in_members earlier no_members = None
   repeated_in_members earlier (member k t ms) =
-      if is_among k earlier then Some ([], k) else option_or (inside (key k) (repeated t)) (repeated_in_members (earlier ++ k ∷ []) ms)
+      if is_among k earlier then Some ([], k) else option_or (one_level_out (key k) (repeated t)) (repeated_in_members (earlier ++ k ∷ []) ms)
 
 -- what a `Repeat` stands for
 abbrev pub part_view : RepeatPart → Part

@@ -18,7 +18,7 @@ pub enum Node<'i> {
     Array { len: usize, count: usize },
     /// Null, a boolean or an integer.
     Static(StaticNode),
-    /// A number with a fraction or an exponent, as its literal.
+    /// A number with a fraction or an exponent, or an integer below -2^63 or above 2^64 - 1, as its literal.
     Decimal(Decimal<'i>),
 }
 

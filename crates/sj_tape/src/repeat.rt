@@ -1,9 +1,8 @@
 //! The first repeated key of a value.
-ghost use Rattle.std.specs.Prelude.{◌≡◌, [], ◌∷◌, ◌++◌, IfOk, OnOk, option_map};
-ghost use Rattle.sj_base.specs.Path.{key as a_key, place as a_place};
-ghost use Rattle.sj_tape.specs.Repeats.{repeated, repeated_in_items, repeated_in_members, inside, is_among, part_view, repeat_view};
+ghost use Rattle.std.specs.Prelude.{◌≡◌, [], ◌∷◌, ◌++◌, None, IfOk, OnOk, option_map};
+ghost use Rattle.sj_tape.specs.Repeats.{repeated, repeated_in_items, repeated_in_members, is_among, part_view, repeat_view};
 ghost use Rattle.sj_tape.specs.Views.{value_tree, array_items, object_members};
-ghost use Rattle.sj_tape.specs.inside.Earlier.{first_keys, growing, Lists};
+ghost use Rattle.sj_tape.specs.inside.Earlier.{growing, texts, Lists};
 
 use crate::array::Array;
 use crate::object::Object;
@@ -47,11 +46,12 @@ impl<'i> Value<'_, 'i> {
     ///
     /// # Errors
     ///
-    /// `AllocError` if there is no memory for the path, or for the keys of an object of more than 32 members.
+    /// `AllocError` if there is no memory for the keys of the objects that are searched, or for the path.
     pub fn first_repeat(&self, alloc: Global) -> Result<Option<Repeat<'i>>, AllocError>
         ensures { IfOk result (λ found. option_map repeat_view found ≡ repeated (value_tree self.now)) }
     {
-        let Some(mut found) = first_in(alloc, self)? else {
+        let mut keys = Vec::new(alloc);
+        let Some(mut found) = first_in(&mut keys, self)? else {
             return Ok(None);
         };
         found.path.reverse();
@@ -59,27 +59,36 @@ impl<'i> Value<'_, 'i> {
     }
 }
 
+// `keys` has the keys that stand earlier in the objects around the value. It is as it was where nothing is found.
 #[cycle(search)]
-fn first_in<'i>(alloc: Global, value: &Value<'_, 'i>) -> Result<Option<Repeat<'i>>, AllocError>
-    ensures { IfOk result (λ found. option_map growing found ≡ repeated (value_tree value.now)) }
+fn first_in<'i>(
+    keys: &mut Vec<&'i str>,
+    value: &Value<'_, 'i>,
+) -> Result<Option<Repeat<'i>>, AllocError>
+    ensures found { IfOk result (λ found. option_map growing found ≡ repeated (value_tree value.now)) }
+    ensures keys { IfOk result (λ found. found ≡ None → keys.new.items ≡ keys.old.items) }
 {
     if let Some(items) = value.as_array() {
-        return first_in_items(alloc, items);
+        return first_in_items(keys, items);
     }
     if let Some(members) = value.as_object() {
-        return first_in_members(alloc, members);
+        return first_in_members(keys, members);
     }
     Ok(None)
 }
 
 #[cycle(search)]
-fn first_in_items<'i>(alloc: Global, items: Array<'_, 'i>) -> Result<Option<Repeat<'i>>, AllocError>
-    ensures { IfOk result (λ found. option_map growing found ≡ repeated_in_items 0 (array_items items.entry)) }
+fn first_in_items<'i>(
+    keys: &mut Vec<&'i str>,
+    items: Array<'_, 'i>,
+) -> Result<Option<Repeat<'i>>, AllocError>
+    ensures found { IfOk result (λ found. option_map growing found ≡ repeated_in_items 0 (array_items items.entry)) }
+    ensures keys { IfOk result (λ found. found ≡ None → keys.new.items ≡ keys.old.items) }
 {
     let mut rest = items;
     let mut place = 0;
     while let Some((item, behind)) = rest.split_first() {
-        if let Some(found) = first_in(alloc, &item)? {
+        if let Some(found) = first_in(keys, &item)? {
             return Ok(Some(found.inside(RepeatPart::Item(place))?));
         }
         rest = behind;
@@ -90,32 +99,35 @@ fn first_in_items<'i>(alloc: Global, items: Array<'_, 'i>) -> Result<Option<Repe
 
 #[cycle(search)]
 fn first_in_members<'i>(
-    alloc: Global,
+    keys: &mut Vec<&'i str>,
     members: Object<'_, 'i>,
 ) -> Result<Option<Repeat<'i>>, AllocError>
-    ensures { IfOk result (λ found. option_map growing found ≡ repeated_in_members [] (object_members members.entry)) }
+    ensures found { IfOk result (λ found. option_map growing found ≡ repeated_in_members [] (object_members members.entry)) }
+    ensures keys { IfOk result (λ found. found ≡ None → keys.new.items ≡ keys.old.items) }
 {
+    let alloc = *keys.allocator();
+    let start = keys.len();
     let mut listed = no_keys(alloc, members.len());
     let mut rest = members;
-    let mut place = 0;
     while let Some((key, value, behind)) = rest.split_first() {
-        if is_repeated(members, place, key, &mut listed)? {
+        if is_met(key, &keys[start..], &mut listed)? {
             return Ok(Some(Repeat {
                 path: Vec::new(alloc),
                 key,
             }));
         }
-        if let Some(found) = first_in(alloc, &value)? {
+        keys.push(key)?;
+        if let Some(found) = first_in(keys, &value)? {
             return Ok(Some(found.inside(RepeatPart::Key(key))?));
         }
         rest = behind;
-        place += 1;
     }
+    keys.truncate(start);
     Ok(None)
 }
 
-// The most members of an object whose keys are compared with each other one by one, which takes no memory.
-const FEW_MEMBERS: usize = 32;
+// The most members of an object whose keys are compared with each other one by one.
+const FEW_MEMBERS: usize = 64;
 
 // The keys of the members before one of an object, where a set lists them.
 type Listed<'i> = Option<BTreeSet<&'i str>>;
@@ -132,38 +144,18 @@ fn no_keys<'i>(alloc: Global, len: usize) -> Listed<'i>
     }
 }
 
-// Whether one of the first `count` members has the key, which is listed from now on where keys are.
-fn is_repeated<'i>(
-    members: Object<'_, 'i>,
-    count: usize,
+// Whether the key is one of those that stand earlier. It is listed from now on, where keys are.
+fn is_met<'i>(
     key: &'i str,
+    earlier: &[&'i str],
     listed: &mut Listed<'i>,
 ) -> Result<bool, AllocError>
-    requires { Lists listed.old (first_keys count (object_members members)) }
-    ensures found { IfOk result (λ found. found ≡ is_among key.now (first_keys count (object_members members.entry))) }
-    ensures lists { OnOk result (Lists listed.new (first_keys count (object_members members.entry) ++ key.now ∷ [])) }
+    requires { Lists listed.old (texts earlier.now) }
+    ensures found { IfOk result (λ found. found ≡ is_among key.now (texts earlier.now)) }
+    ensures lists { OnOk result (Lists listed.new (texts earlier.now ++ key.now ∷ [])) }
 {
     match listed {
-        Some(keys) => Ok(!keys.insert(key)?),
-        None => Ok(has_among_first(members, count, key)),
+        Some(set) => Ok(!set.insert(key)?),
+        None => Ok(earlier.contains(&key)),
     }
-}
-
-// Whether one of the first `count` members has the key.
-fn has_among_first(members: Object<'_, '_>, count: usize, key: &str) -> bool
-    ensures { result ≡ is_among key.now (first_keys count (object_members members.entry)) }
-{
-    let mut rest = members;
-    let mut left = count;
-    while left > 0 {
-        let Some((name, _, behind)) = rest.split_first() else {
-            return false;
-        };
-        if name == key {
-            return true;
-        }
-        rest = behind;
-        left -= 1;
-    }
-    false
 }

@@ -137,11 +137,29 @@ fn expect_copies(rt: &impl Abort, owned: DecimalBuf, text: &str) -> Result<(), A
 
 #[test]
 fn decimals(rt: HostRuntime) -> Result<(), Fail> {
-    for text in ["1.50", "-0e0", "1E+5"] {
+    for text in [
+        "1.50",
+        "-0e0",
+        "1E+5",
+        "18446744073709551616",
+        "-9223372036854775809",
+    ] {
         let literal = Decimal::new(text).ok_or("refused")?;
         expect_copies(&rt, DecimalBuf::new(rt.alloc(), literal)?, text)?;
     }
-    for text in ["1", "01.5", "1.", ".5", "1e", "+1.5", ""] {
+    for text in [
+        "1",
+        "-0",
+        "18446744073709551615",
+        "-9223372036854775808",
+        "018446744073709551616",
+        "01.5",
+        "1.",
+        ".5",
+        "1e",
+        "+1.5",
+        "",
+    ] {
         assert!(rt; Decimal::new(text).is_none(), "at {text}");
     }
     Ok(())

@@ -1,20 +1,15 @@
-use Rattle.std.specs.Prelude.{◌≡◌, true}
-use Rattle.std.proofs.Common.{sym, ◌∙◌, arith, rules}
-use Rattle.sj_base.specs.NumberTests.{is_negative}
-use Rattle.sj_parse.proofs.NumberLemmas.{is_number-below, is_number-above}
+use Rattle.std.specs.Prelude.{◌≡◌, false}
+use Rattle.sj_base.specs.NumberTests.{is_integer}
+use Rattle.sj_base.proofs.Literals.{IsDecimal-from_is_decimal}
+use Rattle.sj_parse.proofs.NumberLemmas.{large_decimal}
 use Rattle.sj_parse.proofs.numbers.integer.Goals as goal
 
-pub returns-in_err-value : goal.returns-in_err-value
-returns-in_err-value c =
-    let large = rw c.split_minus-negative.ensures.magnitude at c.in_err-value.ensures in
-    rw c.from_residual.ensures (is_number-above c.args.text.now c.requires large)
+pub from_bytes_unchecked-requires : goal.from_bytes_unchecked-requires
+from_bytes_unchecked-requires c =
+    let none : is_integer c.args.text.now ≡ false = rw c.in-None.is at c.in_range.ensures in
+    IsDecimal-from_is_decimal c.args.text.now (large_decimal c.args.text.now c.requires none)
 
-pub returns-in_err-negated : goal.returns-in_err-negated
-returns-in_err-negated c =
-    let parts = c.split_minus-negative.ensures in
-    let found = rw parts.magnitude at c.in_ok-value.ensures in
-    let negative : is_negative c.args.text.now ≡ true = sym parts.negative ∙ c.if-negative.true in
-    rw c.from_residual-in_err-negated.ensures (is_number-below c.args.text.now negative c.requires (λ le. c.in_err-negated.ensures (omega (arith, found, le))))
-
-pub returns-else-negative : goal.returns-else-negative
-returns-else-negative c = search rules
+pub returns-in-None : goal.returns-in-None
+returns-in-None c =
+    let none : is_integer c.args.text.now ≡ false = rw c.in-None.is at c.in_range.ensures in
+    (none, large_decimal c.args.text.now c.requires none, c.from_bytes_unchecked.ensures)
