@@ -29,7 +29,7 @@ SCRIPT_DEPTH = 1024
 
 
 class Decimal(str):
-    """A number with a fraction or an exponent, as it stands."""
+    """A number with a fraction or an exponent, or an integer below -2^63 or above 2^64 - 1, as it stands."""
 
 
 class Object:
@@ -233,10 +233,9 @@ class Reader:
         found = NUMBER.fullmatch(word)
         if not found:
             raise self.fault("InvalidNumber", start)
-        if found[2] or found[3]:
+        # Python refuses to convert thousands of digits.
+        if found[2] or found[3] or len(word) > len(str(2**64)) or not -(2**63) <= int(word) < 2**64:
             return Decimal(word.decode())
-        if len(word) > len(str(2**64)) or not -(2**63) <= int(word) < 2**64:
-            raise self.fault("InvalidNumber", start)
         return int(word)
 
 

@@ -1,11 +1,11 @@
 -- The tests on numbers hold of what the grammar calls a number.
-use Rattle.std.specs.Prelude.{◌≡◌, ℕ, zero, suc, ℤ, ◌<◌, ◌≤◌, ◌^◌, ◌⊎◌, Bool, true, false, not, ◌||◌, List, [], ◌∷◌, ◌++◌}
+use Rattle.std.specs.Prelude.{◌≡◌, ℕ, ℤ, ◌<◌, ◌≤◌, ◌^◌, ◌⊎◌, true, false, not, ◌||◌, List, [], ◌∷◌, ◌++◌}
 use Rattle.std.specs.List.{AllByRecursion, list_all}
 use Rattle.std.specs.Char.{is_ascii_digit, IsAsciiDigit}
 use Rattle.std.specs.Str.{all_ascii_digits}
 use Rattle.std.specs.Str.Parse.{digits_value}
 use Rattle.std.proofs.Common.{refl, sym, ap, ap₂, ◌∙◌, subst, inl, inr, arith, append-nil}
-use Rattle.std.proofs.lemmas.Bool.{not_from_false, and_right, lt-leb, and_parts, and_from, or_cases, or_left, or_right, or_from, false_from_ne_true, agree_below_at, leb-true, le-leb, ltb-true, lt-ltb, le-ltb, cases_Bool}
+use Rattle.std.proofs.lemmas.Bool.{not_from_false, and_right, lt-leb, and_parts, and_from, or_cases, or_left, or_right, false_from_ne_true, agree_below_at}
 use Rattle.sj_base.specs.Tree.{integer, decimal}
 use Rattle.sj_base.specs.Number.{minus, signed, IsInRange, SpellsInteger}
 use Rattle.sj_base.specs.Spelling.{SpellsValue}

@@ -127,7 +127,7 @@ fn first_in_members<'i>(
 }
 
 // The most members of an object whose keys are compared with each other one by one.
-const FEW_MEMBERS: usize = 64;
+const FEW_MEMBERS: usize = 48;
 
 // The keys of the members before one of an object, where a set lists them.
 type Listed<'i> = Option<BTreeSet<&'i str>>;

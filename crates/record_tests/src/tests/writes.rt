@@ -27,7 +27,7 @@ pub(super) fn check(
 }
 
 // A script, a line and its record, the same in each form.
-pub(super) const WORKED: [(&str, &str, &str); 8] = [
+pub(super) const WORKED: [(&str, &str, &str); 9] = [
     (
         r#"[["get",["key"]],["insert",[],"new",42],["get",["new"]]]"#,
         r#"{"key": "value", "snot": 42}"#,
@@ -62,6 +62,11 @@ pub(super) const WORKED: [(&str, &str, &str); 8] = [
         r#"[["type",[0]],["type",[1]],["type",[2]],["type",[3]],["type",[4]],["type",[5]],["type",[6]],["type",[7]],["type",[8]]]"#,
         r#"[null,true,-1,1,1.0,"",[],{}]"#,
         r#"{"replies":["null","bool","integer","integer","decimal","string","array","object","NoSuchPath"],"document":[null,true,-1,1,1.0,"",[],{}]}"#,
+    ),
+    (
+        r#"[["type",[0]],["type",[1]]]"#,
+        "[-9223372036854775809,-9223372036854775808]",
+        r#"{"replies":["decimal","integer"],"document":[-9223372036854775809,-9223372036854775808]}"#,
     ),
     (
         r#"[["contains",["x"],"k"],["keys",["x"]],["remove",["x"],"k"],["remove",["a"],"k"],["push",["x"],1],["pop",["x"]],["pop",["a"]]]"#,
