@@ -232,6 +232,34 @@ fn made_for_new_keys(rt: HostRuntime) -> Result<(), Fail> {
     Ok(())
 }
 
+// Six blocks, one for each binary digit of `number`, highest first. All of them have one hash.
+fn colliding_key(alloc: Global, number: u64) -> Result<String, AllocError> {
+    let mut key = String::new(alloc);
+    for place in 0..6u32 {
+        let digit = number >> (5 - place) & 1;
+        key.push_str(if digit == 0 { "Aa" } else { "BB" })?;
+    }
+    Ok(key)
+}
+
+#[test]
+fn forty_equal_hashes(rt: HostRuntime) -> Result<(), Fail> {
+    let alloc = rt.alloc();
+    let mut object: Object<String, u64> = Object::new(alloc);
+    for number in 0..40u64 {
+        object.insert(colliding_key(alloc, number)?, number)?;
+    }
+    for number in 0..40u64 {
+        let key = colliding_key(alloc, number)?;
+        let found = KnownKey::from(key.as_str()).map_lookup(&object);
+        expect_eq(&rt, found, Some(&number));
+        expect_eq(&rt, found, object.get(key.as_str()));
+    }
+    let other = colliding_key(alloc, 40)?;
+    expect_eq(&rt, KnownKey::from(other.as_str()).map_lookup(&object), None);
+    Ok(())
+}
+
 #[test]
 fn shown_errors(rt: HostRuntime) -> Result<(), Fail> {
     for (error, text) in [

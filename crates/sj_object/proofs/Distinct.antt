@@ -1,12 +1,13 @@
 -- The keys stay distinct.
-use Rattle.std.proofs.Common.{◌≡◌, ℕ, zero, suc, false, List, [], ◌∷◌, ◌++◌, get_or, set, length, refl, ap, ◌∙◌, inl, inr}
+use Rattle.std.proofs.Common.{◌≡◌, ℕ, zero, suc, false, List, [], ◌∷◌, ◌++◌, get_or, set, length, take, drop, Some, refl, ap, ◌∙◌, inl, inr}
 use Rattle.std.specs.Prelude.{bytes_eq}
 use Rattle.std.specs.List.{insert}
 use Rattle.std.proofs.lemmas.List.Edits.{insert_end}
 use Rattle.std.specs.Cmp.Lexicographic.{nat_list_eq_equiv}
 use Rattle.std.proofs.lemmas.Bool.{cases_Bool, or_parts, or_from}
 use Rattle.sj_object.specs.declared.entry.Entry.{Entry}
-use Rattle.sj_object.specs.Pairs.{keys_of, drop_key, has_text, AreDistinct}
+use Rattle.sj_object.proofs.Places.{at_place}
+use Rattle.sj_object.specs.Pairs.{keys_of, place_of, drop_key, has_text, AreDistinct}
 
 has_text-insert : (ks : List (List ℕ)) (i : ℕ) (x k : List ℕ) → has_text ks x ≡ false → bytes_eq k x ≡ false → has_text (insert ks i k) x ≡ false
 has_text-insert [] zero x k h n = or_from _ _ n refl
@@ -30,7 +31,7 @@ module _ {K V : Type 0} (text : K → List ℕ) where
   keys_of-set d v (e ∷ es) zero = refl
   keys_of-set d v (e ∷ es) (suc i) = ap (λ l. text e.key ∷ l) (keys_of-set d v es i)
 
-  keys_of-insert : (es : List (Entry K V)) (i : ℕ) (e : Entry K V) → keys_of text (insert es i e) ≡ insert (keys_of text es) i (text e.key)
+  pub keys_of-insert : (es : List (Entry K V)) (i : ℕ) (e : Entry K V) → keys_of text (insert es i e) ≡ insert (keys_of text es) i (text e.key)
   keys_of-insert [] zero e = refl
   keys_of-insert [] (suc i) e = refl
   keys_of-insert (x ∷ es) zero e = refl
@@ -59,3 +60,10 @@ module _ {K V : Type 0} (text : K → List ℕ) where
         | inl t ↦ rw t d.1
         | inr f ↦ rw f (has_text-drop es k (text e.key) d.0, distinct_drop es k d.1)
       ]
+
+  pub keys_of-push : (es : List (Entry K V)) (e : Entry K V) → keys_of text (es ++ e ∷ []) ≡ keys_of text es ++ text e.key ∷ []
+  keys_of-push [] e = refl
+  keys_of-push (x ∷ es) e = ap (λ l. text x.key ∷ l) (keys_of-push es e)
+
+  pub keys_of-drop_key : (k : List ℕ) (es : List (Entry K V)) (i : ℕ) → place_of text es k ≡ Some i → keys_of text (drop_key text es k) ≡ take i (keys_of text es) ++ drop (suc i) (keys_of text es)
+  keys_of-drop_key k = at_place text k (λ es i. keys_of text (drop_key text es k) ≡ take i (keys_of text es) ++ drop (suc i) (keys_of text es)) (λ e es t. rw t refl) (λ e es i f p. rw f (ap (λ l. text e.key ∷ l) p))

@@ -2,3 +2,4 @@ pub mod Comparisons
 pub mod Copying
 pub mod Distinct
 pub mod Places
+pub mod Chains

@@ -11,21 +11,21 @@ use Rattle.sj_object.specs.inside.Places.{set_place}
 pub some_same : {X : Type 0} (a b : X) → Some a ≡ Some b → a ≡ b
 some_same a b h = cc
 
-none_some : {X : Type 0} (a : X) → None ≡ Some a → ⊥
+pub none_some : {X : Type 0} (a : X) → None ≡ Some a → ⊥
 none_some a h = cc
 
-suc_none : (o : Option ℕ) → option_map (λ i. suc i) o ≡ None → o ≡ None
+pub suc_none : (o : Option ℕ) → option_map (λ i. suc i) o ≡ None → o ≡ None
 suc_none None h = refl
 suc_none (Some j) h = cc
 
-suc_some : (o : Option ℕ) (i : ℕ) → option_map (λ i. suc i) o ≡ Some i → (j : ℕ) × (o ≡ Some j) × (i ≡ suc j)
+pub suc_some : (o : Option ℕ) (i : ℕ) → option_map (λ i. suc i) o ≡ Some i → (j : ℕ) × (o ≡ Some j) × (i ≡ suc j)
 suc_some None i h = absurd (none_some i h)
 suc_some (Some j) i h = (j, refl, sym (some_same (suc j) i h))
 
-zero_counted : (m n : ℕ) → m ≡ 0 → Some m ≡ cond (ltb m (suc n)) (Some m) None
+pub zero_counted : (m n : ℕ) → m ≡ 0 → Some m ≡ cond (ltb m (suc n)) (Some m) None
 zero_counted m n h = grind (arith, nat_tests)
 
-suc_counted : (m n : ℕ) → option_map (λ i. suc i) (cond (ltb m n) (Some m) None) ≡ cond (ltb (1 + m) (suc n)) (Some (1 + m)) None
+pub suc_counted : (m n : ℕ) → option_map (λ i. suc i) (cond (ltb m n) (Some m) None) ≡ cond (ltb (1 + m) (suc n)) (Some (1 + m)) None
 suc_counted m n = grind (arith, nat_tests, cases_Bool (ltb m n))
 
 module _ {K V : Type 0} (text : K → List ℕ) (k : List ℕ) where

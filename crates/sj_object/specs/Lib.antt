@@ -1,6 +1,7 @@
 pub mod Pairs
 pub mod Iterators
 pub mod Lends
+pub mod Members
 pub mod Hash
 pub mod Compare
 pub mod Copies

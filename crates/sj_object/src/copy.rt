@@ -7,6 +7,7 @@ ghost use Rattle.sj_object.specs.Copies.{copied_pairs, pair_members};
 use crate::entry::Entry;
 use crate::key::ObjectKey;
 use crate::object::Object;
+use crate::table::table_of;
 use sj_base::TryCopy;
 use std::alloc::AllocError;
 use std::borrow::CowStr;
@@ -33,12 +34,14 @@ impl<K: CopyKey + Drop, V: TryCopy + Drop> TryCopy for Object<K, V> {
     ghost tree = { λ pairs. object (pair_members K.tree V.tree pairs) };
 
     fn try_clone(&self) -> Result<Object<K, V>, AllocError> {
-        let mut entries = Vec::with_capacity(*self.entries.allocator(), self.entries.len())?;
+        let alloc = *self.entries.allocator();
+        let mut entries = Vec::with_capacity(alloc, self.entries.len())?;
         for entry in &self.entries {
             let key = entry.key.try_clone()?;
             let value = entry.value.try_clone()?;
             entries.push_reserved(Entry { key, value });
         }
-        Ok(Object { entries })
+        let table = table_of(alloc, &entries)?;
+        Ok(Object { entries, table })
     }
 }

@@ -1,28 +1,39 @@
-//! An object as the vector of its pairs.
+//! An object taken apart.
 ghost use Rattle.std.specs.Prelude.{◌≡◌};
-ghost use Rattle.sj_object.specs.Pairs.{keys_of, AreDistinct};
+ghost use Rattle.sj_object.specs.Members.{AreMembers};
 
 use crate::entry::Entry;
 use crate::key::ObjectKey;
 use crate::object::Object;
+use crate::table::Table;
+
+/// The pairs of an object, taken out of it by [`Object::into_members`].
+///
+/// Unlike [`Object`], it asks nothing of the type of keys, so a trait may have a method that takes the members of an object of
+/// the trait's own type.
+#[derive(Drop)]
+pub struct Members<K, V> {
+    /// The pairs in order. No two have the same key.
+    pub entries: Vec<Entry<K, V>>,
+    pub(crate) table: Option<Box<Table>>,
+}
 
 impl<K: ObjectKey, V> Object<K, V> {
-    /// Creates an object of these pairs, in order. Takes no memory.
-    ///
-    /// Their keys have to be distinct, as those of [`Object::into_entries`] are. To test other pairs, put them into a new
-    /// object by [`Object::insert`].
-    pub fn from_entries(entries: Vec<Entry<K, V>>) -> Self
-        requires { AreDistinct (keys_of K.text entries.items) }
-        ensures { result ≡ entries.items }
+    /// Creates an object of members that were taken out of one. Takes no memory.
+    pub fn from_members(members: Members<K, V>) -> Self
+        requires { AreMembers K.text members }
+        ensures { result ≡ members.entries.items }
     {
-        Object { entries }
+        let Members { entries, table } = members;
+        Object { entries, table }
     }
 
-    /// Returns the pairs in order. Takes no memory.
-    pub fn into_entries(self) -> Vec<Entry<K, V>>
-        ensures entries { result.items ≡ self }
-        ensures distinct { AreDistinct (keys_of K.text self) }
+    /// Takes the members out. Takes no memory.
+    pub fn into_members(self) -> Members<K, V>
+        ensures entries { result.entries.items ≡ self }
+        ensures members { AreMembers K.text result }
     {
-        self.entries
+        let Object { entries, table } = self;
+        Members { entries, table }
     }
 }

@@ -1,7 +1,7 @@
 //! Calls by key with the key's hash at hand.
 //!
-//! They answer as the calls without a hash, and compare texts as those do. That the hash is the key's is a condition of
-//! each call; [`hash_key`](crate::hash_key) gives it.
+//! They answer as the calls without a hash. That the hash is the key's is a condition of each call;
+//! [`hash_key`](crate::hash_key) gives it.
 ghost use Rattle.std.specs.Prelude.{◌≡◌, None, IsSome, IsOk, IfOk, IfErr, OnOk, OnErr, MatchOption};
 ghost use Rattle.std.specs.Borrow.{sem};
 ghost use Rattle.std.specs.Option.{ForNone, option_copied, option_copied_mut};
@@ -11,6 +11,7 @@ ghost use Rattle.sj_object.specs.Pairs.{value_at, put_key};
 use crate::entry::{Entry, Refused};
 use crate::key::ObjectKey;
 use crate::object::Object;
+use crate::table::{make_room, push_key};
 
 impl<K: ObjectKey, V> Object<K, V> {
     ghost use Rattle.sj_object.specs.Lends.{lends_value, lends_put};
@@ -20,8 +21,7 @@ impl<K: ObjectKey, V> Object<K, V> {
         requires { hash ≡ text_hash key.now }
         ensures { option_copied result ≡ value_at K.text self.now key.now }
     {
-        let _ = hash;
-        self.get(key)
+        self.value_by(Some(hash), key)
     }
 
     /// Returns the value of this key for writing. `hash` has to be the key's [`hash_key`](crate::hash_key).
@@ -30,8 +30,7 @@ impl<K: ObjectKey, V> Object<K, V> {
         ensures* writes_back { sem 𝓛 (lends_value K.row V.row K.ObjectKey self.entry key.now result) }
         ensures value { option_copied_mut result ≡ value_at K.text self.old key.now }
     {
-        let _ = hash;
-        self.get_mut(key)
+        self.value_mut_by(Some(hash), key)
     }
 
     /// Puts the value in the place of the value of this key, as [`Object::insert`] does. `hash` has to be the key's
@@ -50,8 +49,7 @@ impl<K: ObjectKey, V> Object<K, V> {
         ensures err { OnErr result (self.new ≡ self.old) }
         ensures handed_back { IfErr result (λ pair. (pair.key ≡ key) × (pair.value ≡ value)) }
     {
-        let _ = hash;
-        self.insert(key, value)
+        self.insert_by(Some(hash), key, value)
     }
 
     /// Returns the value of this key for writing. A new key goes last, with the value that `with` returns. `hash` has to be
@@ -78,12 +76,16 @@ impl<K: ObjectKey, V> Object<K, V> {
         ensures succeeds { IsSome (value_at K.text self.old (K.text key)) → IsOk result }
         ensures handed_back { IfErr result (λ refused. refused ≡ key) }
     {
-        let _ = hash;
-        let Some(at) = self.place(key.as_text()) else {
+        let Some(at) = self.place_by(Some(hash), key.as_text()) else {
+            let alloc = *self.entries.allocator();
+            let at = self.entries.len();
             if self.entries.reserve(1).is_err() {
                 return Err(key);
             }
-            let at = self.entries.len();
+            let Ok(()) = make_room(alloc, &mut self.table, &self.entries) else {
+                return Err(key);
+            };
+            push_key(&mut self.table, &self.entries, Some(hash), key.as_text());
             self.entries.push_reserved(Entry { key, value: with() });
             return Ok(self.value_mut(at));
         };

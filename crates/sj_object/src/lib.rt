@@ -13,8 +13,10 @@ mod hashed;
 mod iter;
 mod key;
 mod object;
+mod table;
 
 pub use copy::CopyKey;
+pub use entries::Members;
 pub use entry::{Entry, Refused};
 pub use hash::{NotSoRandomState, ObjectHasher, hash_key};
 pub use iter::{IntoIter, Iter, Keys, Values};

@@ -1,35 +1,42 @@
 //! The object and its calls by key.
-ghost use Rattle.std.specs.Prelude.{◌≡◌, ◌<◌, ◌≤◌, ◌↔◌, [], length, map, slice_get, is_some, IsTrue, IsSome, IsOk, IfOk, IfErr, OnOk, OnErr};
+ghost use Rattle.std.specs.Prelude.{◌≡◌, ◌<◌, ◌≤◌, ◌↔◌, [], length, map, slice_get, is_some, None, IsTrue, IsSome, IfSome, IsOk, IfOk, IfErr, OnOk, OnErr};
 ghost use Rattle.std.specs.Borrow.{sem};
 ghost use Rattle.std.specs.Option.{option_copied, option_copied_mut};
+ghost use Rattle.sj_object.specs.Hash.{text_hash};
 ghost use Rattle.sj_object.specs.Pairs.{keys_of, value_at, place_of, put_key, drop_key, put_at, AreDistinct};
 
 use crate::entry::{Entry, Refused};
+use crate::hash::hash_key;
 use crate::iter::{IntoIter, Iter, Keys, Values};
 use crate::key::ObjectKey;
+use crate::table::{Table, make_room, push_key, refill};
 use std::alloc::{AllocError, Global};
+use std::fmt::{self, Debug};
 use std::marker::Model;
 use std::mem;
 
 /// Pairs of a key and a value in insertion order, with no key twice.
 ///
 /// It takes the place of the hash map in `simd_json::owned::Object` and `simd_json::borrowed::Object`.
-/// A key is found by comparing texts from the first pair on.
-#[derive(Debug, Drop)]
+/// Up to 32 pairs, a key is found by comparing texts from the first pair on. An object of more pairs has a table beside the
+/// list, from the hashes of keys to places.
+#[derive(Drop)]
 pub struct Object<K: ObjectKey, V> {
     pub(crate) entries: Vec<Entry<K, V>>,
+    pub(crate) table: Option<Box<Table>>,
 }
 
 impl<K: ObjectKey, V> Model for Object<K, V> {
     ghost use Rattle.std.specs.Prelude.{List};
     ghost use Rattle.sj_object.specs.declared.entry.Entry.{Entry};
-    ghost use Rattle.sj_object.specs.Pairs.{keys_of, AreDistinct};
+    ghost use Rattle.sj_object.specs.Pairs.{keys_of};
+    ghost use Rattle.sj_object.specs.inside.Chains.{AreInOrder};
 
     ghost Value = { List (Entry K V) };
 
     ghost view = { λ o. o.entries.items };
 
-    ghost invariant = { λ o. AreDistinct (keys_of K.text o.entries.items) };
+    ghost invariant = { λ o. AreInOrder o.table (keys_of K.text o.entries.items) };
 }
 
 impl<K: ObjectKey, V> Object<K, V> {
@@ -42,6 +49,7 @@ impl<K: ObjectKey, V> Object<K, V> {
     {
         Object {
             entries: Vec::new(alloc),
+            table: None,
         }
     }
 
@@ -54,7 +62,10 @@ impl<K: ObjectKey, V> Object<K, V> {
         ensures { IfOk result (λ object. object ≡ []) }
     {
         let entries = Vec::with_capacity(alloc, capacity)?;
-        Ok(Object { entries })
+        Ok(Object {
+            entries,
+            table: None,
+        })
     }
 
     /// Returns an object without pairs that has this one's allocator, and room for as many pairs.
@@ -88,16 +99,46 @@ impl<K: ObjectKey, V> Object<K, V> {
     pub fn place(&self, key: &str) -> Option<usize>
         ensures { result ≡ place_of K.text self.now key.now }
     {
-        self.entries
-            .iter()
-            .position(|entry| entry.key.as_text() == key)
+        self.place_by(self.hash_in_table(key), key)
+    }
+
+    // The key's hash, if there is a table to look it up in.
+    pub(crate) fn hash_in_table(&self, key: &str) -> Option<u64>
+        ensures { IfSome result (λ hash. hash ≡ text_hash key.now) }
+    {
+        match self.table {
+            Some(_) => Some(hash_key(key)),
+            None => None,
+        }
+    }
+
+    // The place of the pair with this key, whose hash may be known.
+    pub(crate) fn place_by(&self, hash: Option<u64>, key: &str) -> Option<usize>
+        requires { IfSome hash (λ known. known ≡ text_hash key.now) }
+        ensures { result ≡ place_of K.text self.now key.now }
+    {
+        match (&self.table, hash) {
+            (Some(table), Some(hash)) => table.find(hash, key, &self.entries),
+            _ => self
+                .entries
+                .iter()
+                .position(|entry| entry.key.as_text() == key),
+        }
     }
 
     /// Returns the value of this key, or `None` if there is none.
     pub fn get(&self, key: &str) -> Option<&V>
         ensures { option_copied result ≡ value_at K.text self.now key.now }
     {
-        let at = self.place(key)?;
+        self.value_by(self.hash_in_table(key), key)
+    }
+
+    // The same with a hash that may be known.
+    pub(crate) fn value_by(&self, hash: Option<u64>, key: &str) -> Option<&V>
+        requires { IfSome hash (λ known. known ≡ text_hash key.now) }
+        ensures { option_copied result ≡ value_at K.text self.now key.now }
+    {
+        let at = self.place_by(hash, key)?;
         Some(&self.entries[at].value)
     }
 
@@ -106,7 +147,17 @@ impl<K: ObjectKey, V> Object<K, V> {
         ensures* writes_back { sem 𝓛 (lends_value K.row V.row K.ObjectKey self.entry key.now result) }
         ensures value { option_copied_mut result ≡ value_at K.text self.old key.now }
     {
-        match self.place(key) {
+        let hash = self.hash_in_table(key);
+        self.value_mut_by(hash, key)
+    }
+
+    // The same with a hash that may be known.
+    pub(crate) fn value_mut_by(&mut self, hash: Option<u64>, key: &str) -> Option<&mut V>
+        requires { IfSome hash (λ known. known ≡ text_hash key.now) }
+        ensures* writes_back { sem 𝓛 (lends_value K.row V.row K.ObjectKey self.entry key.now result) }
+        ensures value { option_copied_mut result ≡ value_at K.text self.old key.now }
+    {
+        match self.place_by(hash, key) {
             Some(at) => Some(self.value_mut(at)),
             None => None,
         }
@@ -144,8 +195,28 @@ impl<K: ObjectKey, V> Object<K, V> {
         ensures err { OnErr result (self.new ≡ self.old) }
         ensures handed_back { IfErr result (λ pair. (pair.key ≡ key) × (pair.value ≡ value)) }
     {
-        let Some(at) = self.place(key.as_text()) else {
-            self.push_new(key, value)?;
+        let hash = self.hash_in_table(key.as_text());
+        self.insert_by(hash, key, value)
+    }
+
+    // The same with a hash that may be known.
+    pub(crate) fn insert_by(
+        &mut self,
+        hash: Option<u64>,
+        key: K,
+        value: V,
+    ) -> Result<Option<V>, Refused<K, V>>
+    where
+        K: Drop,
+        requires { IfSome hash (λ known. known ≡ text_hash (K.text key)) }
+        ensures ok { OnOk result (self.new ≡ put_key K.text self.old key value) }
+        ensures replaced { IfOk result (λ old. old ≡ value_at K.text self.old (K.text key)) }
+        ensures succeeds { IsSome (value_at K.text self.old (K.text key)) → IsOk result }
+        ensures err { OnErr result (self.new ≡ self.old) }
+        ensures handed_back { IfErr result (λ pair. (pair.key ≡ key) × (pair.value ≡ value)) }
+    {
+        let Some(at) = self.place_by(hash, key.as_text()) else {
+            self.push_by(hash, key, value)?;
             return Ok(None);
         };
         Ok(Some(mem::replace(&mut self.entries[at].value, value)))
@@ -162,10 +233,26 @@ impl<K: ObjectKey, V> Object<K, V> {
         ensures err { OnErr result (self.new ≡ self.old) }
         ensures handed_back { IfErr result (λ pair. (pair.key ≡ key) × (pair.value ≡ value)) }
     {
-        if let Err(refused) = self.entries.push(Entry { key, value }) {
-            let Entry { key, value } = refused.value;
+        self.push_by(None, key, value)
+    }
+
+    // The same with a hash that may be known.
+    fn push_by(&mut self, hash: Option<u64>, key: K, value: V) -> Result<(), Refused<K, V>>
+        requires hash { IfSome hash (λ known. known ≡ text_hash (K.text key)) }
+        requires new_key { value_at K.text self.old (K.text key) ≡ None }
+        ensures ok { OnOk result (self.new ≡ put_key K.text self.old key value) }
+        ensures err { OnErr result (self.new ≡ self.old) }
+        ensures handed_back { IfErr result (λ pair. (pair.key ≡ key) × (pair.value ≡ value)) }
+    {
+        let alloc = *self.entries.allocator();
+        if self.entries.reserve(1).is_err() {
             return Err(Refused { key, value });
         }
+        let Ok(()) = make_room(alloc, &mut self.table, &self.entries) else {
+            return Err(Refused { key, value });
+        };
+        push_key(&mut self.table, &self.entries, hash, key.as_text());
+        self.entries.push_reserved(Entry { key, value });
         Ok(())
     }
 
@@ -183,10 +270,15 @@ impl<K: ObjectKey, V> Object<K, V> {
         ensures err { OnErr result (self.new ≡ self.old) }
         ensures handed_back { IfErr result (λ pair. (pair.key ≡ key) × (pair.value ≡ value)) }
     {
+        let alloc = *self.entries.allocator();
+        let Ok(()) = make_room(alloc, &mut self.table, &self.entries) else {
+            return Err(Refused { key, value });
+        };
         if let Err(refused) = self.entries.insert(place, Entry { key, value }) {
             let Entry { key, value } = refused.value;
             return Err(Refused { key, value });
         }
+        refill(&mut self.table, &self.entries);
         Ok(())
     }
 
@@ -199,6 +291,7 @@ impl<K: ObjectKey, V> Object<K, V> {
     {
         let at = self.place(key)?;
         let Entry { key: _key, value } = self.entries.remove(at);
+        refill(&mut self.table, &self.entries);
         Some(value)
     }
 
@@ -221,6 +314,17 @@ impl<K: ObjectKey, V> Object<K, V> {
         ensures { values_left result ≡ map (λ e. e.value) self.now }
     {
         Values::new(self.iter())
+    }
+}
+
+/// Shows the pairs as a map, in insertion order.
+impl<K: ObjectKey + Debug, V: Debug> Debug for Object<K, V> {
+    fn fmt<W: fmt::Write>(&self, f: &mut fmt::Formatter<W>) -> fmt::Result {
+        let mut out = f.debug_map();
+        for (key, value) in self {
+            out.entry(key, value);
+        }
+        out.finish()
     }
 }
 
@@ -249,7 +353,10 @@ impl<K: ObjectKey + Drop, V: Drop> IntoIterator for Object<K, V> {
     ghost into_iter_gives = { λ object it. owned_left it ≡ object };
 
     fn into_iter(self) -> IntoIter<K, V> {
-        let Object { entries } = self;
+        let Object {
+            entries,
+            table: _table,
+        } = self;
         IntoIter::new(entries)
     }
 }

@@ -4,7 +4,6 @@ pub mod Writes
 pub mod Pieces
 pub mod Kept
 pub mod MetKeys
-pub mod Hashes
 pub mod Placed
 pub mod Stacks
 pub mod Members

@@ -2,7 +2,6 @@ pub mod Building
 pub mod Lending
 pub mod Refusals
 pub mod Kept
-pub mod Hashes
 pub mod Copying
 pub mod Comparing
 pub mod Shown

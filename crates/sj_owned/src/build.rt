@@ -71,14 +71,14 @@ fn take_list<'de, V: BuildValue<'de, K> + Drop, K: MakeKey<'de> + Drop>(
     V::from_array(alloc, items)
 }
 
-/// The most members of an object whose keys are compared with one another. With so many a set takes as long.
-pub(crate) const FEW_MEMBERS: usize = 192;
+// The most members of an object whose keys are looked up in the object itself.
+const FEW_MEMBERS: usize = 192;
 
 // The keys that were met, where a set lists them.
 type MetKeys<'de> = Option<BTreeSet<&'de str>>;
 
-// No keys met yet. An object of more than `FEW_MEMBERS` members has them in a set, since to compare each with all others takes
-// time that grows with the square of their number.
+// No keys met yet. An object of more than `FEW_MEMBERS` members has them in a set: keys that share a hash stand in one chain of
+// the object's table, and to look up each of them takes time that grows with the square of their number.
 fn no_keys<'de>(alloc: Global, len: usize) -> MetKeys<'de>
     ensures knows { Knows result no_members }
     ensures listed { IsSome result ↔ (FEW_MEMBERS < len) }
@@ -168,7 +168,7 @@ fn take_object<'de, V: BuildValue<'de, K> + Drop, K: MakeKey<'de> + Drop>(
         left -= 1;
     }
     drop(met);
-    V::from_object(alloc, members.into_entries())
+    V::from_object(alloc, members.into_members())
 }
 
 // Makes what is built of a node and of the parts behind it.

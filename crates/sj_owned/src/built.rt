@@ -2,14 +2,14 @@
 ghost use Rattle.std.specs.Prelude.{◌≡◌, IfOk, map};
 ghost use Rattle.sj_base.specs.Tree.{Tree, decimal, string, list, object};
 ghost use Rattle.sj_base.specs.Scalar.{static_tree, decimal_text};
-ghost use Rattle.sj_object.specs.Pairs.{AreDistinct, keys_of};
+ghost use Rattle.sj_object.specs.Members.{AreMembers};
 ghost use Rattle.sj_owned.specs.Trees.{items_of, members_of, on_values};
 ghost use Rattle.sj_owned.specs.Views.{value_tree};
 
 use crate::literal::MakeLiteral;
 use crate::value::Value;
 use sj_base::{Decimal, StaticNode};
-use sj_object::{Entry, MakeKey, Object, ObjectKey};
+use sj_object::{MakeKey, Members, Object, ObjectKey};
 use std::alloc::{AllocError, Global};
 
 /// A type that is built of the parts of a document. Keys are of the type `K`, and texts may be borrowed from an input that
@@ -50,15 +50,14 @@ pub trait BuildValue<'de, K: ObjectKey>: Sized {
     fn from_array(alloc: Global, items: Vec<Self>) -> Result<Self, AllocError>
         ensures { IfOk result (λ v. tree v ≡ list (items_of (map tree items.items))) };
 
-    /// Builds an object of its members, in order. Their keys have to be distinct, as those of
-    /// [`Object::into_entries`] are.
+    /// Builds an object of its members, which [`Object::into_members`] gives.
     ///
     /// # Errors
     ///
     /// `AllocError` if there is no memory for it. The members are dropped.
-    fn from_object(alloc: Global, members: Vec<Entry<K, Self>>) -> Result<Self, AllocError>
-        requires { AreDistinct (keys_of K.text members.items) }
-        ensures { IfOk result (λ v. tree v ≡ object (members_of K.text (on_values tree members.items))) };
+    fn from_object(alloc: Global, members: Members<K, Self>) -> Result<Self, AllocError>
+        requires { AreMembers K.text members }
+        ensures { IfOk result (λ v. tree v ≡ object (members_of K.text (on_values tree members.entries.items))) };
 }
 
 impl<'de, K: MakeKey<'de>, D: MakeLiteral<'de>> BuildValue<'de, K> for Value<K, D> {
@@ -90,11 +89,11 @@ impl<'de, K: MakeKey<'de>, D: MakeLiteral<'de>> BuildValue<'de, K> for Value<K, 
 
     fn from_object(
         _alloc: Global,
-        members: Vec<Entry<K, Value<K, D>>>,
+        members: Members<K, Value<K, D>>,
     ) -> Result<Value<K, D>, AllocError>
-        requires { AreDistinct (keys_of K.text members.items) }
-        ensures { IfOk result (λ v. value_tree K.text D.literal v ≡ object (members_of K.text (on_values (value_tree K.text D.literal) members.items))) }
+        requires { AreMembers K.text members }
+        ensures { IfOk result (λ v. value_tree K.text D.literal v ≡ object (members_of K.text (on_values (value_tree K.text D.literal) members.entries.items))) }
     {
-        Ok(Value::Object(Object::from_entries(members)))
+        Ok(Value::Object(Object::from_members(members)))
     }
 }

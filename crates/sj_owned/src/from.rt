@@ -15,8 +15,8 @@ ghost use Rattle.sj_owned.specs.From.{IsArrayOf, IsObjectOf, IsObjectOfEntries};
 ghost use Rattle.sj_owned.specs.Views.{value_tree};
 ghost use Rattle.sj_owned.specs.declared.value.Value.{Static, String, Array, Object as Members};
 
+use crate::copy::insert;
 use crate::literal::Literal;
-use crate::pairs::put;
 use crate::value::Value;
 use sj_base::StaticNode;
 use sj_object::{Object, ObjectKey};
@@ -280,8 +280,7 @@ impl<K: ObjectKey + Drop, D: Literal + Drop> Value<K, D> {
     ///
     /// # Errors
     ///
-    /// `AllocError` if there is no memory for the object, or meanwhile for the hashes of its keys, if there are many. The pairs
-    /// are dropped.
+    /// `AllocError` if there is no memory for the object. The pairs are dropped.
     pub fn from_pairs<S: Into<Value<K, D>> + Drop, I: IntoIterator<Item = (K, S)>>(
         alloc: Global,
         pairs: I,
@@ -291,11 +290,9 @@ impl<K: ObjectKey + Drop, D: Literal + Drop> Value<K, D> {
             × Drains I.IntoIter.next_gives it xs × IsObjectOf S.Into.converts K.text xs v) }
     {
         let mut members = Object::new(alloc);
-        let mut hashes = None;
         for (key, value) in pairs {
-            put(alloc, &mut members, &mut hashes, key, value.into())?;
+            insert(&mut members, key, value.into())?;
         }
-        drop(hashes);
         Ok(Value::Object(members))
     }
 }
@@ -305,8 +302,7 @@ impl<K: FromString + Drop, D: Literal + Drop> Value<K, D> {
     ///
     /// # Errors
     ///
-    /// `AllocError` if there is no memory for the object, or meanwhile for its pairs and the hashes of its keys. The entries are
-    /// dropped.
+    /// `AllocError` if there is no memory for the object, or meanwhile for its pairs. The entries are dropped.
     pub fn from_map(alloc: Global, map: HashMap<String, Value<K, D>>) -> Result<Self, AllocError>
         ensures { IfOk result (IsObjectOfEntries K.of_string K.text map.entries) }
     {

@@ -21,7 +21,6 @@ mod index;
 mod lend;
 mod literal;
 pub mod owned;
-mod pairs;
 mod read;
 mod same_as;
 mod value;

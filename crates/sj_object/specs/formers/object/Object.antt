@@ -5,6 +5,7 @@ use mathlib.Core.Former.{Former, this, const, pair, list, via, children}
 use base.Stored.{code_map, gcons}
 use denote.RattleType.{RattleType}
 use denote.HoleLaws.{Alike}
+use denote.Hole.{as_row}
 use denote.HolePlaces.{Recodes, struct_places, laid, stays}
 use denote.Hole.Carrier.{listed}
 use denote.Hole.Fix.{over}
@@ -18,11 +19,17 @@ use Rattle.std.specs.declared.alloc.Global.{Global}
 use Rattle.std.specs.contracts.alloc.Global as heap
 use Rattle.std.specs.contracts.impls.GlobalAllocator.TheImpl.{ghosts}
 use Rattle.sj_object.specs.Compare.{agree_at, same_pairs}
-use Rattle.sj_object.specs.Pairs.{keys_of, value_at, AreDistinct, AreDistinct-prop}
+use Rattle.std.specs.Global.{Box}
+use Rattle.sj_object.specs.Pairs.{keys_of, value_at}
+use Rattle.sj_object.specs.inside.Chains.{AreInOrder, AreInOrder-prop}
+use Rattle.sj_object.specs.declared.table.Table.{Table}
 use Rattle.sj_object.specs.declared.entry.Entry.{Entry}
 use Rattle.sj_object.specs.declared.key.ObjectKey.{Ghosts}
 use Rattle.sj_object.specs.declared.object.Object.TheInside.{Inside}
 use Rattle.sj_object.specs.declared.object.Object.TheView.{view, invariant}
+use Rattle.std.specs.contracts.option.Option as option
+use Rattle.std.specs.contracts.boxed.Box as boxed
+use Rattle.sj_object.specs.contracts.table.Table as T
 use Rattle.sj_object.specs.contracts.entry.Entry as E
 use Rattle.sj_object.specs.contracts.object.Object as C
 use Rattle.sj_object.specs.contracts.object.Object.TheInside as I
@@ -54,7 +61,8 @@ keys_kept text h [] = refl
 keys_kept text h (e ∷ es) = ap (λ l. text e.key ∷ l) (keys_kept text h es)
 
 abbrev fields : Type 0 → Former {0}
-fields K = via (vec.the_former (entry this K) Global) (λ X. Inside K X) (λ X a. a.entries) (λ X v. record { entries = v }) (λ X a. refl) (λ X v. refl)
+fields K =
+    via (pair (vec.the_former (entry this K) Global) (const (Option (Box Table)))) (λ X. Inside K X) (λ X a. (a.entries, a.table)) (λ X v. record { entries = v.0; table = v.1 }) (λ X a. refl) (λ X v. refl)
 
 module _ (K : RattleType) (G : Ghosts K.Denot) (R S : RattleType) (h : R.Denot → S.Denot) where
   entry_places : Alike R S h → Alike (E.the_row K R) (E.the_row K S) (on_value h)
@@ -62,10 +70,10 @@ module _ (K : RattleType) (G : Ghosts K.Denot) (R S : RattleType) (h : R.Denot �
 
   pub the_places : Alike R S h → Alike (C.the_row K R G) (C.the_row K S G) ((the_former this K.Denot).map R.Denot S.Denot h)
   the_places a = view_places (fields K.Denot) (the_former this K.Denot) (λ X. view K.Denot X G) (λ X Y k u. refl) (λ X u. refl) R.Denot S.Denot h (C.the_row K R G).coded (C.the_row K S G).coded
-      (invariant K.Denot R.Denot G) (invariant K.Denot S.Denot G) (λ u. AreDistinct-prop _) (λ u. AreDistinct-prop _)
-      (λ u. subst AreDistinct (sym (keys_kept G.text h u.entries.items))) (λ u. subst AreDistinct (keys_kept G.text h u.entries.items))
+      (invariant K.Denot R.Denot G) (invariant K.Denot S.Denot G) (λ u. AreInOrder-prop _ _) (λ u. AreInOrder-prop _ _)
+      (λ u. subst (AreInOrder u.table) (sym (keys_kept G.text h u.entries.items))) (λ u. subst (AreInOrder u.table) (keys_kept G.text h u.entries.items))
       (over (I.the_row K R G)) (over (I.the_row K S G))
-      (struct_places (I.the_type K R G) (I.the_type K S G) (vec.mapped (on_value h), tt) _ (λ d. refl) refl (laid _ _ _ (vec.the_places heap.the_row ghosts (E.the_row K R) (E.the_row K S) (on_value h) (entry_places a)), tt))
+      (struct_places (I.the_type K R G) (I.the_type K S G) (vec.mapped (on_value h), (λ t. t, tt)) _ (λ d. refl) refl (laid _ _ _ (vec.the_places heap.the_row ghosts (E.the_row K R) (E.the_row K S) (on_value h) (entry_places a)), (stays (as_row (option.the_field (boxed.the_row T.the_row heap.the_row ghosts))), tt)))
 
   pub the_codes_placed : Recodes R S h → Recodes (C.the_row K R G) (C.the_row K S G) ((the_former this K.Denot).map R.Denot S.Denot h)
   the_codes_placed e d = sym (code_map (λ x. gcons (K.coded.code x.key) (R.coded.code x.value)) (λ x. gcons (K.coded.code x.key) (S.coded.code x.value)) (on_value h) (λ x. ap (gcons (K.coded.code x.key)) (sym (e x.value))) d)

@@ -13,7 +13,7 @@ invariant_of-result g c =
     let i = c.loop-entry.entry-index in
     let past : length es ≤ i = omega (arith, c.loop-entry-test.false, ap length (c.deref-entry-items.ensures.value ∙ c.self.view_is)) in
     let all = c.loop-entry.invariant.0 ∙ ap (copied_pairs key value) (take_all i es past) in
-    distinct_copy g.K.ObjectKey.text key value g.met.K.CopyKey.keeps_text es c.loop-entry.entries.items all (rw c.self.view_is at c.self.invariant)
+    (distinct_copy g.K.ObjectKey.text key value g.met.K.CopyKey.keeps_text es c.loop-entry.entries.items all (rw c.self.view_is at c.self.invariant.0), c.in_ok-table.ensures)
 
 pub loop-entry-preserved : goal.loop-entry-preserved
 loop-entry-preserved c = grind (arith, common_steps)

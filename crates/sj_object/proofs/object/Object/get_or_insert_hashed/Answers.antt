@@ -1,12 +1,20 @@
-use Rattle.std.proofs.Common.{◌≡◌, ◌++◌, ◌∷◌, [], length, map, slice_get, inl, inr, refl, sym, ap, ◌∙◌, arith, rules}
+use Rattle.std.proofs.Common.{◌≡◌, ◌++◌, ◌∷◌, [], length, map, slice_get, inl, inr, refl, sym, subst, ap, ◌∙◌, arith, rules}
 use Rattle.sj_object.specs.declared.entry.Entry.{Entry}
+use Rattle.sj_object.specs.Pairs.{keys_of}
 use Rattle.sj_object.specs.inside.Places.{set_place}
-use Rattle.sj_object.proofs.Distinct.{distinct_push}
+use Rattle.sj_object.specs.inside.Chains.{AreInOrder, IsTableOf}
+use Rattle.sj_object.proofs.Distinct.{distinct_push, keys_of-push}
 use Rattle.sj_object.proofs.Places.{some_same, place_within, value_at_no_place, value_at-values, values_last, has_text_no_place, put_key_no_place, put_key-set_place, set_place-last}
 use Rattle.sj_object.proofs.object.Object.get_or_insert_hashed.Goals as goal
 
 pub returns-then-is_err : goal.returns-then-is_err
 returns-then-is_err g c =
+    let text = g.K.ObjectKey.text in
+    let absent = value_at_no_place text (text c.args.key) c.args.self.now (rw c.as_text.ensures at (sym c.in_default.ensures)) in
+    (ap inr (c.reserve.ensures.items ∙ c.self.view_is), record { writes_back = tt; value = tt; succeeds = rw absent (search rules); handed_back = refl })
+
+pub returns-in_default-make_room : goal.returns-in_default-make_room
+returns-in_default-make_room g c =
     let text = g.K.ObjectKey.text in
     let absent = value_at_no_place text (text c.args.key) c.args.self.now (rw c.as_text.ensures at (sym c.in_default.ensures)) in
     (ap inr (c.reserve.ensures.items ∙ c.self.view_is), record { writes_back = tt; value = tt; succeeds = rw absent (search rules); handed_back = refl })
@@ -21,8 +29,12 @@ invariant_of-self-in_default g c =
     let text = g.K.ObjectKey.text in
     let items = c.self.inside.entries.items in
     let absent = rw (← c.self.view_is, c.as_text.ensures) at (sym c.in_default.ensures) in
-    rw (c.push_reserved.ensures.items, c.reserve.ensures.items)
-    (distinct_push text items (record { key = c.args.key; value = c.with.result }) c.self.invariant (has_text_no_place text (text c.args.key) items absent))
+    let new : Entry g.row.K.Denot g.row.V.Denot = record { key = c.args.key; value = c.with.result } in
+    let distinct = distinct_push text items new c.self.invariant.0 (has_text_no_place text (text c.args.key) items absent) in
+    let pushed = c.push_reserved.ensures.items ∙ ap (λ l. l ++ new ∷ []) c.reserve.ensures.items in
+    let kept = c.deref.ensures.value ∙ c.reserve.ensures.items in
+    let has = subst (λ k. IsTableOf c.push_key.new.table (keys_of text items ++ k ∷ [])) c.as_text-in_default.ensures (subst (λ l. IsTableOf c.push_key.new.table (keys_of text l ++ c.as_text-in_default.result.now ∷ [])) kept c.push_key.ensures) in
+    subst (λ l. AreInOrder c.push_key.new.table (keys_of text l)) (sym pushed) (distinct, subst (IsTableOf c.push_key.new.table) (sym (keys_of-push text items new)) has)
 
 pub returns-in_default : goal.returns-in_default
 returns-in_default g c =
@@ -55,3 +67,6 @@ returns g c =
       λ i. inl (c.value_mut-2.result.ghost_name, λ w. sym (put_key-set_place text c.args.key w entries c.in-Some.at found) i),
       record { writes_back = tt; value = rw value refl; succeeds = λ _. refl; handed_back = tt },
     )
+
+pub push_key-requires-clause-room : goal.push_key-requires-clause-room
+push_key-requires-clause-room g c = rw c.deref.ensures.value c.in-Ok.ensures.ok

@@ -1,5 +1,8 @@
-use Rattle.std.proofs.Common.{Some, sym, ap, ◌∙◌, arith}
+use Rattle.std.proofs.Common.{length, Some, sym, subst, ap, ◌∙◌, arith}
+use Rattle.sj_object.specs.Pairs.{keys_of, AreDistinct}
+use Rattle.sj_object.specs.inside.Chains.{IsTableOf}
 use Rattle.sj_object.proofs.Distinct.{distinct_drop}
+use Rattle.sj_object.proofs.Chains.{length-keys_of, room_for_fewer}
 use Rattle.sj_object.proofs.Places.{place_within, value_at_place, value_at_no_place, drop_key_place, drop_key_no_place}
 use Rattle.sj_object.proofs.object.Object.remove.Goals as goal
 
@@ -19,7 +22,17 @@ invariant_of-self g c =
     let text = g.K.ObjectKey.text in
     let found = rw (← c.self.view_is) at (sym c.in_ok-at.ensures) in
     let items = c.self.inside.entries.items in
-    rw (c.remove-key.ensures.items, ← (drop_key_place text c.args.key.now items c.in_ok-at.at found)) (distinct_drop text items c.args.key.now c.self.invariant)
+    let rest = c.remove-key.ensures.items ∙ sym (drop_key_place text c.args.key.now items c.in_ok-at.at found) in
+    (subst (λ l. AreDistinct (keys_of text l)) (sym rest) (distinct_drop text items c.args.key.now c.self.invariant.0), subst (λ l. IsTableOf c.refill.new.table (keys_of text l)) c.deref.ensures.value c.refill.ensures)
+
+pub refill-requires : goal.refill-requires
+refill-requires g c =
+    let text = g.K.ObjectKey.text in
+    let found = rw (← c.self.view_is) at (sym c.in_ok-at.ensures) in
+    let items = c.self.inside.entries.items in
+    let within = place_within text c.args.key.now items c.in_ok-at.at found in
+    room_for_fewer c.self.inside.table (keys_of text items) (length c.deref.result.now)
+    (omega (arith, ap length c.deref.ensures.value, c.remove-key.ensures.len, c.remove-key.new.self.ok.0, c.self.inside.entries.ok.0, length-keys_of text items, within)) c.self.invariant.1
 
 pub returns-clause-value : goal.returns-clause-value
 returns-clause-value g c =

@@ -14,6 +14,5 @@ loop-key-preserved g c =
     let start : List (Entry g.row.K.Denot (Value g.row.K.Denot g.row.D.Denot)) = [] in (
       inv.0 ++ e ∷ [],
       zip_more (IsPairOf g.S.Into.converts) c.loop-key.yielded inv.0 (c.in-Some.key, c.in-Some.value) e inv.1 (refl, c.into.ensures),
-      c.in_ok-put.ensures.put ∙ ap (λ es. put_key text es e.key e.value) inv.2 ∙ sym (one_more_put text start inv.0 e),
-      c.in_ok-put.ensures.lists,
+      c.in_ok-insert.ensures ∙ ap (λ es. put_key text es e.key e.value) inv.2 ∙ sym (one_more_put text start inv.0 e),
     )

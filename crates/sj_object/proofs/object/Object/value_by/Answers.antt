@@ -1,6 +1,6 @@
 use Rattle.std.proofs.Common.{Some, sym, ap, ◌∙◌, arith}
 use Rattle.sj_object.proofs.Places.{place_within, value_at_place, value_at_no_place}
-use Rattle.sj_object.proofs.object.Object.get.Goals as goal
+use Rattle.sj_object.proofs.object.Object.value_by.Goals as goal
 
 pub returns-in_err-at : goal.returns-in_err-at
 returns-in_err-at g c = rw c.from_residual.ensures (sym (value_at_no_place g.K.ObjectKey.text c.args.key.now c.args.self.now (sym c.in_err-at.ensures)))

@@ -1,6 +1,6 @@
 use Rattle.std.proofs.Common.{inl, refl, sym, ◌∙◌}
 use Rattle.sj_object.proofs.Places.{place_within, value_at-values, value_at_no_place, set_value-set_place}
-use Rattle.sj_object.proofs.object.Object.get_mut.Goals as goal
+use Rattle.sj_object.proofs.object.Object.value_mut_by.Goals as goal
 
 pub value_mut-requires : goal.value_mut-requires
 value_mut-requires g c = place_within g.K.ObjectKey.text c.args.key.now c.args.self.now c.in-Some.at (sym c.in-Some.ensures)

@@ -1,15 +1,16 @@
 use Rattle.std.proofs.Common.{Some, sym, ap, ◌∙◌, subst, set, arith, rules}
-use Rattle.sj_object.specs.Pairs.{AreDistinct, keys_of}
+use Rattle.sj_object.specs.Pairs.{keys_of}
+use Rattle.sj_object.specs.inside.Chains.{AreInOrder}
 use Rattle.sj_object.proofs.Distinct.{keys_of-set}
 use Rattle.sj_object.proofs.Places.{place_within, value_at_place, value_at_no_place, put_key-set_place, set_place-set}
-use Rattle.sj_object.proofs.object.Object.insert.Goals as goal
+use Rattle.sj_object.proofs.object.Object.insert_by.Goals as goal
 
-pub push_new-requires : goal.push_new-requires
-push_new-requires g c =
+pub push_by-requires-clause-new_key : goal.push_by-requires-clause-new_key
+push_by-requires-clause-new_key g c =
     value_at_no_place g.K.ObjectKey.text (g.K.ObjectKey.text c.args.key) c.args.self.now (rw c.as_text.ensures at (sym c.in_default.ensures))
 
-pub returns-in_err-push_new-clause-succeeds : goal.returns-in_err-push_new-clause-succeeds
-returns-in_err-push_new-clause-succeeds g c =
+pub returns-in_err-push_by-clause-succeeds : goal.returns-in_err-push_by-clause-succeeds
+returns-in_err-push_by-clause-succeeds g c =
     let absent = value_at_no_place g.K.ObjectKey.text (g.K.ObjectKey.text c.args.key) c.args.self.now (rw c.as_text.ensures at (sym c.in_default.ensures)) in
     rw absent (search rules)
 
@@ -29,7 +30,7 @@ invariant_of-self g c =
     let r = c.index_mut.result.now in
     let v = c.replace.new.dest in
     let kept = ap (λ e. keys_of text (set items c.in-Some.at (record { key = e.key; value = v }))) c.index_mut.ensures.value ∙ keys_of-set text r v items c.in-Some.at in
-    subst AreDistinct (sym kept) c.self.invariant
+    subst (AreInOrder c.self.inside.table) (sym kept) c.self.invariant
 
 pub returns-clause-ok : goal.returns-clause-ok
 returns-clause-ok g c =

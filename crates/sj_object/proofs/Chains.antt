@@ -1,0 +1,264 @@
+-- Pairs go into chains, and look-ups find them there.
+use Rattle.std.proofs.Common.{◌≡◌, ◌≢◌, ℕ, zero, suc, ◌+◌, ◌-◌, ◌<◌, ◌≤◌, ◌⊎◌, Bool, true, false, List, [], ◌∷◌, ◌++◌, length, set, take, get_or, slice_get, Option, Some, None, refl, sym, subst, ap, ◌∙◌, inl, inr, arith, length-append}
+use Rattle.std.specs.Borrow.{Bor}
+use Rattle.std.specs.Slice.{IsGetResult}
+use Rattle.std.specs.Option.{option_copied}
+use Rattle.std.specs.Global.{Box}
+use Rattle.std.specs.Prelude.{bytes_eq, eqb, ◌&&◌, ◌||◌}
+use Rattle.std.proofs.lemmas.Nat.{mod_below}
+use Rattle.std.proofs.lemmas.List.{length-set}
+use Rattle.std.proofs.lemmas.Bool.{ltb-true, leb-true, le-leb, cases_Bool, or_left, or_right, and_from, and_parts, false≢true}
+use Rattle.std.proofs.lemmas.Bool.Decides.{eqb_tells}
+use Rattle.std.proofs.lemmas.Slice.Eq.{bytes_eq-Decides}
+use Rattle.std.proofs.Math.Seq.{get_or-set_same, get_or-set_other}
+use Rattle.sj_object.specs.Hash.{text_hash}
+use Rattle.sj_object.specs.Pairs.{keys_of, place_of, has_text, AreDistinct}
+use Rattle.sj_object.specs.declared.entry.Entry.{Entry}
+use Rattle.sj_object.specs.declared.table.Link.{Link}
+use Rattle.sj_object.specs.declared.table.Table.{Table}
+use Rattle.sj_object.specs.inside.Chains.{home, head_of, has_hash, next_of, reaches, stands, IsTable, IsTableOf, TableHasRoomFor, CanGrow, has_key, sought}
+use Rattle.sj_object.proofs.Places.{at_place, some_same, none_some}
+
+-- ---- one link more
+
+module _ {X : Type 0} where
+  get-more : (xs : List X) (x : X) (i : ℕ) (y : X) → slice_get xs i ≡ Some y → slice_get (xs ++ x ∷ []) i ≡ Some y
+  get-more [] x i y e = absurd (none_some y e)
+  get-more (z ∷ xs) x zero y e = e
+  get-more (z ∷ xs) x (suc i) y e = get-more xs x i y e
+
+  get-last : (xs : List X) (x : X) → slice_get (xs ++ x ∷ []) (length xs) ≡ Some x
+  get-last [] x = refl
+  get-last (z ∷ xs) x = get-last xs x
+
+  -- an item is one of the others, or the last
+  get-cases : (xs : List X) (x : X) (i : ℕ) (y : X) → slice_get (xs ++ x ∷ []) i ≡ Some y → (slice_get xs i ≡ Some y) ⊎ ((i ≡ length xs) × (x ≡ y))
+  get-cases [] x zero y e = inr (refl, some_same x y e)
+  get-cases [] x (suc i) y e = absurd (none_some y e)
+  get-cases (z ∷ xs) x zero y e = inl e
+  get-cases (z ∷ xs) x (suc i) y e = elim (get-cases xs x i y e) [
+    | inl h ↦ inl h
+    | inr h ↦ inr (ap (λ n. suc n) h.0, h.1)
+  ]
+
+same_eqb : (n : ℕ) → eqb n n ≡ true
+same_eqb n = elim (eqb_tells n n) [ inl t ↦ t.0 | inr f ↦ absurd (f.1 refl) ]
+
+or_second : (a b c : Bool) → (b ≡ true → c ≡ true) → a || b ≡ true → a || c ≡ true
+or_second true b c f h = refl
+or_second false b c f h = f h
+
+reaches-none : (n : ℕ) (ls : List Link) (p : ℕ) → reaches n ls None p ≡ true → ⊥
+reaches-none zero ls p r = false≢true r
+reaches-none (suc n) ls p r = false≢true r
+
+-- one comes to a place as well with a step more
+reaches-suc : (n : ℕ) (ls : List Link) (at : Option ℕ) (p : ℕ) → reaches n ls at p ≡ true → reaches (suc n) ls at p ≡ true
+reaches-suc zero ls at p r = absurd (false≢true r)
+reaches-suc (suc n) ls None p r = absurd (false≢true r)
+reaches-suc (suc n) ls (Some i) p r = or_second (eqb i p) (reaches n ls (next_of (slice_get ls i)) p) (reaches (suc n) ls (next_of (slice_get ls i)) p) (reaches-suc n ls (next_of (slice_get ls i)) p) r
+
+module _ (ls : List Link) (x : Link) where
+  next-more : (n i p : ℕ) → ((at : Option ℕ) → reaches n ls at p ≡ true → reaches n (ls ++ x ∷ []) at p ≡ true) → (o : Option Link) → slice_get ls i ≡ o
+      → reaches n ls (next_of (slice_get ls i)) p ≡ true → reaches n (ls ++ x ∷ []) (next_of (slice_get (ls ++ x ∷ []) i)) p ≡ true
+  next-more n i p rest None e r = absurd (reaches-none n ls p (rw e at r))
+  next-more n i p rest (Some l) e r = rw (get-more ls x i l e) (rest l.next (rw e at r))
+
+  -- and with a link more
+  reaches-more : (n : ℕ) (at : Option ℕ) (p : ℕ) → reaches n ls at p ≡ true → reaches n (ls ++ x ∷ []) at p ≡ true
+  reaches-more zero at p r = absurd (false≢true r)
+  reaches-more (suc n) None p r = absurd (false≢true r)
+  reaches-more (suc n) (Some i) p r =
+      or_second (eqb i p) (reaches n ls (next_of (slice_get ls i)) p) (reaches n (ls ++ x ∷ []) (next_of (slice_get (ls ++ x ∷ []) i)) p) (next-more n i p (λ at. reaches-more n at p) (slice_get ls i) refl) r
+
+  has_hash-more : (h p : ℕ) → has_hash (slice_get ls p) h ≡ true → has_hash (slice_get (ls ++ x ∷ []) p) h ≡ true
+  has_hash-more h p t = by_link (slice_get ls p) refl
+    where
+      by_link : (o : Option Link) → slice_get ls p ≡ o → has_hash (slice_get (ls ++ x ∷ []) p) h ≡ true
+      by_link None e = absurd (false≢true (rw e at t))
+      by_link (Some l) e = rw (get-more ls x p l e) (rw e at t)
+
+-- ---- a pair more
+
+module _ (heads : List (Option ℕ)) (ls : List Link) (h : ℕ) (some : home (length heads) h < length heads) (size : length (set heads (home (length heads) h) (Some (length ls))) ≡ length heads) where
+  abbrev new_heads : List (Option ℕ)
+  new_heads = set heads (home (length heads) h) (Some (length ls))
+
+  abbrev new_links : List Link
+  new_links = ls ++ (record { hash = h; next = head_of heads h }) ∷ []
+
+  one_more : length new_links ≡ suc (length ls)
+  one_more = omega (arith, length-append ls ((record { hash = h; next = head_of heads h }) ∷ []))
+
+  head-same : (g : ℕ) → home (length heads) g ≡ home (length heads) h → head_of new_heads g ≡ Some (length ls)
+  head-same g e = ap (λ n. get_or new_heads (home n g) None) size ∙ ap (λ i. get_or new_heads i None) e ∙ get_or-set_same heads (home (length heads) h) (Some (length ls)) None some
+
+  head-other : (g : ℕ) → home (length heads) g ≢ home (length heads) h → head_of new_heads g ≡ head_of heads g
+  head-other g n = ap (λ n. get_or new_heads (home n g) None) size ∙ get_or-set_other heads (home (length heads) h) (home (length heads) g) (Some (length ls)) None n
+
+  -- the chain of the new link's hash goes on from there as it was
+  chain : (g p : ℕ) → reaches (length ls) ls (head_of heads g) p ≡ true → reaches (suc (length ls)) new_links (head_of new_heads g) p ≡ true
+  chain g p r = elim (eqb_tells (home (length heads) g) (home (length heads) h)) [
+    | inl t ↦
+        let old : head_of heads g ≡ head_of heads h = ap (λ i. get_or heads i None) t.1 in
+        rw (head-same g t.1) (or_right (eqb (length ls) p) (reaches (length ls) new_links (next_of (slice_get new_links (length ls))) p)
+        (rw (get-last ls (record { hash = h; next = head_of heads h })) (reaches-more ls (record { hash = h; next = head_of heads h }) (length ls) (head_of heads h) p (rw old at r))))
+    | inr f ↦ rw (head-other g f.1) (reaches-suc (length ls) new_links (head_of heads g) p (reaches-more ls (record { hash = h; next = head_of heads h }) (length ls) (head_of heads g) p r))
+  ]
+
+  stands-more : (g p : ℕ) → stands heads ls g p ≡ true → stands new_heads new_links g p ≡ true
+  stands-more g p s =
+      let parts = and_parts (has_hash (slice_get ls p) g) (reaches (length ls) ls (head_of heads g) p) s in
+      and_from (has_hash (slice_get new_links p) g) (reaches (length new_links) new_links (head_of new_heads g) p)
+      (has_hash-more ls (record { hash = h; next = head_of heads h }) g p parts.0)
+      (rw one_more (chain g p parts.1))
+
+  stands-last : stands new_heads new_links h (length ls) ≡ true
+  stands-last =
+      let last = get-last ls (record { hash = h; next = head_of heads h }) in
+      and_from (has_hash (slice_get new_links (length ls)) h) (reaches (length new_links) new_links (head_of new_heads h) (length ls))
+      (rw last (same_eqb h))
+      (rw (one_more, head-same h refl) (or_left (eqb (length ls) (length ls)) (reaches (length ls) new_links (next_of (slice_get new_links (length ls))) (length ls)) (same_eqb (length ls))))
+
+-- A table has a key more where its hash was put into the table.
+pub table_put : (t u : Table) (ks : List (List ℕ)) (k : List ℕ) (h : ℕ) → h ≡ text_hash k
+    → u.heads.items ≡ set t.heads.items (home (length t.heads.items) h) (Some (length t.links.items))
+    → u.links.items ≡ t.links.items ++ (record { hash = h; next = head_of t.heads.items h }) ∷ []
+    → IsTable t ks → IsTable u (ks ++ k ∷ [])
+table_put t u ks k h own heads links is =
+    let some = mod_below h (length t.heads.items) (ltb-true 0 (length t.heads.items) is.0) in
+    let size = length-set t.heads.items (home (length t.heads.items) h) (Some (length t.links.items)) in (
+      rw (heads, size) is.0,
+      omega (arith, ap length links, length-append t.links.items ((record { hash = h; next = head_of t.heads.items h }) ∷ []), is.1, length-append ks (k ∷ [])),
+      λ p name e. rw (heads, links) (elim (get-cases ks k p name e) [
+        | inl old ↦ stands-more t.heads.items t.links.items h some size (text_hash name) p (is.2 p name old)
+        | inr new ↦
+            let place : p ≡ length t.links.items = omega (arith, new.0, is.1) in
+            rw (place, ← new.1, ← own) (stands-last t.heads.items t.links.items h some size)
+      ]),
+    )
+
+-- ---- look-ups
+
+module _ {K V : Type 0} (text : K → List ℕ) (es : List (Entry K V)) (h : ℕ) (k : List ℕ) where
+  pub sought-none : (n : ℕ) (ls : List Link) → sought text es h k n ls None ≡ None
+  sought-none zero ls = refl
+  sought-none (suc n) ls = refl
+
+  -- what is found has the key
+  sought-has : (n : ℕ) (ls : List Link) (at : Option ℕ) (q : ℕ) → sought text es h k n ls at ≡ Some q → has_key text es q k ≡ true
+  sought-has zero ls at q e = absurd (none_some q e)
+  sought-has (suc n) ls None q e = absurd (none_some q e)
+  sought-has (suc n) ls (Some i) q e =
+      elim (cases_Bool (has_hash (slice_get ls i) h && has_key text es i k)) [
+        | inl t ↦ subst (λ j. has_key text es j k ≡ true) (some_same i q (rw t at e)) (and_parts (has_hash (slice_get ls i) h) (has_key text es i k) t).1
+        | inr f ↦ sought-has n ls (next_of (slice_get ls i)) q (rw f at e)
+      ]
+
+  -- a look-up ends where there is no link, or has found the place, or goes on
+  pub sought-ends : (n : ℕ) (ls : List Link) (i : ℕ) → slice_get ls i ≡ None → sought text es h k n ls (Some i) ≡ None
+  sought-ends zero ls i e = refl
+  sought-ends (suc n) ls i e = rw e (sought-none n ls)
+
+  pub sought-here : (n : ℕ) (ls : List Link) (i : ℕ) (l : Link) → 0 < n → slice_get ls i ≡ Some l → l.hash ≡ h → has_key text es i k ≡ true → sought text es h k n ls (Some i) ≡ Some i
+  sought-here zero ls i l some e own has = absurd (omega arith)
+  sought-here (suc n) ls i l some e own has = rw (e, own, same_eqb h, has) refl
+
+  pub sought-on : (n : ℕ) (ls : List Link) (i : ℕ) (l : Link) → 0 < n → slice_get ls i ≡ Some l → (eqb l.hash h && has_key text es i k) ≡ false → sought text es h k n ls (Some i) ≡ sought text es h k (n - 1) ls l.next
+  sought-on zero ls i l some e other = absurd (omega arith)
+  sought-on (suc n) ls i l some e other = let left : n ≡ suc n - 1 = omega arith in rw (e, other, ← left) refl
+
+  -- where one comes to a pair with the key, a pair is found
+  sought-finds : (n : ℕ) (ls : List Link) (at : Option ℕ) (p : ℕ) → reaches n ls at p ≡ true → has_hash (slice_get ls p) h ≡ true → has_key text es p k ≡ true → (q : ℕ) × (sought text es h k n ls at ≡ Some q)
+  sought-finds zero ls at p r own has = absurd (false≢true r)
+  sought-finds (suc n) ls None p r own has = absurd (false≢true r)
+  sought-finds (suc n) ls (Some i) p r own has =
+      elim (cases_Bool (has_hash (slice_get ls i) h && has_key text es i k)) [
+        | inl t ↦ (i, rw t refl)
+        | inr f ↦ elim (eqb_tells i p) [
+          | inl same ↦ absurd (false≢true (sym f ∙ subst (λ j. has_hash (slice_get ls j) h && has_key text es j k ≡ true) (sym same.1) (and_from (has_hash (slice_get ls p) h) (has_key text es p k) own has)))
+          | inr other ↦
+              let rest = sought-finds n ls (next_of (slice_get ls i)) p (rw other.0 at r) own has in
+              (rest.0, rw f rest.1)
+        ]
+      ]
+
+module _ {K V : Type 0} (text : K → List ℕ) (k : List ℕ) where
+  place_of-has_key : (es : List (Entry K V)) (i : ℕ) → place_of text es k ≡ Some i → has_key text es i k ≡ true
+  place_of-has_key = at_place text k (λ es i. has_key text es i k ≡ true) (λ e es t. t) (λ e es i f p. p)
+
+  place_of-has_text : (es : List (Entry K V)) (i : ℕ) → place_of text es k ≡ Some i → has_text (keys_of text es) k ≡ true
+  place_of-has_text = at_place text k (λ es i. has_text (keys_of text es) k ≡ true) (λ e es t. rw t refl) (λ e es i f p. rw f p)
+
+  place_of-key : (es : List (Entry K V)) (i : ℕ) → place_of text es k ≡ Some i → slice_get (keys_of text es) i ≡ Some k
+  place_of-key = at_place text k (λ es i. slice_get (keys_of text es) i ≡ Some k) (λ e es t. ap (λ x. Some x) ((bytes_eq-Decides (text e.key) k).0 t)) (λ e es i f p. p)
+
+  has_key-place_of : (es : List (Entry K V)) (q : ℕ) → AreDistinct (keys_of text es) → has_key text es q k ≡ true → place_of text es k ≡ Some q
+  has_key-place_of [] q d h = absurd (false≢true h)
+  has_key-place_of (e ∷ es) zero d h = rw h refl
+  has_key-place_of (e ∷ es) (suc q) d h =
+      let later = has_key-place_of es q d.1 h in
+      elim (cases_Bool (bytes_eq (text e.key) k)) [
+        | inl t ↦ absurd (false≢true (sym d.0 ∙ subst (λ x. has_text (keys_of text es) x ≡ true) (sym ((bytes_eq-Decides (text e.key) k).0 t)) (place_of-has_text es q later)))
+        | inr f ↦ rw (f, later) refl
+      ]
+
+  -- A look-up in the chain of the key's hash answers the place of the key.
+  pub look_up : (t : Table) (es : List (Entry K V)) (h : ℕ) → h ≡ text_hash k → IsTable t (keys_of text es) → AreDistinct (keys_of text es)
+      → sought text es h k (length t.links.items) t.links.items (head_of t.heads.items h) ≡ place_of text es k
+  look_up t es h own is distinct = by_found found refl
+    where
+      found : Option ℕ
+      found = sought text es h k (length t.links.items) t.links.items (head_of t.heads.items h)
+
+      none_of : (o : Option ℕ) → place_of text es k ≡ o → found ≡ None → found ≡ place_of text es k
+      none_of None e none = none ∙ sym e
+      none_of (Some i) e none =
+          let there = subst (λ g. stands t.heads.items t.links.items g i ≡ true) (sym own) (is.2 i k (place_of-key es i e)) in
+          let parts = and_parts (has_hash (slice_get t.links.items i) h) (reaches (length t.links.items) t.links.items (head_of t.heads.items h) i) there in
+          let some = sought-finds text es h k (length t.links.items) t.links.items (head_of t.heads.items h) i parts.1 parts.0 (place_of-has_key es i e) in
+          absurd (none_some some.0 (sym none ∙ some.1))
+
+      by_found : (o : Option ℕ) → found ≡ o → found ≡ place_of text es k
+      by_found None e = none_of (place_of text es k) refl e
+      by_found (Some q) e = e ∙ sym (has_key-place_of es q distinct (sought-has text es h k (length t.links.items) t.links.items (head_of t.heads.items h) q e))
+
+pub length-keys_of : {K V : Type 0} (text : K → List ℕ) (es : List (Entry K V)) → length (keys_of text es) ≡ length es
+length-keys_of text [] = refl
+length-keys_of text (e ∷ es) = ap (λ n. suc n) (length-keys_of text es)
+
+pub keys_of-take_more : {K V : Type 0} (text : K → List ℕ) (d : Entry K V) (es : List (Entry K V)) (i : ℕ) → i < length es → keys_of text (take (suc i) es) ≡ keys_of text (take i es) ++ text (get_or es i d).key ∷ []
+keys_of-take_more text d [] i within = absurd (omega arith)
+keys_of-take_more text d (e ∷ es) zero within = refl
+keys_of-take_more text d (e ∷ es) (suc i) within = ap (λ l. text e.key ∷ l) (keys_of-take_more text d es i (omega arith))
+
+module _ {X : Type 0} where
+  get_within : (xs : List X) (i : ℕ) (d : X) → i < length xs → Some (get_or xs i d) ≡ slice_get xs i
+  get_within [] i d within = absurd (omega arith)
+  get_within (x ∷ xs) zero d within = refl
+  get_within (x ∷ xs) (suc i) d within = get_within xs i d (omega arith)
+
+  get_past : (xs : List X) (i : ℕ) → length xs ≤ i → None ≡ slice_get xs i
+  get_past [] i past = refl
+  get_past (x ∷ xs) zero past = absurd (omega arith)
+  get_past (x ∷ xs) (suc i) past = get_past xs i (omega arith)
+
+  pub get_found : (xs : List X) (i : ℕ) (r : Option (Bor X)) → IsGetResult xs i i r → option_copied r ≡ slice_get xs i
+  get_found xs i None h = get_past xs i h.3
+  get_found xs i (Some x) h = ap (λ y. Some y) h.1 ∙ get_within xs i x.now h.3.0
+
+pub other_hash : (a b : ℕ) (x : Bool) → a ≢ b → (eqb a b && x) ≡ false
+other_hash a b x other = elim (eqb_tells a b) [ inl t ↦ absurd (other t.1) | inr f ↦ rw f.0 refl ]
+
+-- there is room for one pair more, or for fewer
+pub room_for_more : (t : Option (Box Table)) (ks : List (List ℕ)) (n : ℕ) → n ≡ length ks + 1 → CanGrow t ks → TableHasRoomFor n t
+room_for_more t ks n e can = subst (λ m. TableHasRoomFor m t) (sym e) can.0
+
+pub room_for_fewer : (t : Option (Box Table)) (ks : List (List ℕ)) (n : ℕ) → n ≤ length ks → IsTableOf t ks → TableHasRoomFor n t
+room_for_fewer None ks n e is = let few = leb-true (length ks) 32 is in omega (arith, e, few)
+room_for_fewer (Some t) ks n e is = (ltb-true 0 (length t.value.heads.items) is.0, omega (arith, is.1, e, t.value.links.ok.0, t.value.links.ok.1))
+
+-- few pairs need no table
+pub none_needed : {K V : Type 0} (text : K → List ℕ) (es : List (Entry K V)) (t : Option (Box Table)) → ((b : Box Table) → t ≡ Some b → ⊥) → TableHasRoomFor (length es) t → IsTableOf t (keys_of text es)
+none_needed text es None other room = le-leb (length (keys_of text es)) 32 (omega (arith, length-keys_of text es, room))
+none_needed text es (Some t) other room = absurd (other t refl)

@@ -1,0 +1,91 @@
+-- A table from hashes to places. The pairs stand in chains: each chain has a head, and each pair has a link.
+use Rattle.std.specs.Prelude.{◌≡◌, ℕ, zero, suc, ◌+◌, ◌<◌, ◌≤◌, ◌%◌, Bool, true, false, ◌&&◌, ◌||◌, eqb, ltb, nat_le, if◌then◌else◌, List, length, Option, Some, None, bytes_eq, get_or, slice_get}
+use mathlib.Core.Bool.{Bool-set}
+use native.Mathlib.Nat.{ℕ_set}
+use mathlib.Core.HLevel.{×_prop}
+use Rattle.std.specs.Global.{Box}
+use Rattle.std.specs.Vec.{vec_capacity}
+use Rattle.sj_object.specs.Hash.{text_hash}
+use Rattle.sj_object.specs.Pairs.{AreDistinct, AreDistinct-prop}
+use Rattle.sj_object.specs.declared.entry.Entry.{Entry}
+use Rattle.sj_object.specs.declared.table.Link.{Link}
+use Rattle.sj_object.specs.declared.table.Table.{Table}
+
+-- the chain in which a hash stands, of n chains
+abbrev pub home : ℕ → ℕ → ℕ
+home n h = h % n
+
+-- where the chain of a hash begins
+abbrev pub head_of : List (Option ℕ) → ℕ → Option ℕ
+head_of heads h = get_or heads (home (length heads) h) None
+
+-- whether there is such a link, and it has this hash
+abbrev pub has_hash : Option Link → ℕ → Bool
+has_hash None h = false
+has_hash (Some l) h = eqb l.hash h
+
+-- the place behind a link, if there is one
+abbrev pub next_of : Option Link → Option ℕ
+next_of None = None
+next_of (Some l) = l.next
+
+-- whether one comes to place p within n steps, from this place on
+abbrev pub reaches : ℕ → List Link → Option ℕ → ℕ → Bool
+reaches zero links at p = false
+reaches (suc n) links None p = false
+reaches (suc n) links (Some i) p = eqb i p || reaches n links (next_of (slice_get links i)) p
+
+-- whether the pair at place p has this hash, and stands in its chain
+abbrev pub stands : List (Option ℕ) → List Link → ℕ → ℕ → Bool
+stands heads links h p = has_hash (slice_get links p) h && reaches (length links) links (head_of heads h) p
+
+-- A table has a link for each of the keys, and each stands in the chain of its hash.
+abbrev pub IsTable : Table → List (List ℕ) → Type 0
+IsTable t ks =
+    (ltb 0 (length t.heads.items) ≡ true)
+    × (length t.links.items ≡ length ks)
+    × ((p : ℕ) (k : List ℕ) → slice_get ks p ≡ Some k → stands t.heads.items t.links.items (text_hash k) p ≡ true)
+
+-- An object of more than 32 pairs has a table.
+abbrev pub IsTableOf : Option (Box Table) → List (List ℕ) → Type 0
+IsTableOf None ks = nat_le (length ks) 32 ≡ true
+IsTableOf (Some t) ks = IsTable t.value ks
+
+-- the keys are distinct, and the table has them
+abbrev pub AreInOrder : Option (Box Table) → List (List ℕ) → Type 0
+AreInOrder t ks = AreDistinct ks × IsTableOf t ks
+
+IsTableOf-prop : (t : Option (Box Table)) (ks : List (List ℕ)) → IsProp (IsTableOf t ks)
+IsTableOf-prop None ks = Bool-set _ _
+IsTableOf-prop (Some t) ks = λ x y i. (Bool-set _ _ x.0 y.0 i, ℕ_set _ _ x.1 y.1 i, λ p k e. Bool-set _ _ (x.2 p k e) (y.2 p k e) i)
+
+pub AreInOrder-prop : (t : Option (Box Table)) (ks : List (List ℕ)) → IsProp (AreInOrder t ks)
+AreInOrder-prop t ks = ×_prop (AreDistinct-prop ks) (IsTableOf-prop t ks)
+
+-- a table has a chain at least, and room for n links
+abbrev pub HasRoomFor : ℕ → Table → Type 0
+HasRoomFor n t = (0 < length t.heads.items) × (n ≤ vec_capacity t.links)
+
+-- the table of an object has room for n links, or the object needs none for n pairs
+abbrev pub TableHasRoomFor : ℕ → Option (Box Table) → Type 0
+TableHasRoomFor n None = n ≤ 32
+TableHasRoomFor n (Some t) = HasRoomFor n t.value
+
+-- the same, with these keys and one more
+abbrev pub CanGrow : Option (Box Table) → List (List ℕ) → Type 0
+CanGrow t ks = TableHasRoomFor (length ks + 1) t × IsTableOf t ks
+
+module _ {K V : Type 0} (text : K → List ℕ) where
+  abbrev pair_has_key : Option (Entry K V) → List ℕ → Bool
+  pair_has_key None k = false
+  pair_has_key (Some e) k = bytes_eq (text e.key) k
+
+  -- whether the pair at place i has the key k
+  abbrev pub has_key : List (Entry K V) → ℕ → List ℕ → Bool
+  has_key es i k = pair_has_key (slice_get es i) k
+
+  -- the place of the key k with the hash h, if one comes to it within n steps
+  abbrev pub sought : List (Entry K V) → ℕ → List ℕ → ℕ → List Link → Option ℕ → Option ℕ
+  sought es h k zero links at = None
+  sought es h k (suc n) links None = None
+  sought es h k (suc n) links (Some i) = if has_hash (slice_get links i) h && has_key es i k then Some i else sought es h k n links (next_of (slice_get links i))

@@ -1,0 +1,221 @@
+//! A table from the hashes of keys to the places of their pairs.
+//!
+//! The hash of a key says in which chain its pair stands. A chain begins at the last of its pairs, and goes on from pair to
+//! pair by links. Where a pair has the hash that is looked for, the texts of the keys decide. A new pair goes to the head of
+//! its chain, so it takes one step however many keys share its hash.
+ghost use Rattle.std.specs.Prelude.{◌≡◌, ℕ, suc, ◌+◌, ◌<◌, ◌≤◌, List, [], ◌∷◌, ◌++◌, length, set, true, Some, IfSome, IfOk, OnOk, OnErr};
+ghost use Rattle.std.specs.Vec.{vec_capacity};
+ghost use Rattle.sj_object.specs.Hash.{text_hash};
+ghost use Rattle.sj_object.specs.Pairs.{keys_of, place_of, AreDistinct};
+ghost use Rattle.sj_object.specs.inside.Chains.{home, head_of, has_key, sought, IsTable, IsTableOf, HasRoomFor, TableHasRoomFor, CanGrow};
+
+use crate::entry::Entry;
+use crate::hash::hash_key;
+use crate::key::ObjectKey;
+use std::alloc::{AllocError, Global};
+use std::mem;
+
+// What the table keeps of a pair.
+#[derive(Clone, Copy)]
+pub(crate) struct Link {
+    // The hash of its key.
+    hash: u64,
+    // The place of the next pair of its chain.
+    next: Option<usize>,
+}
+
+#[derive(Drop)]
+pub(crate) struct Table {
+    // The places at which the chains begin.
+    heads: Vec<Option<usize>>,
+    // One for each pair, in order.
+    links: Vec<Link>,
+}
+
+// Returns `true` if the pair at this place has the key.
+fn has_key<K: ObjectKey, V>(entries: &[Entry<K, V>], place: usize, key: &str) -> bool
+    ensures { result ≡ has_key K.text entries.now place key.now }
+{
+    match entries.get(place) {
+        Some(entry) => entry.key.as_text() == key,
+        None => false,
+    }
+}
+
+// Looks for the key, whose hash is given, from this place on.
+fn seek<K: ObjectKey, V>(
+    links: &[Link],
+    start: Option<usize>,
+    hash: u64,
+    key: &str,
+    entries: &[Entry<K, V>],
+) -> Option<usize>
+    ensures { result ≡ sought K.text entries.now hash key.now (length links.now) links.now start }
+{
+    let mut at = start;
+    let mut left = links.len();
+    while left > 0 {
+        let place = at?;
+        let link = links.get(place)?;
+        if link.hash == hash && has_key(entries, place, key) {
+            return Some(place);
+        }
+        at = link.next;
+        left -= 1;
+    }
+    None
+}
+
+impl Table {
+    // Returns a table without pairs that has room for this many.
+    fn with_room(alloc: Global, pairs: usize) -> Result<Table, AllocError>
+        requires { 0 < pairs }
+        ensures { IfOk result (HasRoomFor pairs) }
+    {
+        let mut heads = Vec::new(alloc);
+        heads.resize(pairs, None)?;
+        let links = Vec::with_capacity(alloc, pairs)?;
+        Ok(Table { heads, links })
+    }
+
+    // Returns the table of these pairs, with room for as many as the vector has room for, and one more.
+    fn of<K: ObjectKey, V>(alloc: Global, entries: &Vec<Entry<K, V>>) -> Result<Table, AllocError>
+        ensures table { IfOk result (λ table. IsTable table (keys_of K.text entries.now.items)) }
+        ensures room { IfOk result (HasRoomFor (length entries.now.items + 1)) }
+    {
+        let room = entries.capacity().checked_add(1).ok_or(AllocError)?;
+        let mut made = Table::with_room(alloc, room)?;
+        made.fill(entries);
+        Ok(made)
+    }
+
+    // Makes the table anew, of these pairs.
+    fn fill<K: ObjectKey, V>(&mut self, entries: &[Entry<K, V>])
+        requires { HasRoomFor (length entries.now) self.old }
+        ensures table { IsTable self.new (keys_of K.text entries.now) }
+        ensures room { vec_capacity self.new.links ≡ vec_capacity self.old.links }
+    {
+        self.heads.fill(None);
+        self.links.clear();
+        for (place, entry) in entries.iter().enumerate() {
+            self.put(hash_key(entry.key.as_text()), place);
+        }
+    }
+
+    // Puts the next pair into the table, which is the one at this place. Its key has this hash.
+    fn put(&mut self, hash: u64, place: usize)
+        requires room { HasRoomFor (length self.old.links.items + 1) self.old }
+        requires place { place ≡ length self.old.links.items }
+        ensures heads { self.new.heads.items ≡ set self.old.heads.items (home (length self.old.heads.items) hash) (Some (length self.old.links.items)) }
+        ensures links { self.new.links.items ≡ self.old.links.items ++ (record { hash = hash; next = head_of self.old.heads.items hash }) ∷ [] }
+        ensures room { vec_capacity self.new.links ≡ vec_capacity self.old.links }
+    {
+        let home = self.home(hash);
+        let next = mem::replace(&mut self.heads[home], Some(place));
+        self.links.push_reserved(Link { hash, next });
+    }
+
+    // The chain in which this hash stands.
+    fn home(&self, hash: u64) -> usize
+        requires { 0 < length self.now.heads.items }
+        ensures home { result ≡ home (length self.now.heads.items) hash }
+        ensures within { result < length self.now.heads.items }
+    {
+        hash as usize % self.heads.len()
+    }
+
+    // Returns the place of the key, whose hash is given.
+    pub(crate) fn find<K: ObjectKey, V>(
+        &self,
+        hash: u64,
+        key: &str,
+        entries: &[Entry<K, V>],
+    ) -> Option<usize>
+        requires table { IsTable self.now (keys_of K.text entries.now) }
+        requires distinct { AreDistinct (keys_of K.text entries.now) }
+        requires hash { hash ≡ text_hash key.now }
+        ensures { result ≡ place_of K.text entries.now key.now }
+    {
+        seek(&self.links, self.heads[self.home(hash)], hash, key, entries)
+    }
+
+    // Returns `true` if there is room for one more pair.
+    fn has_room(&self) -> bool
+        ensures { result ≡ true → length self.now.links.items + 1 ≤ vec_capacity self.now.links }
+    {
+        self.links.len() < self.links.capacity()
+    }
+}
+
+// The most pairs of an object that are looked up one by one.
+const LIST_MAX: usize = 32;
+
+// Makes room in the table for one more pair. For the one behind `LIST_MAX` pairs it makes the table.
+pub(crate) fn make_room<K: ObjectKey, V>(
+    alloc: Global,
+    table: &mut Option<Box<Table>>,
+    entries: &Vec<Entry<K, V>>,
+) -> Result<(), AllocError>
+    requires { IsTableOf table.old (keys_of K.text entries.now.items) }
+    ensures ok { OnOk result (CanGrow table.new (keys_of K.text entries.now.items)) }
+    ensures err { OnErr result (table.new ≡ table.old) }
+{
+    let has_room = match table {
+        Some(table) => table.has_room(),
+        None => entries.len() < LIST_MAX,
+    };
+    if !has_room {
+        *table = Some(Box::new(alloc, Table::of(alloc, entries)?)?);
+    }
+    Ok(())
+}
+
+// Returns the table of these pairs, if they are more than `LIST_MAX`.
+pub(crate) fn table_of<K: ObjectKey, V>(
+    alloc: Global,
+    entries: &Vec<Entry<K, V>>,
+) -> Result<Option<Box<Table>>, AllocError>
+    ensures { IfOk result (λ table. IsTableOf table (keys_of K.text entries.now.items)) }
+{
+    if entries.len() <= LIST_MAX {
+        return Ok(None);
+    }
+    Ok(Some(Box::new(alloc, Table::of(alloc, entries)?)?))
+}
+
+// The hash of the key, which may be known.
+fn hash_of(known: Option<u64>, key: &str) -> u64
+    requires { IfSome known (λ hash. hash ≡ text_hash key.now) }
+    ensures { result ≡ text_hash key.now }
+{
+    match known {
+        Some(hash) => hash,
+        None => hash_key(key),
+    }
+}
+
+// Follows a pair that goes last, behind these. The hash of its key may be known.
+pub(crate) fn push_key<K: ObjectKey, V>(
+    table: &mut Option<Box<Table>>,
+    entries: &[Entry<K, V>],
+    hash: Option<u64>,
+    key: &str,
+)
+    requires room { CanGrow table.old (keys_of K.text entries.now) }
+    requires hash { IfSome hash (λ known. known ≡ text_hash key.now) }
+    ensures { IsTableOf table.new (keys_of K.text entries.now ++ key.now ∷ []) }
+{
+    if let Some(table) = table {
+        table.put(hash_of(hash, key), entries.len());
+    }
+}
+
+// Follows a pair that came in between the others, or was taken out.
+pub(crate) fn refill<K: ObjectKey, V>(table: &mut Option<Box<Table>>, entries: &[Entry<K, V>])
+    requires { TableHasRoomFor (length entries.now) table.old }
+    ensures { IsTableOf table.new (keys_of K.text entries.now) }
+{
+    if let Some(table) = table {
+        table.fill(entries);
+    }
+}
