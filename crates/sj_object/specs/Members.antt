@@ -1,6 +1,6 @@
 -- An object taken apart.
 use Rattle.std.specs.Prelude.{ℕ, List}
-use Rattle.sj_object.specs.declared.entries.Members.{Members}
+use Rattle.sj_object.specs.declared.members.Members.{Members}
 use Rattle.sj_object.specs.inside.Chains.{AreInOrder}
 use Rattle.sj_object.specs.Pairs.{keys_of}
 

@@ -6,19 +6,19 @@
 
 mod compare;
 mod copy;
-mod entries;
 mod entry;
 mod hash;
 mod hashed;
 mod iter;
 mod key;
+mod members;
 mod object;
 mod table;
 
 pub use copy::CopyKey;
-pub use entries::Members;
 pub use entry::{Entry, Refused};
 pub use hash::{NotSoRandomState, ObjectHasher, hash_key};
 pub use iter::{IntoIter, Iter, Keys, Values};
 pub use key::{MakeKey, ObjectKey};
+pub use members::Members;
 pub use object::Object;

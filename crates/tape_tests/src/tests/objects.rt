@@ -101,6 +101,8 @@ fn pairs_in_order(rt: HostRuntime) -> Result<(), Fail> {
         *value = 5;
     }
     expect_eq(&rt, object.get_mut("d"), None);
+    let text = format!(in rt.alloc(); "{object:?}")?;
+    expect_eq(&rt, text.as_str(), r#"{"b": 2, "a": 5}"#);
     let mut shown = String::new(rt.alloc());
     show_pairs(&object, &mut shown)?;
     show_taken(object, &mut shown)?;
@@ -167,6 +169,24 @@ fn places(rt: HostRuntime) -> Result<(), Fail> {
         expect_eq(&rt, object.remove(key), Some(value));
     }
     expect_eq(&rt, object.get("k0"), Some(&7));
+    Ok(())
+}
+
+// A refused pair comes back, and the object is as it was, as `rt try --test --fail-alloc N` shows: the 33rd pair needs memory
+// for the table, and the one before it none.
+#[test]
+fn refused_pairs(rt: HostRuntime) -> Result<(), Fail> {
+    let mut object: Object<CowStr, usize> = Object::with_capacity(rt.alloc(), 40)?;
+    let keys = "a b c d e f g h i j k l m n o p q r s t u v w x y z aa ab ac ad ae af ag ah";
+    for (place, text) in keys.split(' ').enumerate() {
+        if let Err(pair) = object.insert(CowStr::Borrowed(text), place) {
+            expect_eq(&rt, (pair.key.as_ref(), pair.value), (text, place));
+            expect_eq(&rt, (object.len(), object.place(text)), (place, None));
+            expect_eq(&rt, place, 32);
+            return Err(Fail::new("no memory"));
+        }
+    }
+    expect_eq(&rt, (object.len(), object.get("ah")), (34, Some(&33)));
     Ok(())
 }
 
