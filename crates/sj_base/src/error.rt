@@ -56,7 +56,7 @@ pub enum ErrorType {
     InvalidEscape,
     /// Kept from `simd_json`; no call answers it.
     InvalidExponent,
-    /// A token that is no number, or an integer out of range.
+    /// A token that begins as a number does, and is none.
     InvalidNumber,
     /// An input that isn't UTF-8.
     InvalidUtf8,

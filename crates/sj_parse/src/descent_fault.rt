@@ -29,7 +29,7 @@ pub enum DescentKind {
     ExpectedFalse,
     /// A token that begins with `n` and isn't `null`.
     ExpectedNull,
-    /// A token that is no number, or an integer out of range.
+    /// A token that begins as a number does, and is none.
     InvalidNumber,
     /// A backslash with an unknown letter behind it.
     InvalidEscape,
