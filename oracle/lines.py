@@ -87,7 +87,7 @@ class Lines:
         return self.choice([b"[" * count + b"]" * count, b'{"a":' * count + b"1" + b"}" * count])
 
     def many_members(self):
-        count = self.choice([32, 33, 34, 40, 192, 193, 194, 300])
+        count = self.choice([32, 33, 34, 40, 48, 49, 50, 300, 1025])
         keys = self.choice([count, count, count - 1, 30])
         return ("{" + ",".join(f'"k{i % keys}":{i}' for i in range(count)) + "}").encode()
 

@@ -72,7 +72,7 @@ fn take_list<'de, V: BuildValue<'de, K> + Drop, K: MakeKey<'de> + Drop>(
 }
 
 // The most members of an object whose keys are looked up in the object itself.
-const FEW_MEMBERS: usize = 192;
+const FEW_MEMBERS: usize = 1024;
 
 // The keys that were met, where a set lists them.
 type MetKeys<'de> = Option<BTreeSet<&'de str>>;

@@ -18,7 +18,7 @@ fn with_repeats(alloc: Global, times: usize) -> Result<String, AllocError> {
 #[test]
 fn first_of_each_key(rt: HostRuntime) -> Result<(), Fail> {
     let alloc = rt.alloc();
-    let line = with_repeats(alloc, 100)?;
+    let line = with_repeats(alloc, 600)?;
     let kept = with_repeats(alloc, 0)?;
     expect_text(&rt, alloc, &owned_of(alloc, &line)?, &kept)?;
     on_borrowed(alloc, &line, |value| {

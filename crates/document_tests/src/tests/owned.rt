@@ -313,7 +313,7 @@ fn made_of_pairs(rt: HostRuntime) -> Result<(), Fail> {
     Ok(())
 }
 
-// More pairs than are compared with one another. Keys with the same hash, `Aa` and `BB`, are told apart.
+// More pairs than are looked up one by one. Keys with the same hash, `Aa` and `BB`, are told apart.
 #[test]
 fn made_of_many_pairs(rt: HostRuntime) -> Result<(), Fail> {
     let alloc = rt.alloc();

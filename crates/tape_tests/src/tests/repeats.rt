@@ -64,7 +64,7 @@ fn first_repeats(rt: HostRuntime) -> Result<(), Fail> {
 #[test]
 fn repeats_among_many(rt: HostRuntime) -> Result<(), Fail> {
     let alloc = rt.alloc();
-    for end in [1, 31, 32, 33, 100] {
+    for end in [1, 31, 32, 33, 46, 47, 48, 100] {
         let text = many_members(alloc, end, r#""k0":{}"#)?;
         expect_repeat(&rt, alloc, &text, "/k0")?;
         let text = many_members(alloc, end, r#""k":{}"#)?;
