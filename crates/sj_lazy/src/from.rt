@@ -81,8 +81,7 @@ impl<'i> Value<'_, '_, 'i> {
     ///
     /// # Errors
     ///
-    /// `AllocError` if there is no memory for the object, or meanwhile for the hashes of its keys, if there are many. The pairs
-    /// are dropped.
+    /// `AllocError` if there is no memory for the object. The pairs are dropped.
     pub fn from_pairs<S: Into<BorrowedValue<'i>> + Drop, I: IntoIterator<Item = (CowStr<'i>, S)>>(
         alloc: Global,
         pairs: I,
@@ -98,8 +97,7 @@ impl<'i> Value<'_, '_, 'i> {
     ///
     /// # Errors
     ///
-    /// `AllocError` if there is no memory for the object, or meanwhile for its pairs and the hashes of its keys. The entries are
-    /// dropped.
+    /// `AllocError` if there is no memory for the object, or meanwhile for its pairs. The entries are dropped.
     pub fn from_map(
         alloc: Global,
         map: HashMap<String, BorrowedValue<'i>>,

@@ -9,8 +9,8 @@ use crate::table::Table;
 
 /// The pairs of an object, taken out of it by [`Object::into_members`].
 ///
-/// Unlike [`Object`], it asks nothing of the type of keys, so a trait may have a method that takes the members of an object of
-/// the trait's own type.
+/// Its key type has no bound. So a trait can have a method that takes the members of an object whose values are of the trait's
+/// own type.
 #[derive(Drop)]
 pub struct Members<K, V> {
     /// The pairs in order. No two have the same key.
@@ -20,6 +20,9 @@ pub struct Members<K, V> {
 
 impl<K: ObjectKey, V> Object<K, V> {
     /// Creates an object of members that were taken out of one. Takes no memory.
+    ///
+    /// `members` have to be as [`Object::into_members`] gave them. To make an object of other pairs, put them into a new one by
+    /// [`Object::insert`].
     pub fn from_members(members: Members<K, V>) -> Self
         requires { AreMembers K.text members }
         ensures { result ≡ members.entries.items }

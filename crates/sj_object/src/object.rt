@@ -9,7 +9,7 @@ use crate::entry::{Entry, Refused};
 use crate::hash::hash_key;
 use crate::iter::{IntoIter, Iter, Keys, Values};
 use crate::key::ObjectKey;
-use crate::table::{Table, make_room, push_key, refill};
+use crate::table::{Table, hash_of, make_room, push_key, refill};
 use std::alloc::{AllocError, Global};
 use std::fmt::{self, Debug};
 use std::marker::Model;
@@ -18,8 +18,8 @@ use std::mem;
 /// Pairs of a key and a value in insertion order, with no key twice.
 ///
 /// It takes the place of the hash map in `simd_json::owned::Object` and `simd_json::borrowed::Object`.
-/// Up to 32 pairs, a key is found by comparing texts from the first pair on. An object of more pairs has a table beside the
-/// list, from the hashes of keys to places.
+/// Up to 32 pairs, a key is found by comparing texts from the first pair on. An object of more pairs has a hash table beside the
+/// list. Keys that share a hash are told apart by their texts, one after the other.
 #[derive(Drop)]
 pub struct Object<K: ObjectKey, V> {
     pub(crate) entries: Vec<Entry<K, V>>,
@@ -30,13 +30,13 @@ impl<K: ObjectKey, V> Model for Object<K, V> {
     ghost use Rattle.std.specs.Prelude.{List};
     ghost use Rattle.sj_object.specs.declared.entry.Entry.{Entry};
     ghost use Rattle.sj_object.specs.Pairs.{keys_of};
-    ghost use Rattle.sj_object.specs.inside.Chains.{AreInOrder};
+    ghost use Rattle.sj_object.specs.inside.Chains.{AreIndexed};
 
     ghost Value = { List (Entry K V) };
 
     ghost view = { λ o. o.entries.items };
 
-    ghost invariant = { λ o. AreInOrder o.table (keys_of K.text o.entries.items) };
+    ghost invariant = { λ o. AreIndexed o.table (keys_of K.text o.entries.items) };
 }
 
 impl<K: ObjectKey, V> Object<K, V> {
@@ -53,7 +53,8 @@ impl<K: ObjectKey, V> Object<K, V> {
         }
     }
 
-    /// Returns an object without pairs that has room for this many.
+    /// Returns an object without pairs that has room for this many. The hash table isn't made yet: the 33rd pair still needs
+    /// memory.
     ///
     /// # Errors
     ///
@@ -68,7 +69,8 @@ impl<K: ObjectKey, V> Object<K, V> {
         })
     }
 
-    /// Returns an object without pairs that has this one's allocator, and room for as many pairs.
+    /// Returns an object without pairs that has this one's allocator, and room for as many pairs. The hash table isn't made
+    /// yet.
     ///
     /// # Errors
     ///
@@ -99,27 +101,17 @@ impl<K: ObjectKey, V> Object<K, V> {
     pub fn place(&self, key: &str) -> Option<usize>
         ensures { result ≡ place_of K.text self.now key.now }
     {
-        self.place_by(self.hash_in_table(key), key)
+        self.place_by(None, key)
     }
 
-    // The key's hash, if there is a table to look it up in.
-    pub(crate) fn hash_in_table(&self, key: &str) -> Option<u64>
-        ensures { IfSome result (λ hash. hash ≡ text_hash key.now) }
-    {
-        match self.table {
-            Some(_) => Some(hash_key(key)),
-            None => None,
-        }
-    }
-
-    // The place of the pair with this key, whose hash may be known.
+    // As `place`. `hash` is the key's hash, if it is known.
     pub(crate) fn place_by(&self, hash: Option<u64>, key: &str) -> Option<usize>
         requires { IfSome hash (λ known. known ≡ text_hash key.now) }
         ensures { result ≡ place_of K.text self.now key.now }
     {
-        match (&self.table, hash) {
-            (Some(table), Some(hash)) => table.find(hash, key, &self.entries),
-            _ => self
+        match &self.table {
+            Some(table) => table.find(hash_of(hash, key), key, &self.entries),
+            None => self
                 .entries
                 .iter()
                 .position(|entry| entry.key.as_text() == key),
@@ -130,10 +122,10 @@ impl<K: ObjectKey, V> Object<K, V> {
     pub fn get(&self, key: &str) -> Option<&V>
         ensures { option_copied result ≡ value_at K.text self.now key.now }
     {
-        self.value_by(self.hash_in_table(key), key)
+        self.value_by(None, key)
     }
 
-    // The same with a hash that may be known.
+    // As `get`. `hash` is the key's hash, if it is known.
     pub(crate) fn value_by(&self, hash: Option<u64>, key: &str) -> Option<&V>
         requires { IfSome hash (λ known. known ≡ text_hash key.now) }
         ensures { option_copied result ≡ value_at K.text self.now key.now }
@@ -147,11 +139,10 @@ impl<K: ObjectKey, V> Object<K, V> {
         ensures* writes_back { sem 𝓛 (lends_value K.row V.row K.ObjectKey self.entry key.now result) }
         ensures value { option_copied_mut result ≡ value_at K.text self.old key.now }
     {
-        let hash = self.hash_in_table(key);
-        self.value_mut_by(hash, key)
+        self.value_mut_by(None, key)
     }
 
-    // The same with a hash that may be known.
+    // As `get_mut`. `hash` is the key's hash, if it is known.
     pub(crate) fn value_mut_by(&mut self, hash: Option<u64>, key: &str) -> Option<&mut V>
         requires { IfSome hash (λ known. known ≡ text_hash key.now) }
         ensures* writes_back { sem 𝓛 (lends_value K.row V.row K.ObjectKey self.entry key.now result) }
@@ -195,11 +186,21 @@ impl<K: ObjectKey, V> Object<K, V> {
         ensures err { OnErr result (self.new ≡ self.old) }
         ensures handed_back { IfErr result (λ pair. (pair.key ≡ key) × (pair.value ≡ value)) }
     {
-        let hash = self.hash_in_table(key.as_text());
+        let hash = self.hash_for_table(key.as_text());
         self.insert_by(hash, key, value)
     }
 
-    // The same with a hash that may be known.
+    // The key's hash, if there is a table, so that an insertion computes it once.
+    fn hash_for_table(&self, key: &str) -> Option<u64>
+        ensures { IfSome result (λ hash. hash ≡ text_hash key.now) }
+    {
+        match self.table {
+            Some(_) => Some(hash_key(key)),
+            None => None,
+        }
+    }
+
+    // As `insert`. `hash` is the key's hash, if it is known.
     pub(crate) fn insert_by(
         &mut self,
         hash: Option<u64>,
@@ -236,7 +237,7 @@ impl<K: ObjectKey, V> Object<K, V> {
         self.push_by(None, key, value)
     }
 
-    // The same with a hash that may be known.
+    // As `push_new`. `hash` is the key's hash, if it is known.
     fn push_by(&mut self, hash: Option<u64>, key: K, value: V) -> Result<(), Refused<K, V>>
         requires hash { IfSome hash (λ known. known ≡ text_hash (K.text key)) }
         requires new_key { value_at K.text self.old (K.text key) ≡ None }
@@ -271,6 +272,9 @@ impl<K: ObjectKey, V> Object<K, V> {
         ensures handed_back { IfErr result (λ pair. (pair.key ≡ key) × (pair.value ≡ value)) }
     {
         let alloc = *self.entries.allocator();
+        if self.entries.reserve(1).is_err() {
+            return Err(Refused { key, value });
+        }
         let Ok(()) = make_room(alloc, &mut self.table, &self.entries) else {
             return Err(Refused { key, value });
         };

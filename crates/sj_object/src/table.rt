@@ -1,9 +1,9 @@
-//! A table from the hashes of keys to the places of their pairs.
+//! A hash table from the hashes of keys to the places of their pairs.
 //!
-//! The hash of a key says in which chain its pair stands. A chain begins at the last of its pairs, and goes on from pair to
-//! pair by links. Where a pair has the hash that is looked for, the texts of the keys decide. A new pair goes to the head of
-//! its chain, so it takes one step however many keys share its hash.
-ghost use Rattle.std.specs.Prelude.{◌≡◌, ℕ, suc, ◌+◌, ◌<◌, ◌≤◌, List, [], ◌∷◌, ◌++◌, length, set, true, Some, IfSome, IfOk, OnOk, OnErr};
+//! The hash of a key says in which chain its pair stands. A chain begins at its newest pair, and each link leads to the pair that
+//! came before it. Where a pair has the hash that is looked for, the texts of the keys decide. A new pair goes to the head of its
+//! chain, which takes one step however many keys share its hash.
+ghost use Rattle.std.specs.Prelude.{◌≡◌, ℕ, suc, ◌+◌, ◌<◌, ◌≤◌, List, [], ◌∷◌, ◌++◌, length, set, true, Some, None, IfSome, IfOk, OnOk, OnErr};
 ghost use Rattle.std.specs.Vec.{vec_capacity};
 ghost use Rattle.sj_object.specs.Hash.{text_hash};
 ghost use Rattle.sj_object.specs.Pairs.{keys_of, place_of, AreDistinct};
@@ -20,7 +20,7 @@ use std::mem;
 pub(crate) struct Link {
     // The hash of its key.
     hash: u64,
-    // The place of the next pair of its chain.
+    // The place of the pair that came before it in its chain.
     next: Option<usize>,
 }
 
@@ -53,6 +53,7 @@ fn seek<K: ObjectKey, V>(
     ensures { result ≡ sought K.text entries.now hash key.now (length links.now) links.now start }
 {
     let mut at = start;
+    // No chain is longer than the list.
     let mut left = links.len();
     while left > 0 {
         let place = at?;
@@ -78,15 +79,18 @@ impl Table {
         Ok(Table { heads, links })
     }
 
-    // Returns the table of these pairs, with room for as many as the vector has room for, and one more.
-    fn of<K: ObjectKey, V>(alloc: Global, entries: &Vec<Entry<K, V>>) -> Result<Table, AllocError>
-        ensures table { IfOk result (λ table. IsTable table (keys_of K.text entries.now.items)) }
-        ensures room { IfOk result (HasRoomFor (length entries.now.items + 1)) }
+    // Returns the table of these pairs, with room for as many as the vector has room for.
+    fn of<K: ObjectKey, V>(
+        alloc: Global,
+        entries: &Vec<Entry<K, V>>,
+    ) -> Result<Box<Table>, AllocError>
+        requires { 0 < vec_capacity entries.now }
+        ensures table { IfOk result (λ table. IsTable table.value (keys_of K.text entries.now.items)) }
+        ensures room { IfOk result (λ table. HasRoomFor (vec_capacity entries.now) table.value) }
     {
-        let room = entries.capacity().checked_add(1).ok_or(AllocError)?;
-        let mut made = Table::with_room(alloc, room)?;
+        let mut made = Table::with_room(alloc, entries.capacity())?;
         made.fill(entries);
-        Ok(made)
+        Ok(Box::new(alloc, made)?)
     }
 
     // Makes the table anew, of these pairs.
@@ -150,14 +154,17 @@ impl Table {
 // The most pairs of an object that are looked up one by one.
 const LIST_MAX: usize = 32;
 
-// Makes room in the table for one more pair. For the one behind `LIST_MAX` pairs it makes the table.
+// Makes room in the table for one more pair, as the vector has it. The pair behind the first `LIST_MAX` needs a table, which is
+// made here.
 pub(crate) fn make_room<K: ObjectKey, V>(
     alloc: Global,
     table: &mut Option<Box<Table>>,
     entries: &Vec<Entry<K, V>>,
 ) -> Result<(), AllocError>
-    requires { IsTableOf table.old (keys_of K.text entries.now.items) }
+    requires table { IsTableOf table.old (keys_of K.text entries.now.items) }
+    requires room { length entries.now.items < vec_capacity entries.now }
     ensures ok { OnOk result (CanGrow table.new (keys_of K.text entries.now.items)) }
+    ensures few { length entries.now.items < 32 → table.old ≡ None → table.new ≡ None }
     ensures err { OnErr result (table.new ≡ table.old) }
 {
     let has_room = match table {
@@ -165,7 +172,7 @@ pub(crate) fn make_room<K: ObjectKey, V>(
         None => entries.len() < LIST_MAX,
     };
     if !has_room {
-        *table = Some(Box::new(alloc, Table::of(alloc, entries)?)?);
+        *table = Some(Table::of(alloc, entries)?);
     }
     Ok(())
 }
@@ -180,11 +187,11 @@ pub(crate) fn table_of<K: ObjectKey, V>(
     if entries.len() <= LIST_MAX {
         return Ok(None);
     }
-    Ok(Some(Box::new(alloc, Table::of(alloc, entries)?)?))
+    Ok(Some(Table::of(alloc, entries)?))
 }
 
 // The hash of the key, which may be known.
-fn hash_of(known: Option<u64>, key: &str) -> u64
+pub(crate) fn hash_of(known: Option<u64>, key: &str) -> u64
     requires { IfSome known (λ hash. hash ≡ text_hash key.now) }
     ensures { result ≡ text_hash key.now }
 {
@@ -194,7 +201,7 @@ fn hash_of(known: Option<u64>, key: &str) -> u64
     }
 }
 
-// Follows a pair that goes last, behind these. The hash of its key may be known.
+// Adds the key of the pair that goes last, behind these. `hash` is the key's hash, if it is known.
 pub(crate) fn push_key<K: ObjectKey, V>(
     table: &mut Option<Box<Table>>,
     entries: &[Entry<K, V>],
@@ -210,7 +217,7 @@ pub(crate) fn push_key<K: ObjectKey, V>(
     }
 }
 
-// Follows a pair that came in between the others, or was taken out.
+// Makes the table anew after a pair was inserted or removed.
 pub(crate) fn refill<K: ObjectKey, V>(table: &mut Option<Box<Table>>, entries: &[Entry<K, V>])
     requires { TableHasRoomFor (length entries.now) table.old }
     ensures { IsTableOf table.new (keys_of K.text entries.now) }

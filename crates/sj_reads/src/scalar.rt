@@ -34,7 +34,8 @@ pub trait HasScalar: TypedValue {
 /// Reads of a value as one type (`value_trait::ValueAsScalar`).
 ///
 /// Every type that implements [`HasScalar`] has them; implement that trait and not this one. A read gives the value if it
-/// is of that type. An integer can be read as every type that it fits, whichever carrier holds it.
+/// is of that type. An integer from -2^63 to 2^64 - 1 can be read as every type that it fits, whichever carrier holds it; one
+/// out of that range is a decimal literal.
 pub trait ValueAsScalar: TypedValue {
     // The tree of the value, where it is a scalar.
     ghost scalar: { Self → Option Tree };

@@ -65,7 +65,7 @@ pub enum CommandFault {
     /// The command of this name takes another number of arguments.
     #[error("WrongCount")]
     WrongCount,
-    /// The path is not an array of strings and integers not below 0.
+    /// The path is not an array of strings and integers from 0 to 2^64 - 1.
     #[error("BadPath")]
     BadPath,
     /// The key is not a string.

@@ -8,7 +8,6 @@ use Rattle.sj_object.specs.declared.entry.Entry.{Entry}
 use Rattle.sj_owned.specs.Views.{members_inside}
 use Rattle.sj_owned.specs.declared.value.Value.{Value, Object, the_lemmas}
 use Rattle.sj_owned.specs.Lends.{member_set}
-use Rattle.sj_owned.proofs.Hashes.{put_key_others}
 use Rattle.sj_keys.specs.Writes.{Puts, PutsInside}
 
 module _ {K D : Type 0} where
@@ -40,6 +39,16 @@ module _ {K V : Type 0} (text : K → List ℕ) where
       ]
 
   -- the same of a value that is put
+  put_key_others : (es : List (Entry K V)) (x : K) (l : List ℕ) (v : V) → bytes_eq (text x) l ≡ false → value_at text (put_key text es x v) l ≡ value_at text es l
+  put_key_others [] x l v far = rw far refl
+  put_key_others (e ∷ es) x l v far =
+      elim (cases_Bool (bytes_eq (text e.key) (text x))) [
+        | inl y ↦
+            let past : bytes_eq (text e.key) l ≡ false = subst (λ (j : List ℕ). bytes_eq j l ≡ false) (sym ((bytes_eq-Decides (text e.key) (text x)).0 y)) far in
+            rw (y, past) refl
+        | inr n ↦ rw n (ap (λ (r : Option V). if bytes_eq (text e.key) l then Some e.value else r) (put_key_others es x l v far))
+      ]
+
   put_key_found : (es : List (Entry K V)) (x : K) (v : V) → value_at text (put_key text es x v) (text x) ≡ Some v
   put_key_found [] x v = rw (same_text (text x)) refl
   put_key_found (e ∷ es) x v =
@@ -52,7 +61,7 @@ module _ {K V : Type 0} (text : K → List ℕ) where
   put_found es fs k v p = rw p.2 (subst (λ (j : List ℕ). value_at text (put_key text es p.0 v) j ≡ Some v) p.1 (put_key_found es p.0 v))
 
   pub put_others : (es fs : List (Entry K V)) (k l : List ℕ) (v : V) → Puts text es k v fs → bytes_eq k l ≡ false → value_at text fs l ≡ value_at text es l
-  put_others es fs k l v p far = rw p.2 (put_key_others text es p.0 l v (subst (λ (j : List ℕ). bytes_eq j l ≡ false) (sym p.1) far))
+  put_others es fs k l v p far = rw p.2 (put_key_others es p.0 l v (subst (λ (j : List ℕ). bytes_eq j l ≡ false) (sym p.1) far))
 
 -- the same of a target that is written through the object that it is
 module _ {T O V : Type 0} (object : T → Option O) (of_object : O → T) (member : T → List ℕ → Option V) (inner : O → List ℕ → Option V)

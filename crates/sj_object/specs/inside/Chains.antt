@@ -1,4 +1,4 @@
--- A table from hashes to places. The pairs stand in chains: each chain has a head, and each pair has a link.
+-- A hash table. The pairs stand in chains: each chain has a head, and each pair has a link.
 use Rattle.std.specs.Prelude.{◌≡◌, ℕ, zero, suc, ◌+◌, ◌<◌, ◌≤◌, ◌%◌, Bool, true, false, ◌&&◌, ◌||◌, eqb, ltb, nat_le, if◌then◌else◌, List, length, Option, Some, None, bytes_eq, get_or, slice_get}
 use mathlib.Core.Bool.{Bool-set}
 use native.Mathlib.Nat.{ℕ_set}
@@ -29,7 +29,7 @@ abbrev pub next_of : Option Link → Option ℕ
 next_of None = None
 next_of (Some l) = l.next
 
--- whether one comes to place p within n steps, from this place on
+-- whether the chain from this place on comes to place p within n steps
 abbrev pub reaches : ℕ → List Link → Option ℕ → ℕ → Bool
 reaches zero links at p = false
 reaches (suc n) links None p = false
@@ -52,26 +52,26 @@ IsTableOf None ks = nat_le (length ks) 32 ≡ true
 IsTableOf (Some t) ks = IsTable t.value ks
 
 -- the keys are distinct, and the table has them
-abbrev pub AreInOrder : Option (Box Table) → List (List ℕ) → Type 0
-AreInOrder t ks = AreDistinct ks × IsTableOf t ks
+abbrev pub AreIndexed : Option (Box Table) → List (List ℕ) → Type 0
+AreIndexed t ks = AreDistinct ks × IsTableOf t ks
 
 IsTableOf-prop : (t : Option (Box Table)) (ks : List (List ℕ)) → IsProp (IsTableOf t ks)
 IsTableOf-prop None ks = Bool-set _ _
 IsTableOf-prop (Some t) ks = λ x y i. (Bool-set _ _ x.0 y.0 i, ℕ_set _ _ x.1 y.1 i, λ p k e. Bool-set _ _ (x.2 p k e) (y.2 p k e) i)
 
-pub AreInOrder-prop : (t : Option (Box Table)) (ks : List (List ℕ)) → IsProp (AreInOrder t ks)
-AreInOrder-prop t ks = ×_prop (AreDistinct-prop ks) (IsTableOf-prop t ks)
+pub AreIndexed-prop : (t : Option (Box Table)) (ks : List (List ℕ)) → IsProp (AreIndexed t ks)
+AreIndexed-prop t ks = ×_prop (AreDistinct-prop ks) (IsTableOf-prop t ks)
 
 -- a table has a chain at least, and room for n links
 abbrev pub HasRoomFor : ℕ → Table → Type 0
 HasRoomFor n t = (0 < length t.heads.items) × (n ≤ vec_capacity t.links)
 
--- the table of an object has room for n links, or the object needs none for n pairs
+-- a table has room for n links; without one, n is at most 32
 abbrev pub TableHasRoomFor : ℕ → Option (Box Table) → Type 0
 TableHasRoomFor n None = n ≤ 32
 TableHasRoomFor n (Some t) = HasRoomFor n t.value
 
--- the same, with these keys and one more
+-- the table is that of these keys, and has room for one more
 abbrev pub CanGrow : Option (Box Table) → List (List ℕ) → Type 0
 CanGrow t ks = TableHasRoomFor (length ks + 1) t × IsTableOf t ks
 

@@ -21,7 +21,7 @@ use Rattle.std.specs.contracts.impls.GlobalAllocator.TheImpl.{ghosts}
 use Rattle.sj_object.specs.Compare.{agree_at, same_pairs}
 use Rattle.std.specs.Global.{Box}
 use Rattle.sj_object.specs.Pairs.{keys_of, value_at}
-use Rattle.sj_object.specs.inside.Chains.{AreInOrder, AreInOrder-prop}
+use Rattle.sj_object.specs.inside.Chains.{AreIndexed, AreIndexed-prop}
 use Rattle.sj_object.specs.declared.table.Table.{Table}
 use Rattle.sj_object.specs.declared.entry.Entry.{Entry}
 use Rattle.sj_object.specs.declared.key.ObjectKey.{Ghosts}
@@ -70,8 +70,8 @@ module _ (K : RattleType) (G : Ghosts K.Denot) (R S : RattleType) (h : R.Denot �
 
   pub the_places : Alike R S h → Alike (C.the_row K R G) (C.the_row K S G) ((the_former this K.Denot).map R.Denot S.Denot h)
   the_places a = view_places (fields K.Denot) (the_former this K.Denot) (λ X. view K.Denot X G) (λ X Y k u. refl) (λ X u. refl) R.Denot S.Denot h (C.the_row K R G).coded (C.the_row K S G).coded
-      (invariant K.Denot R.Denot G) (invariant K.Denot S.Denot G) (λ u. AreInOrder-prop _ _) (λ u. AreInOrder-prop _ _)
-      (λ u. subst (AreInOrder u.table) (sym (keys_kept G.text h u.entries.items))) (λ u. subst (AreInOrder u.table) (keys_kept G.text h u.entries.items))
+      (invariant K.Denot R.Denot G) (invariant K.Denot S.Denot G) (λ u. AreIndexed-prop _ _) (λ u. AreIndexed-prop _ _)
+      (λ u. subst (AreIndexed u.table) (sym (keys_kept G.text h u.entries.items))) (λ u. subst (AreIndexed u.table) (keys_kept G.text h u.entries.items))
       (over (I.the_row K R G)) (over (I.the_row K S G))
       (struct_places (I.the_type K R G) (I.the_type K S G) (vec.mapped (on_value h), (λ t. t, tt)) _ (λ d. refl) refl (laid _ _ _ (vec.the_places heap.the_row ghosts (E.the_row K R) (E.the_row K S) (on_value h) (entry_places a)), (stays (as_row (option.the_field (boxed.the_row T.the_row heap.the_row ghosts))), tt)))
 

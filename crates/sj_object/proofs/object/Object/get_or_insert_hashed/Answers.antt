@@ -2,7 +2,7 @@ use Rattle.std.proofs.Common.{◌≡◌, ◌++◌, ◌∷◌, [], length, map, s
 use Rattle.sj_object.specs.declared.entry.Entry.{Entry}
 use Rattle.sj_object.specs.Pairs.{keys_of}
 use Rattle.sj_object.specs.inside.Places.{set_place}
-use Rattle.sj_object.specs.inside.Chains.{AreInOrder, IsTableOf}
+use Rattle.sj_object.specs.inside.Chains.{AreIndexed, IsTableOf}
 use Rattle.sj_object.proofs.Distinct.{distinct_push, keys_of-push}
 use Rattle.sj_object.proofs.Places.{some_same, place_within, value_at_no_place, value_at-values, values_last, has_text_no_place, put_key_no_place, put_key-set_place, set_place-last}
 use Rattle.sj_object.proofs.object.Object.get_or_insert_hashed.Goals as goal
@@ -34,7 +34,7 @@ invariant_of-self-in_default g c =
     let pushed = c.push_reserved.ensures.items ∙ ap (λ l. l ++ new ∷ []) c.reserve.ensures.items in
     let kept = c.deref.ensures.value ∙ c.reserve.ensures.items in
     let has = subst (λ k. IsTableOf c.push_key.new.table (keys_of text items ++ k ∷ [])) c.as_text-in_default.ensures (subst (λ l. IsTableOf c.push_key.new.table (keys_of text l ++ c.as_text-in_default.result.now ∷ [])) kept c.push_key.ensures) in
-    subst (λ l. AreInOrder c.push_key.new.table (keys_of text l)) (sym pushed) (distinct, subst (IsTableOf c.push_key.new.table) (sym (keys_of-push text items new)) has)
+    subst (λ l. AreIndexed c.push_key.new.table (keys_of text l)) (sym pushed) (distinct, subst (IsTableOf c.push_key.new.table) (sym (keys_of-push text items new)) has)
 
 pub returns-in_default : goal.returns-in_default
 returns-in_default g c =

@@ -1,4 +1,4 @@
-use Rattle.std.proofs.Common.{length, sym, subst, ap, arith}
+use Rattle.std.proofs.Common.{length, insert, sym, subst, ap, ◌∙◌, arith}
 use Rattle.sj_object.specs.declared.entry.Entry.{Entry}
 use Rattle.sj_object.specs.Pairs.{keys_of, AreDistinct}
 use Rattle.sj_object.specs.inside.Chains.{IsTableOf}
@@ -16,11 +16,12 @@ invariant_of-self-2 g c =
     let absent = no_place text (text c.args.key) items (rw (← c.self.view_is) at c.requires.new_key) in
     let distinct = distinct_insert text items at new c.self.invariant.0 (has_text_no_place text (text c.args.key) items absent) in
     let inserted = c.in_default-insert.ensures.items in
-    (subst AreDistinct (sym (ap (keys_of text) inserted)) distinct, subst (λ l. IsTableOf c.refill.new.table (keys_of text l)) c.deref.ensures.value c.refill.ensures)
+    let moved = ap (λ l. insert l at new) (sym c.reserve.ensures.items) ∙ sym inserted in
+    (subst (λ l. AreDistinct (keys_of text l)) moved distinct, subst (λ l. IsTableOf c.refill.new.table (keys_of text l)) c.deref.ensures.value c.refill.ensures)
 
 pub refill-requires : goal.refill-requires
 refill-requires g c =
     let text = g.K.ObjectKey.text in
-    let items = c.self.inside.entries.items in
+    let items = c.reserve.new.self.items in
     room_for_more c.make_room.new.table (keys_of text items) (length c.deref.result.now)
-    (omega (arith, ap length c.deref.ensures.value, c.in_default-insert.ensures.len, c.insert.new.self.ok.0, c.self.inside.entries.ok.0, length-keys_of text items)) c.in-Ok.ensures.ok
+    (omega (arith, ap length c.deref.ensures.value, c.in_default-insert.ensures.len, c.insert.new.self.ok.0, c.reserve.new.self.ok.0, length-keys_of text items)) c.in-Ok.ensures.ok

@@ -1,6 +1,6 @@
 use Rattle.std.proofs.Common.{Some, sym, ap, ◌∙◌, subst, set, arith, rules}
 use Rattle.sj_object.specs.Pairs.{keys_of}
-use Rattle.sj_object.specs.inside.Chains.{AreInOrder}
+use Rattle.sj_object.specs.inside.Chains.{AreIndexed}
 use Rattle.sj_object.proofs.Distinct.{keys_of-set}
 use Rattle.sj_object.proofs.Places.{place_within, value_at_place, value_at_no_place, put_key-set_place, set_place-set}
 use Rattle.sj_object.proofs.object.Object.insert_by.Goals as goal
@@ -30,7 +30,7 @@ invariant_of-self g c =
     let r = c.index_mut.result.now in
     let v = c.replace.new.dest in
     let kept = ap (λ e. keys_of text (set items c.in-Some.at (record { key = e.key; value = v }))) c.index_mut.ensures.value ∙ keys_of-set text r v items c.in-Some.at in
-    subst (AreInOrder c.self.inside.table) (sym kept) c.self.invariant
+    subst (AreIndexed c.self.inside.table) (sym kept) c.self.invariant
 
 pub returns-clause-ok : goal.returns-clause-ok
 returns-clause-ok g c =

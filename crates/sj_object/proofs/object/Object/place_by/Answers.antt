@@ -5,8 +5,8 @@ use Rattle.std.proofs.lemmas.Iterator.Search.{position_from_yields_List}
 use Rattle.sj_object.proofs.Places.{place_of-position}
 use Rattle.sj_object.proofs.object.Object.place_by.Goals as goal
 
-pub returns-in_default : goal.returns-in_default
-returns-in_default g c =
+pub returns-in-None : goal.returns-in-None
+returns-in-None g c =
     let key = c.args.key.now in
     rw (← c.self.view_is) (
     position_from_yields_List (λ e. bytes_eq (g.K.ObjectKey.text e.key) key) _ _ _ c.position.ensures.ran (YieldsList-from_slice c.self.inside.entries.items cc) (λ x b q k. search (rules, tests))

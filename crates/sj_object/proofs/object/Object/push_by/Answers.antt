@@ -1,7 +1,7 @@
 use Rattle.std.proofs.Common.{◌++◌, ◌∷◌, [], sym, subst, ap, ◌∙◌}
 use Rattle.sj_object.specs.declared.entry.Entry.{Entry}
 use Rattle.sj_object.specs.Pairs.{keys_of}
-use Rattle.sj_object.specs.inside.Chains.{AreInOrder, IsTableOf}
+use Rattle.sj_object.specs.inside.Chains.{AreIndexed, IsTableOf}
 use Rattle.sj_object.proofs.Distinct.{distinct_push, keys_of-push}
 use Rattle.sj_object.proofs.Places.{no_place, put_key_no_place, has_text_no_place}
 use Rattle.sj_object.proofs.object.Object.push_by.Goals as goal
@@ -16,7 +16,7 @@ invariant_of-self-2 g c =
     let pushed = c.push_reserved.ensures.items ∙ ap (λ l. l ++ new ∷ []) c.reserve.ensures.items in
     let kept = c.deref.ensures.value ∙ c.reserve.ensures.items in
     let has = subst (λ k. IsTableOf c.push_key.new.table (keys_of text items ++ k ∷ [])) c.as_text.ensures (subst (λ l. IsTableOf c.push_key.new.table (keys_of text l ++ c.as_text.result.now ∷ [])) kept c.push_key.ensures) in
-    subst (λ l. AreInOrder c.push_key.new.table (keys_of text l)) (sym pushed) (distinct, subst (IsTableOf c.push_key.new.table) (sym (keys_of-push text items new)) has)
+    subst (λ l. AreIndexed c.push_key.new.table (keys_of text l)) (sym pushed) (distinct, subst (IsTableOf c.push_key.new.table) (sym (keys_of-push text items new)) has)
 
 pub returns-clause-ok : goal.returns-clause-ok
 returns-clause-ok g c =

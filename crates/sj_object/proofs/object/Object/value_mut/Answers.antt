@@ -1,6 +1,6 @@
 use Rattle.std.proofs.Common.{Some, set, refl, sym, ap, subst, ◌∙◌}
 use Rattle.sj_object.specs.Pairs.{keys_of}
-use Rattle.sj_object.specs.inside.Chains.{AreInOrder}
+use Rattle.sj_object.specs.inside.Chains.{AreIndexed}
 use Rattle.sj_object.proofs.Distinct.{keys_of-set}
 use Rattle.sj_object.proofs.Places.{set_place-set, values_at}
 use Rattle.sj_object.proofs.object.Object.value_mut.Goals as goal
@@ -11,7 +11,7 @@ invariant_of-self-lent g c w =
     let items = c.self.inside.entries.items in
     let r = c.index_mut.result.now in
     let kept = ap (λ e. keys_of text (set items c.args.at (record { key = e.key; value = w }))) c.index_mut.ensures.value ∙ keys_of-set text r w items c.args.at in
-    subst (AreInOrder c.self.inside.table) (sym kept) c.self.invariant
+    subst (AreIndexed c.self.inside.table) (sym kept) c.self.invariant
 
 pub returns : goal.returns
 returns g c =
