@@ -89,7 +89,10 @@ class Lines:
     def many_members(self):
         count = self.choice([32, 33, 34, 40, 48, 49, 50, 300, 1025])
         keys = self.choice([count, count, count - 1, 30])
-        return ("{" + ",".join(f'"k{i % keys}":{i}' for i in range(count)) + "}").encode()
+        # Keys of these blocks have one hash.
+        blocks = lambda number: "".join(["Aa", "BB"][number >> place & 1] for place in range(11))
+        key = blocks if self.chance(0.3) else "k{}".format
+        return ("{" + ",".join(f'"{key(i % keys)}":{i}' for i in range(count)) + "}").encode()
 
     def long(self):
         """A line that comes in several pieces, or that nests up to a level too deep."""

@@ -251,12 +251,16 @@ fn forty_equal_hashes(rt: HostRuntime) -> Result<(), Fail> {
     }
     for number in 0..40u64 {
         let key = colliding_key(alloc, number)?;
-        let found = KnownKey::from(key.as_str()).map_lookup(&object);
-        expect_eq(&rt, found, Some(&number));
-        expect_eq(&rt, found, object.get(key.as_str()));
+        let known = KnownKey::from(key.as_str());
+        expect_eq(&rt, known.lookup(&object), Some(&number));
+        expect_eq(&rt, known.map_lookup(&object), object.get(key.as_str()));
     }
     let other = colliding_key(alloc, 40)?;
-    expect_eq(&rt, KnownKey::from(other.as_str()).map_lookup(&object), None);
+    expect_eq(
+        &rt,
+        KnownKey::from(other.as_str()).map_lookup(&object),
+        None,
+    );
     Ok(())
 }
 

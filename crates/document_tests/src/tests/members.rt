@@ -1,16 +1,18 @@
-//! Of `sj_owned`: an object of so many members that their keys are looked up in a set.
-use super::{expect_text, on_borrowed, owned_of};
+//! Of `sj_owned`: an object of so many members that their keys are looked up in a set while it is built.
+use super::{expect_eq, expect_text, on_borrowed, owned_of};
+use sj_reads::ValueGetScalar;
 use std::alloc::{AllocError, Global};
 use std::test::Fail;
 
-// An object without its last bracket.
-const FIRST: &str =
-    r#"{"a":0,"b":1,"c":2,"d":3,"e":4,"f":5,"g":6,"h":7,"i":8,"j":9,"k":10,"l":11,"m":12,"n":13,"o":14,"p":15,"q":16,"r":17"#;
-
-// The same, and behind it members with two of its keys, as often as is said.
-fn with_repeats(alloc: Global, times: usize) -> Result<String, AllocError> {
-    let mut text = String::from_str(alloc, FIRST)?;
-    text.push_str(&r#","r":18,"a":19"#.repeat(alloc, times)?)?;
+// An object of the members `k0` to `k1099`, and of two of them once more, if that is said.
+fn members(alloc: Global, repeats: &str) -> Result<String, AllocError> {
+    let mut text = String::from_str(alloc, "{")?;
+    for number in 0..1100u32 {
+        let member = format!(in alloc; r#""k{number}":{number},"#)?;
+        text.push_str(&member)?;
+    }
+    text.push_str(r#""z":[]"#)?;
+    text.push_str(repeats)?;
     text.push('}')?;
     Ok(text)
 }
@@ -18,9 +20,14 @@ fn with_repeats(alloc: Global, times: usize) -> Result<String, AllocError> {
 #[test]
 fn first_of_each_key(rt: HostRuntime) -> Result<(), Fail> {
     let alloc = rt.alloc();
-    let line = with_repeats(alloc, 600)?;
-    let kept = with_repeats(alloc, 0)?;
-    expect_text(&rt, alloc, &owned_of(alloc, &line)?, &kept)?;
+    let line = members(alloc, r#","k1099":-1,"k0":-1"#)?;
+    let kept = members(alloc, "")?;
+    let document = owned_of(alloc, &line)?;
+    expect_text(&rt, alloc, &document, &kept)?;
+    for number in [0, 700, 1099u32] {
+        let key = format!(in alloc; "k{number}")?;
+        expect_eq(&rt, document.get_u32(&key), Some(number));
+    }
     on_borrowed(alloc, &line, |value| {
         expect_text(&rt, alloc, value, &kept)?;
         Ok(())

@@ -6,6 +6,7 @@ use sj_owned::{
     to_owned_value_with_buffers,
 };
 use sj_parse::{Buffers, Deserializer};
+use sj_reads::ValueAsScalar;
 use sj_values::{BorrowDeserializer, BorrowedValue, to_borrowed_value_with_buffers};
 use std::alloc::Global;
 use std::borrow::CowStr;
@@ -141,6 +142,17 @@ fn expect_as_they_stand(rt: &impl Abort, value: &BorrowedValue<'_>) -> Result<()
     let Some(Value::Decimal(DecimalCow::Borrowed(_))) = value.get_idx(4) else {
         return Err(Fail::new("no borrowed literal"));
     };
+    Ok(())
+}
+
+// An integer that no carrier holds is a literal, and no integer read gives it.
+#[test]
+fn read_as_a_literal(rt: HostRuntime) -> Result<(), Fail> {
+    let value = owned_of(rt.alloc(), "18446744073709551616")?;
+    expect_eq(&rt, value.value_type(), ValueType::Decimal);
+    expect_eq(&rt, (value.as_i128(), value.as_u128()), (None, None));
+    let literal = value.as_decimal().ok_or("no literal")?;
+    expect_eq(&rt, literal.as_str(), "18446744073709551616");
     Ok(())
 }
 

@@ -17,6 +17,7 @@ time => {"error":"ExpectedTrue","index":0,"character":"t"}
 [] 1 => {"error":"InternalError","index":1,"character":"]"}
 [18446744073709551615,-9223372036854775808] => {"replies":[],"document":[18446744073709551615,-9223372036854775808]}
 [18446744073709551616] => {"replies":[],"document":[18446744073709551616]}
+[18446744073709551616x] => {"error":"InvalidNumber","index":1,"character":"1"}
 "a => {"error":"Syntax","index":0,"character":null}
 {"a":[1 => {"error":"Syntax","index":6,"character":"1"}
 [1, => {"error":"Syntax","index":2,"character":","}

@@ -209,6 +209,17 @@ fn forty_equal_hashes(rt: HostRuntime) -> Result<(), Fail> {
     check_reloads(&rt, alloc, &FORMS, script, &line, LIMIT, &record)
 }
 
+// The first of them is taken out, and comes back to its place.
+#[test]
+fn forty_equal_hashes_undone(rt: HostRuntime) -> Result<(), Fail> {
+    let alloc = rt.alloc();
+    let line = forty(alloc, 0)?;
+    let record = format!(in alloc; r#"{{"replies":[[0],true,[0],[39]],"document":{line}}}"#)?;
+    let script =
+        r#"[["remove",[],"AaAaAaAaAaAa"],["undo"],["get",["AaAaAaAaAaAa"]],["get",["BBAaAaBBBBBB"]]]"#;
+    check(&rt, alloc, &FORMS, script, &line, LIMIT, &record)
+}
+
 // All members a second time, with other values.
 #[test]
 fn forty_equal_hashes_twice(rt: HostRuntime) -> Result<(), Fail> {

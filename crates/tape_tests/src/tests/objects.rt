@@ -127,10 +127,14 @@ fn expect_at_the_end(
     expect_eq(rt, object.remove("k0"), Some(0));
     expect_eq(rt, (object.get("k32"), object.len()), (Some(&32), 32));
     expect_eq(rt, object.insert(String::from_str(alloc, "k0")?, 7)?, None);
+    let mut keys = String::new(alloc);
+    for key in object.keys() {
+        keys.push_str(key)?;
+    }
     expect_eq(
         rt,
-        (object.place("k1"), object.place("k0")),
-        (Some(0), Some(32)),
+        keys.as_str(),
+        "k1k2k3k4k5k6k7k8k9k10k11k12k13k14k15k16k17k18k19k20k21k22k23k24k25k26k27k28k29k30k31k32k0",
     );
     Ok(())
 }
@@ -169,6 +173,25 @@ fn places(rt: HostRuntime) -> Result<(), Fail> {
         expect_eq(&rt, object.remove(key), Some(value));
     }
     expect_eq(&rt, object.get("k0"), Some(&7));
+    Ok(())
+}
+
+// The 33rd pair goes before the others.
+#[test]
+fn table_made_by_insert_at(rt: HostRuntime) -> Result<(), Fail> {
+    let alloc = rt.alloc();
+    let mut object: Object<String, u64> = Object::new(alloc);
+    for i in 1..33u64 {
+        object.insert(format!(in alloc; "k{i}")?, i)?;
+    }
+    if object.contains_key("k0") {
+        return Err(Fail::new("k0 was not put"));
+    }
+    object.insert_at(0, String::from_str(alloc, "k0")?, 0)?;
+    for i in 0..33u64 {
+        let key = format!(in alloc; "k{i}")?;
+        expect_eq(&rt, object.get(&key), Some(&i));
+    }
     Ok(())
 }
 
