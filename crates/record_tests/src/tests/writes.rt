@@ -217,7 +217,8 @@ fn forty_equal_hashes_undone(rt: HostRuntime) -> Result<(), Fail> {
     let record = format!(in alloc; r#"{{"replies":[[0],true,[0],[39]],"document":{line}}}"#)?;
     let script =
         r#"[["remove",[],"AaAaAaAaAaAa"],["undo"],["get",["AaAaAaAaAaAa"]],["get",["BBAaAaBBBBBB"]]]"#;
-    check(&rt, alloc, &FORMS, script, &line, LIMIT, &record)
+    check(&rt, alloc, &FORMS, script, &line, LIMIT, &record)?;
+    Ok(())
 }
 
 // All members a second time, with other values.
