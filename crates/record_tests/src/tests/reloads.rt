@@ -1,5 +1,5 @@
 //! Reloads: worked rows, and what stays the same with a reload at each place of a script.
-use super::writes::{LIMITS, REPEATED_KEYS, WORKED, check};
+use super::writes::{LIMITS, REPEATED_KEYS, WORKED, by_form, check};
 use super::{FORMS, LIMIT, expect};
 use sj_owned::{OwnedValue, to_owned_value};
 use sj_records::Form;
@@ -193,11 +193,7 @@ fn reloads_change_nothing(rt: HostRuntime) -> Result<(), Fail> {
 #[test]
 fn reloads_keep_repeats(rt: HostRuntime) -> Result<(), Fail> {
     for (script, line, kept, lazy) in &REPEATED_KEYS {
-        for (form, record) in [
-            (Form::Owned, *kept),
-            (Form::Borrowed, *kept),
-            (Form::Lazy, *lazy),
-        ] {
+        for (form, record) in by_form(kept, lazy) {
             check_reloads(&rt, rt.alloc(), &[form], script, line, LIMIT, record)?;
         }
     }

@@ -123,14 +123,19 @@ pub(super) const REPEATED_KEYS: [(&str, &str, &str, &str); 6] = [
     ),
 ];
 
+// Each form, with the record that it gives of such a line.
+pub(super) fn by_form<'a>(kept: &'a str, lazy: &'a str) -> [(Form, &'a str); 3] {
+    [
+        (Form::Owned, kept),
+        (Form::Borrowed, kept),
+        (Form::Lazy, lazy),
+    ]
+}
+
 #[test]
 fn repeated_keys(rt: HostRuntime) -> Result<(), Fail> {
     for (script, line, kept, lazy) in &REPEATED_KEYS {
-        for (form, record) in [
-            (Form::Owned, *kept),
-            (Form::Borrowed, *kept),
-            (Form::Lazy, *lazy),
-        ] {
+        for (form, record) in by_form(kept, lazy) {
             check(&rt, rt.alloc(), &[form], script, line, LIMIT, record)?;
         }
     }
