@@ -6,7 +6,6 @@ use Rattle.std.proofs.lemmas.List.Edits.{insert_end}
 use Rattle.std.specs.Cmp.Lexicographic.{nat_list_eq_equiv}
 use Rattle.std.proofs.lemmas.Bool.{cases_Bool, or_parts, or_from}
 use Rattle.sj_object.specs.declared.entry.Entry.{Entry}
-use Rattle.sj_object.proofs.Places.{at_place}
 use Rattle.sj_object.specs.Pairs.{keys_of, place_of, drop_key, has_text, AreDistinct}
 
 has_text-insert : (ks : List (List ℕ)) (i : ℕ) (x k : List ℕ) → has_text ks x ≡ false → bytes_eq k x ≡ false → has_text (insert ks i k) x ≡ false
@@ -64,6 +63,3 @@ module _ {K V : Type 0} (text : K → List ℕ) where
   pub keys_of-push : (es : List (Entry K V)) (e : Entry K V) → keys_of text (es ++ e ∷ []) ≡ keys_of text es ++ text e.key ∷ []
   keys_of-push [] e = refl
   keys_of-push (x ∷ es) e = ap (λ l. text x.key ∷ l) (keys_of-push es e)
-
-  pub keys_of-drop_key : (k : List ℕ) (es : List (Entry K V)) (i : ℕ) → place_of text es k ≡ Some i → keys_of text (drop_key text es k) ≡ take i (keys_of text es) ++ drop (suc i) (keys_of text es)
-  keys_of-drop_key k = at_place text k (λ es i. keys_of text (drop_key text es k) ≡ take i (keys_of text es) ++ drop (suc i) (keys_of text es)) (λ e es t. rw t refl) (λ e es i f p. rw f (ap (λ l. text e.key ∷ l) p))

@@ -219,7 +219,7 @@ fn finish<'de, V: BuildValue<'de, K> + Drop, K: MakeKey<'de> + Drop>(
 }
 
 /// The most parts for which room is taken at first.
-const FIRST_PARTS: usize = 1 << 8;
+const FIRST_PARTS: usize = 18;
 
 /// Builds a value of a view of a tape. Of members with equal keys the first one is kept. Room for the items of an array
 /// and for the members of an object is taken once.

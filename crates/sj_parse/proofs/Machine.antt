@@ -83,9 +83,6 @@ module _ (limit : ℕ) (ws : List Waiting) (last : ℕ) (t : Token) (ts : List T
       with_rest-mapped (item x) (more (length ts) place rest) close
       ∙ ap (λ (r : Reading Items). with_rest r (λ ys last rest. close (item x ys) last rest)) (tree_of_more_items-enough (levels_inside limit ws) (length ts) (length rest) place rest (omega arith) (omega arith))))
 
-  pub item_end-other : (xs : Items) → (t.byte == 0x5d) ≡ false → (t.byte == 0x2c) ≡ false → reading limit (item_end xs ws) last (t ∷ ts) ≡ Err (stop ExpectedArrayComma t.place)
-  item_end-other xs no_close no_comma = rw (no_close, no_comma) refl
-
   -- behind `[`
 
   pub first_item-close : (t.byte == 0x5d) ≡ true → reading limit (first_item ws) last (t ∷ ts) ≡ resume limit ws (list no_items) t.place ts
@@ -163,9 +160,6 @@ module _ (limit : ℕ) (ws : List Waiting) (last : ℕ) (t : Token) (ts : List T
   pub first_member-bad_key : (s : Stop) → (t.byte == 0x7d) ≡ false → (t.byte == 0x22) ≡ true → scalar_stop t ≡ Some s → reading limit (first_member ws) last (t ∷ ts) ≡ Err s
   first_member-bad_key s no_close is bad = first_member-member no_close ∙ member-expected ExpectedObjectContent no_members is ∙ member-bad_key no_members (length (t ∷ ts)) s bad
 
-  pub first_member-other : (t.byte == 0x7d) ≡ false → (t.byte == 0x22) ≡ false → reading limit (first_member ws) last (t ∷ ts) ≡ Err (stop ExpectedObjectContent t.place)
-  first_member-other no_close no_quote = first_member-member no_close ∙ rw no_quote refl
-
   -- behind a member
 
   pub member_end-close : (ms : Members) → (t.byte == 0x7d) ≡ true → reading limit (member_end ms ws) last (t ∷ ts) ≡ resume limit ws (object ms) t.place ts
@@ -184,9 +178,6 @@ module _ (limit : ℕ) (ws : List Waiting) (last : ℕ) (t : Token) (ts : List T
       with_rest-mapped (member m.0 m.1) (more (length ts) place rest) close
       ∙ ap (λ (r : Reading Members). with_rest r (λ ns last rest. close (member m.0 m.1 ns) last rest)) (tree_of_more_members-enough (levels_inside limit ws) (length ts) (length rest) place rest (omega arith) (omega arith))))
 
-  pub member_end-other : (ms : Members) → (t.byte == 0x7d) ≡ false → (t.byte == 0x2c) ≡ false → reading limit (member_end ms ws) last (t ∷ ts) ≡ Err (stop ExpectedMapComma t.place)
-  member_end-other ms no_close no_comma = rw (no_close, no_comma) refl
-
   -- behind a comma in an object
 
   key_next-member : (ms : Members) → reading limit (key_next ms ws) last (t ∷ ts) ≡ with_rest (tree_of_expected_member inner ExpectedObjectKey t ts) (members_with ms (length (t ∷ ts)))
@@ -201,16 +192,10 @@ module _ (limit : ℕ) (ws : List Waiting) (last : ℕ) (t : Token) (ts : List T
   pub key_next-bad_key : (ms : Members) (s : Stop) → (t.byte == 0x22) ≡ true → scalar_stop t ≡ Some s → reading limit (key_next ms ws) last (t ∷ ts) ≡ Err s
   key_next-bad_key ms s is bad = key_next-member ms ∙ member-expected ExpectedObjectKey ms is ∙ member-bad_key ms (length (t ∷ ts)) s bad
 
-  pub key_next-other : (ms : Members) → (t.byte == 0x22) ≡ false → reading limit (key_next ms ws) last (t ∷ ts) ≡ Err (stop ExpectedObjectKey t.place)
-  key_next-other ms no_quote = rw no_quote refl
-
   -- behind a key
 
   pub colon_next-colon : (ms : Members) (k : List ℕ) → (t.byte == 0x3a) ≡ true → reading limit (colon_next ms k ws) last (t ∷ ts) ≡ reading limit (value_next (object_of ms k ∷ ws)) t.place ts
   colon_next-colon ms k is = rw is refl
-
-  pub colon_next-other : (ms : Members) (k : List ℕ) → (t.byte == 0x3a) ≡ false → reading limit (colon_next ms k ws) last (t ∷ ts) ≡ Err (stop ExpectedObjectColon t.place)
-  colon_next-other ms k no_colon = rw no_colon refl
 
 -- ---- a value
 

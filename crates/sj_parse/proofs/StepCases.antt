@@ -17,7 +17,7 @@ use Rattle.sj_parse.specs.Nodes.{makes_node}
 use Rattle.sj_parse.specs.inside.Trees.{Reading, decoded}
 use Rattle.sj_parse.specs.inside.Machine.{Waiting, array_of, object_of, Config, value_next, first_item, item_end, first_member, key_next, colon_next, member_end, ended, after_value, waiting_entries, waiting_stack, array_entries, object_entries, array_frame, object_frame, config_state, config_entries, config_stack, IsAt, reading}
 use Rattle.sj_parse.specs.inside.Step.{reading_from, value_from, role_of, unexpected_kind, Steps, Closes}
-use Rattle.sj_parse.proofs.Machine.{resume-after_value, item_end-close, item_end-comma, item_end-other, first_item-close, first_item-value, first_member-close, first_member-key, first_member-bad_key, first_member-other, member_end-close, member_end-comma, member_end-other, key_next-key, key_next-bad_key, key_next-other, colon_next-colon, colon_next-other}
+use Rattle.sj_parse.proofs.Machine.{resume-after_value, item_end-close, item_end-comma, first_item-close, first_item-value, first_member-close, first_member-key, first_member-bad_key, member_end-close, member_end-comma, key_next-key, key_next-bad_key, colon_next-colon}
 use Rattle.sj_parse.proofs.ValueSteps.{the_token, same_test}
 
 -- ---- what a role says of the byte
@@ -39,11 +39,6 @@ second : (v w : Bool) (x y : Role) → (if v then x else (if w then y else role.
 second true w x y is a b = absurd (a is)
 second false true x y is a b = (refl, refl)
 second false false x y is a b = absurd (b is)
-
-neither : (v w : Bool) (x y : Role) → (if v then x else (if w then y else role.Unexpected)) ≡ role.Unexpected → x ≢ role.Unexpected → y ≢ role.Unexpected → (v ≡ false) × (w ≡ false)
-neither true w x y is a b = absurd (a is)
-neither false true x y is a b = absurd (b is)
-neither false false x y is a b = (refl, refl)
 
 not_first : (v : Bool) (x y : Role) → (if v then x else y) ≡ y → x ≢ y → v ≡ false
 not_first true x y is other = absurd (other is)
@@ -93,10 +88,6 @@ no_value_three : (v w : Bool) (x : Role) → (if v then role.Close else (if w th
 no_value_three true w x is a = absurd cc
 no_value_three false true x is a = a is
 no_value_three false false x is a = absurd cc
-
-no_unexpected : (v : Bool) → (if v then role.Close else role.Value) ≡ role.Unexpected → ⊥
-no_unexpected true is = absurd cc
-no_unexpected false is = absurd cc
 
 -- ---- the innermost container is closed
 
@@ -237,26 +228,6 @@ module _ (limit place skip : ℕ) (before bs : List ℕ) (within : skip < length
       go (colon_next ms k ws) r e f = absurd (no_value (first == 0x3a) (role.Separator Value) r (λ x. absurd cc))
       go (member_end ms ws) r e f = absurd (no_value_three (first == 0x7d) (first == 0x2c) (role.Separator Key) r (λ x. absurd cc))
       go (ended u) r e f = absurd cc
-
-  pub step_unexpected : s ≢ End → role_of s first ≡ role.Unexpected → (last : ℕ) (ts : List Token) → reading_from limit c token last ts ≡ Err (stop (unexpected_kind s) place)
-  step_unexpected goes_on is last ts =
-      go c (at_state c s es st at first role.Unexpected is) (λ e. goes_on (at.state_is ∙ e)) ∙ ap (λ (q : State). Err (stop (unexpected_kind q) place)) (sym at.state_is)
-    where
-      go : (now : Config) → role_of (config_state now) first ≡ role.Unexpected → config_state now ≢ End → reading_from limit now token last ts ≡ Err (stop (unexpected_kind (config_state now)) place)
-      go (value_next ws) r n = absurd cc
-      go (first_item ws) r n = absurd (no_unexpected (first == 0x5d) r)
-      go (item_end xs ws) r n =
-          let p = neither (first == 0x5d) (first == 0x2c) role.Close (role.Separator Value) r (λ x. absurd cc) (λ x. absurd cc) in
-          item_end-other limit ws last token ts xs (test 0x5d false p.0) (test 0x2c false p.1)
-      go (first_member ws) r n =
-          let p = neither (first == 0x7d) (first == 0x22) role.Close role.Key r (λ x. absurd cc) (λ x. absurd cc) in
-          first_member-other limit ws last token ts (test 0x7d false p.0) (test 0x22 false p.1)
-      go (key_next ms ws) r n = key_next-other limit ws last token ts ms (test 0x22 false (not_first (first == 0x22) role.Key role.Unexpected r (λ x. absurd cc)))
-      go (colon_next ms k ws) r n = colon_next-other limit ws last token ts ms k (test 0x3a false (not_first (first == 0x3a) (role.Separator Value) role.Unexpected r (λ x. absurd cc)))
-      go (member_end ms ws) r n =
-          let p = neither (first == 0x7d) (first == 0x2c) role.Close (role.Separator Key) r (λ x. absurd cc) (λ x. absurd cc) in
-          member_end-other limit ws last token ts ms (test 0x7d false p.0) (test 0x2c false p.1)
-      go (ended u) r n = absurd (n refl)
 
 -- only a quote begins a key
 pub key_byte : (s : State) (b : ℕ) → role_of s b ≡ role.Key → b ≡ 0x22

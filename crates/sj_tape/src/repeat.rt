@@ -107,6 +107,7 @@ fn first_in_members<'i>(
 {
     let alloc = *keys.allocator();
     let start = keys.len();
+    keys.reserve(members.len())?;
     let mut listed = no_keys(alloc, members.len());
     let mut rest = members;
     while let Some((key, value, behind)) = rest.split_first() {
