@@ -61,10 +61,6 @@ module _ (text_visible : OneLine) where
   list_shown : (ts : Items) → AllShown ts → Shown (list ts)
   list_shown ts h = (omega arith, visible_append (items_text ts) (0x5d ∷ []) (items_shown ts h) (omega arith, tt))
 
-  answer_shown : (r : Result Tree Word) → ((t : Tree) → r ≡ Ok t → Shown t) → Shown (answer r)
-  answer_shown (Ok t) h = h t refl
-  answer_shown (Err word) h = quoted_visible word
-
   bound_shown : (r : Result Tree Word) (f : Tree → Result Tree Word) → ((part : Tree) → Shown (answer (f part))) → Shown (answer (r >>= f))
   bound_shown (Ok part) f h = h part
   bound_shown (Err word) f h = quoted_visible word
