@@ -16,7 +16,7 @@ use Rattle.sj_object.specs.Pairs.{keys_of, place_of, has_text, AreDistinct}
 use Rattle.sj_object.specs.declared.entry.Entry.{Entry}
 use Rattle.sj_object.specs.declared.table.Link.{Link}
 use Rattle.sj_object.specs.declared.table.Table.{Table}
-use Rattle.sj_object.specs.inside.Chains.{home, head_of, has_hash, next_of, reaches, stands, IsTable, IsTableOf, TableHasRoomFor, CanGrow, has_key, sought}
+use Rattle.sj_object.specs.inside.Chains.{home, head_of, has_hash, next_of, reaches, stands, IsTable, has_key, sought}
 use Rattle.sj_object.proofs.Places.{at_place, some_same, none_some}
 
 -- ---- one link more
@@ -249,16 +249,3 @@ module _ {X : Type 0} where
 
 pub other_hash : (a b : ℕ) (x : Bool) → a ≢ b → (eqb a b && x) ≡ false
 other_hash a b x other = elim (eqb_tells a b) [ inl t ↦ absurd (other t.1) | inr f ↦ rw f.0 refl ]
-
--- there is room for one pair more, or for fewer
-pub room_for_more : (t : Option (Box Table)) (ks : List (List ℕ)) (n : ℕ) → n ≡ length ks + 1 → CanGrow t ks → TableHasRoomFor n t
-room_for_more t ks n e can = subst (λ m. TableHasRoomFor m t) (sym e) can.0
-
-pub room_for_fewer : (t : Option (Box Table)) (ks : List (List ℕ)) (n : ℕ) → n ≤ length ks → IsTableOf t ks → TableHasRoomFor n t
-room_for_fewer None ks n e is = let few = leb-true (length ks) 32 is in omega (arith, e, few)
-room_for_fewer (Some t) ks n e is = (ltb-true 0 (length t.value.heads.items) is.0, omega (arith, is.1, e, t.value.links.ok.0, t.value.links.ok.1))
-
--- few pairs need no table
-pub none_needed : {K V : Type 0} (text : K → List ℕ) (es : List (Entry K V)) (t : Option (Box Table)) → ((b : Box Table) → t ≡ Some b → ⊥) → TableHasRoomFor (length es) t → IsTableOf t (keys_of text es)
-none_needed text es None other room = le-leb (length (keys_of text es)) 32 (omega (arith, length-keys_of text es, room))
-none_needed text es (Some t) other room = absurd (other t refl)

@@ -2,3 +2,4 @@
 pub mod Places
 pub mod Comparing
 pub mod Chains
+pub mod Stored

@@ -15,7 +15,7 @@ impl<K: ObjectKey, V: PartialEq> PartialEq for Object<K, V> {
         if self.len() != other.len() {
             return false;
         }
-        for entry in &self.entries {
+        for entry in self.entries() {
             match other.get(entry.key.as_text()) {
                 Some(value) => {
                     if entry.value != *value {

@@ -7,7 +7,7 @@ ghost use Rattle.sj_object.specs.Copies.{copied_pairs, pair_members};
 use crate::entry::Entry;
 use crate::key::ObjectKey;
 use crate::object::Object;
-use crate::table::table_of;
+use crate::pairs::Pairs;
 use sj_base::TryCopy;
 use std::alloc::AllocError;
 use std::borrow::CowStr;
@@ -34,14 +34,15 @@ impl<K: CopyKey + Drop, V: TryCopy + Drop> TryCopy for Object<K, V> {
     ghost tree = { λ pairs. object (pair_members K.tree V.tree pairs) };
 
     fn try_clone(&self) -> Result<Object<K, V>, AllocError> {
-        let alloc = *self.entries.allocator();
-        let mut entries = Vec::with_capacity(alloc, self.entries.len())?;
-        for entry in &self.entries {
+        let alloc = *self.entries().allocator();
+        let mut entries = Vec::with_capacity(alloc, self.len())?;
+        for entry in self.entries() {
             let key = entry.key.try_clone()?;
             let value = entry.value.try_clone()?;
             entries.push_reserved(Entry { key, value });
         }
-        let table = table_of(alloc, &entries)?;
-        Ok(Object { entries, table })
+        Ok(Object {
+            pairs: Pairs::of(entries)?,
+        })
     }
 }

@@ -11,7 +11,6 @@ ghost use Rattle.sj_object.specs.Pairs.{value_at, put_key};
 use crate::entry::{Entry, Refused};
 use crate::key::ObjectKey;
 use crate::object::Object;
-use crate::table::{make_room, push_key};
 
 impl<K: ObjectKey, V> Object<K, V> {
     ghost use Rattle.sj_object.specs.Lends.{lends_value, lends_put};
@@ -42,6 +41,7 @@ impl<K: ObjectKey, V> Object<K, V> {
     pub fn insert_hashed(&mut self, hash: u64, key: K, value: V) -> Result<Option<V>, Refused<K, V>>
     where
         K: Drop,
+        V: Drop,
         requires { hash ≡ text_hash (K.text key) }
         ensures ok { OnOk result (self.new ≡ put_key K.text self.old key value) }
         ensures replaced { IfOk result (λ old. old ≡ value_at K.text self.old (K.text key)) }
@@ -68,6 +68,7 @@ impl<K: ObjectKey, V> Object<K, V> {
     ) -> Result<&mut V, K>
     where
         K: Drop,
+        V: Drop,
         requires hash { hash ≡ text_hash (K.text key) }
         requires callable { ForNone (value_at K.text self.old (K.text key)) (F.pre with) }
         ensures* writes_back { sem 𝓛 (lends_put K.row V.row K.ObjectKey self.entry key result) }
@@ -77,16 +78,11 @@ impl<K: ObjectKey, V> Object<K, V> {
         ensures handed_back { IfErr result (λ refused. refused ≡ key) }
     {
         let Some(at) = self.place_by(Some(hash), key.as_text()) else {
-            let alloc = *self.entries.allocator();
-            let at = self.entries.len();
-            if self.entries.reserve(1).is_err() {
+            let at = self.len();
+            if self.pairs.make_room().is_err() {
                 return Err(key);
             }
-            let Ok(()) = make_room(alloc, &mut self.table, &self.entries) else {
-                return Err(key);
-            };
-            push_key(&mut self.table, &self.entries, Some(hash), key.as_text());
-            self.entries.push_reserved(Entry { key, value: with() });
+            self.pairs.push(Some(hash), Entry { key, value: with() });
             return Ok(self.value_mut(at));
         };
         Ok(self.value_mut(at))

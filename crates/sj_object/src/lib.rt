@@ -14,6 +14,7 @@ mod iter;
 mod key;
 mod members;
 mod object;
+mod pairs;
 mod table;
 
 pub use copy::CopyKey;

@@ -1,11 +1,10 @@
 //! An object taken apart.
 ghost use Rattle.std.specs.Prelude.{◌≡◌};
-ghost use Rattle.sj_object.specs.Members.{AreMembers};
+ghost use Rattle.sj_object.specs.Members.{member_pairs, AreMembers};
 
-use crate::entry::Entry;
 use crate::key::ObjectKey;
 use crate::object::Object;
-use crate::table::Table;
+use crate::pairs::Pairs;
 
 /// The pairs of an object, taken out of it by [`Object::into_members`].
 ///
@@ -13,9 +12,7 @@ use crate::table::Table;
 /// own type.
 #[derive(Drop)]
 pub struct Members<K, V> {
-    /// The pairs in order. No two have the same key.
-    pub entries: Vec<Entry<K, V>>,
-    pub(crate) table: Option<Box<Table>>,
+    pub(crate) pairs: Pairs<K, V>,
 }
 
 impl<K: ObjectKey, V> Object<K, V> {
@@ -25,18 +22,18 @@ impl<K: ObjectKey, V> Object<K, V> {
     /// [`Object::insert`].
     pub fn from_members(members: Members<K, V>) -> Self
         requires { AreMembers K.text members }
-        ensures { result ≡ members.entries.items }
+        ensures { result ≡ member_pairs members }
     {
-        let Members { entries, table } = members;
-        Object { entries, table }
+        Object {
+            pairs: members.pairs,
+        }
     }
 
     /// Takes the members out. Takes no memory.
     pub fn into_members(self) -> Members<K, V>
-        ensures entries { result.entries.items ≡ self }
+        ensures pairs { member_pairs result ≡ self }
         ensures members { AreMembers K.text result }
     {
-        let Object { entries, table } = self;
-        Members { entries, table }
+        Members { pairs: self.pairs }
     }
 }

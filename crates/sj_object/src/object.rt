@@ -9,7 +9,7 @@ use crate::entry::{Entry, Refused};
 use crate::hash::hash_key;
 use crate::iter::{IntoIter, Iter, Keys, Values};
 use crate::key::ObjectKey;
-use crate::table::{Table, hash_of, make_room, push_key, refill};
+use crate::pairs::Pairs;
 use std::alloc::{AllocError, Global};
 use std::fmt::{self, Debug};
 use std::marker::Model;
@@ -22,21 +22,20 @@ use std::mem;
 /// list. Keys that share a hash are told apart by their texts, one after the other.
 #[derive(Drop)]
 pub struct Object<K: ObjectKey, V> {
-    pub(crate) entries: Vec<Entry<K, V>>,
-    pub(crate) table: Option<Box<Table>>,
+    pub(crate) pairs: Pairs<K, V>,
 }
 
 impl<K: ObjectKey, V> Model for Object<K, V> {
     ghost use Rattle.std.specs.Prelude.{List};
     ghost use Rattle.sj_object.specs.declared.entry.Entry.{Entry};
     ghost use Rattle.sj_object.specs.Pairs.{keys_of};
-    ghost use Rattle.sj_object.specs.inside.Chains.{AreIndexed};
+    ghost use Rattle.sj_object.specs.inside.Stored.{stored, AreIndexed};
 
     ghost Value = { List (Entry K V) };
 
-    ghost view = { λ o. o.entries.items };
+    ghost view = { λ o. (stored o.pairs).items };
 
-    ghost invariant = { λ o. AreIndexed o.table (keys_of K.text o.entries.items) };
+    ghost invariant = { λ o. AreIndexed K.text o.pairs };
 }
 
 impl<K: ObjectKey, V> Object<K, V> {
@@ -48,8 +47,7 @@ impl<K: ObjectKey, V> Object<K, V> {
         ensures { result ≡ [] }
     {
         Object {
-            entries: Vec::new(alloc),
-            table: None,
+            pairs: Pairs::Listed(Vec::new(alloc)),
         }
     }
 
@@ -64,8 +62,7 @@ impl<K: ObjectKey, V> Object<K, V> {
     {
         let entries = Vec::with_capacity(alloc, capacity)?;
         Ok(Object {
-            entries,
-            table: None,
+            pairs: Pairs::Listed(entries),
         })
     }
 
@@ -79,7 +76,7 @@ impl<K: ObjectKey, V> Object<K, V> {
         ensures empty { IfOk result (λ object. object ≡ []) }
         ensures distinct { AreDistinct (keys_of K.text self.now) }
     {
-        Object::with_capacity(*self.entries.allocator(), self.entries.len())
+        Object::with_capacity(*self.entries().allocator(), self.len())
     }
 
     /// Returns the number of pairs.
@@ -87,14 +84,14 @@ impl<K: ObjectKey, V> Object<K, V> {
         ensures len { result ≡ length self.now }
         ensures distinct { AreDistinct (keys_of K.text self.now) }
     {
-        self.entries.len()
+        self.pairs.entries().len()
     }
 
     /// Returns `true` if the object has no pairs.
     pub fn is_empty(&self) -> bool
         ensures { IsTrue result ↔ (self.now ≡ []) }
     {
-        self.entries.is_empty()
+        self.entries().is_empty()
     }
 
     /// Returns the place of the pair with this key, counted from 0, or `None` if there is none.
@@ -109,13 +106,7 @@ impl<K: ObjectKey, V> Object<K, V> {
         requires { IfSome hash (λ known. known ≡ text_hash key.now) }
         ensures { result ≡ place_of K.text self.now key.now }
     {
-        match &self.table {
-            Some(table) => table.find(hash_of(hash, key), key, &self.entries),
-            None => self
-                .entries
-                .iter()
-                .position(|entry| entry.key.as_text() == key),
-        }
+        self.pairs.place(hash, key)
     }
 
     /// Returns the value of this key, or `None` if there is none.
@@ -131,7 +122,7 @@ impl<K: ObjectKey, V> Object<K, V> {
         ensures { option_copied result ≡ value_at K.text self.now key.now }
     {
         let at = self.place_by(hash, key)?;
-        Some(&self.entries[at].value)
+        Some(&self.entries()[at].value)
     }
 
     /// Returns the value of this key for writing, or `None` if there is none.
@@ -160,7 +151,10 @@ impl<K: ObjectKey, V> Object<K, V> {
         ensures* writes_back { sem 𝓛 (lends_place K.row V.row K.ObjectKey self.entry at result) }
         ensures value { slice_get (map (λ e. e.value) self.old) at ≡ Some result.now }
     {
-        &mut self.entries[at].value
+        match &mut self.pairs {
+            Pairs::Listed(entries) => &mut entries[at].value,
+            Pairs::Hashed(pairs) => &mut pairs.entries[at].value,
+        }
     }
 
     /// Returns `true` if the object has this key.
@@ -180,6 +174,7 @@ impl<K: ObjectKey, V> Object<K, V> {
     pub fn insert(&mut self, key: K, value: V) -> Result<Option<V>, Refused<K, V>>
     where
         K: Drop,
+        V: Drop,
         ensures ok { OnOk result (self.new ≡ put_key K.text self.old key value) }
         ensures replaced { IfOk result (λ old. old ≡ value_at K.text self.old (K.text key)) }
         ensures succeeds { IsSome (value_at K.text self.old (K.text key)) → IsOk result }
@@ -194,9 +189,9 @@ impl<K: ObjectKey, V> Object<K, V> {
     fn hash_for_table(&self, key: &str) -> Option<u64>
         ensures { IfSome result (λ hash. hash ≡ text_hash key.now) }
     {
-        match self.table {
-            Some(_) => Some(hash_key(key)),
-            None => None,
+        match self.pairs {
+            Pairs::Hashed(_) => Some(hash_key(key)),
+            Pairs::Listed(_) => None,
         }
     }
 
@@ -209,6 +204,7 @@ impl<K: ObjectKey, V> Object<K, V> {
     ) -> Result<Option<V>, Refused<K, V>>
     where
         K: Drop,
+        V: Drop,
         requires { IfSome hash (λ known. known ≡ text_hash (K.text key)) }
         ensures ok { OnOk result (self.new ≡ put_key K.text self.old key value) }
         ensures replaced { IfOk result (λ old. old ≡ value_at K.text self.old (K.text key)) }
@@ -220,7 +216,7 @@ impl<K: ObjectKey, V> Object<K, V> {
             self.push_by(hash, key, value)?;
             return Ok(None);
         };
-        Ok(Some(mem::replace(&mut self.entries[at].value, value)))
+        Ok(Some(mem::replace(self.value_mut(at), value)))
     }
 
     /// Puts a pair last. The object must not have its key, which [`Object::contains_key`] tells; the key isn't looked for.
@@ -229,6 +225,9 @@ impl<K: ObjectKey, V> Object<K, V> {
     ///
     /// The key and the value come back if there is no memory for a new pair. The object is unchanged.
     pub fn push_new(&mut self, key: K, value: V) -> Result<(), Refused<K, V>>
+    where
+        K: Drop,
+        V: Drop,
         requires { value_at K.text self.old (K.text key) ≡ None }
         ensures ok { OnOk result (self.new ≡ put_key K.text self.old key value) }
         ensures err { OnErr result (self.new ≡ self.old) }
@@ -239,21 +238,19 @@ impl<K: ObjectKey, V> Object<K, V> {
 
     // As `push_new`. `hash` is the key's hash, if it is known.
     fn push_by(&mut self, hash: Option<u64>, key: K, value: V) -> Result<(), Refused<K, V>>
+    where
+        K: Drop,
+        V: Drop,
         requires hash { IfSome hash (λ known. known ≡ text_hash (K.text key)) }
         requires new_key { value_at K.text self.old (K.text key) ≡ None }
         ensures ok { OnOk result (self.new ≡ put_key K.text self.old key value) }
         ensures err { OnErr result (self.new ≡ self.old) }
         ensures handed_back { IfErr result (λ pair. (pair.key ≡ key) × (pair.value ≡ value)) }
     {
-        let alloc = *self.entries.allocator();
-        if self.entries.reserve(1).is_err() {
+        if self.pairs.make_room().is_err() {
             return Err(Refused { key, value });
         }
-        let Ok(()) = make_room(alloc, &mut self.table, &self.entries) else {
-            return Err(Refused { key, value });
-        };
-        push_key(&mut self.table, &self.entries, hash, key.as_text());
-        self.entries.push_reserved(Entry { key, value });
+        self.pairs.push(hash, Entry { key, value });
         Ok(())
     }
 
@@ -265,24 +262,19 @@ impl<K: ObjectKey, V> Object<K, V> {
     ///
     /// The key and the value come back if there is no memory for a new pair. The object is unchanged.
     pub fn insert_at(&mut self, place: usize, key: K, value: V) -> Result<(), Refused<K, V>>
+    where
+        K: Drop,
+        V: Drop,
         requires within { place ≤ length self.old }
         requires new_key { value_at K.text self.old (K.text key) ≡ None }
         ensures ok { OnOk result (self.new ≡ put_at self.old place key value) }
         ensures err { OnErr result (self.new ≡ self.old) }
         ensures handed_back { IfErr result (λ pair. (pair.key ≡ key) × (pair.value ≡ value)) }
     {
-        let alloc = *self.entries.allocator();
-        if self.entries.reserve(1).is_err() {
+        if self.pairs.make_room().is_err() {
             return Err(Refused { key, value });
         }
-        let Ok(()) = make_room(alloc, &mut self.table, &self.entries) else {
-            return Err(Refused { key, value });
-        };
-        if let Err(refused) = self.entries.insert(place, Entry { key, value }) {
-            let Entry { key, value } = refused.value;
-            return Err(Refused { key, value });
-        }
-        refill(&mut self.table, &self.entries);
+        self.pairs.insert(place, Entry { key, value });
         Ok(())
     }
 
@@ -294,8 +286,7 @@ impl<K: ObjectKey, V> Object<K, V> {
         ensures rest { self.new ≡ drop_key K.text self.old key.now }
     {
         let at = self.place(key)?;
-        let Entry { key: _key, value } = self.entries.remove(at);
-        refill(&mut self.table, &self.entries);
+        let Entry { key: _key, value } = self.pairs.remove(at);
         Some(value)
     }
 
@@ -303,7 +294,14 @@ impl<K: ObjectKey, V> Object<K, V> {
     pub fn iter(&self) -> Iter<'_, K, V>
         ensures { entries_left result ≡ self.now }
     {
-        Iter::new(&self.entries)
+        Iter::new(self.entries())
+    }
+
+    // The pairs.
+    pub(crate) fn entries(&self) -> &Vec<Entry<K, V>>
+        ensures { result.now.items ≡ self.now }
+    {
+        self.pairs.entries()
     }
 
     /// Returns an iterator over the keys in insertion order.
@@ -357,10 +355,6 @@ impl<K: ObjectKey + Drop, V: Drop> IntoIterator for Object<K, V> {
     ghost into_iter_gives = { λ object it. owned_left it ≡ object };
 
     fn into_iter(self) -> IntoIter<K, V> {
-        let Object {
-            entries,
-            table: _table,
-        } = self;
-        IntoIter::new(entries)
+        IntoIter::new(self.pairs.into_entries())
     }
 }

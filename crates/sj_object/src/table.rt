@@ -3,11 +3,11 @@
 //! The hash of a key says in which chain its pair stands. A chain begins at its newest pair, and each link leads to the pair that
 //! came before it. Where a pair has the hash that is looked for, the texts of the keys decide. A new pair goes to the head of its
 //! chain, which takes one step however many keys share its hash.
-ghost use Rattle.std.specs.Prelude.{◌≡◌, ℕ, suc, ◌+◌, ◌<◌, ◌≤◌, List, [], ◌∷◌, ◌++◌, length, set, true, Some, None, IfSome, IfOk, OnOk, OnErr};
+ghost use Rattle.std.specs.Prelude.{◌≡◌, ℕ, suc, ◌+◌, ◌<◌, ◌≤◌, List, [], ◌∷◌, ◌++◌, length, set, true, Some, None, IfSome, IfOk};
 ghost use Rattle.std.specs.Vec.{vec_capacity};
 ghost use Rattle.sj_object.specs.Hash.{text_hash};
 ghost use Rattle.sj_object.specs.Pairs.{keys_of, place_of, AreDistinct};
-ghost use Rattle.sj_object.specs.inside.Chains.{home, head_of, has_key, sought, IsTable, IsTableOf, HasRoomFor, TableHasRoomFor, CanGrow};
+ghost use Rattle.sj_object.specs.inside.Chains.{home, head_of, has_key, sought, IsTable, HasRoomFor};
 
 use crate::entry::Entry;
 use crate::hash::hash_key;
@@ -69,7 +69,7 @@ fn seek<K: ObjectKey, V>(
 
 impl Table {
     // Returns a table without pairs that has room for this many.
-    fn with_room(alloc: Global, pairs: usize) -> Result<Table, AllocError>
+    pub(crate) fn with_room(alloc: Global, pairs: usize) -> Result<Table, AllocError>
         requires { 0 < pairs }
         ensures { IfOk result (HasRoomFor pairs) }
     {
@@ -80,21 +80,21 @@ impl Table {
     }
 
     // Returns the table of these pairs, with room for as many as the vector has room for.
-    fn of<K: ObjectKey, V>(
+    pub(crate) fn of<K: ObjectKey, V>(
         alloc: Global,
         entries: &Vec<Entry<K, V>>,
-    ) -> Result<Box<Table>, AllocError>
+    ) -> Result<Table, AllocError>
         requires { 0 < vec_capacity entries.now }
-        ensures table { IfOk result (λ table. IsTable table.value (keys_of K.text entries.now.items)) }
-        ensures room { IfOk result (λ table. HasRoomFor (vec_capacity entries.now) table.value) }
+        ensures table { IfOk result (λ table. IsTable table (keys_of K.text entries.now.items)) }
+        ensures room { IfOk result (HasRoomFor (vec_capacity entries.now)) }
     {
         let mut made = Table::with_room(alloc, entries.capacity())?;
         made.fill(entries);
-        Ok(Box::new(alloc, made)?)
+        Ok(made)
     }
 
     // Makes the table anew, of these pairs.
-    fn fill<K: ObjectKey, V>(&mut self, entries: &[Entry<K, V>])
+    pub(crate) fn fill<K: ObjectKey, V>(&mut self, entries: &[Entry<K, V>])
         requires { HasRoomFor (length entries.now) self.old }
         ensures table { IsTable self.new (keys_of K.text entries.now) }
         ensures room { vec_capacity self.new.links ≡ vec_capacity self.old.links }
@@ -107,7 +107,7 @@ impl Table {
     }
 
     // Puts the next pair into the table, which is the one at this place. Its key has this hash.
-    fn put(&mut self, hash: u64, place: usize)
+    pub(crate) fn put(&mut self, hash: u64, place: usize)
         requires room { HasRoomFor (length self.old.links.items + 1) self.old }
         requires place { place ≡ length self.old.links.items }
         ensures heads { self.new.heads.items ≡ set self.old.heads.items (home (length self.old.heads.items) hash) (Some (length self.old.links.items)) }
@@ -144,50 +144,11 @@ impl Table {
     }
 
     // Returns `true` if there is room for one more pair.
-    fn has_room(&self) -> bool
+    pub(crate) fn has_room(&self) -> bool
         ensures { result ≡ true → length self.now.links.items + 1 ≤ vec_capacity self.now.links }
     {
         self.links.len() < self.links.capacity()
     }
-}
-
-// The most pairs of an object that are looked up one by one.
-const LIST_MAX: usize = 32;
-
-// Makes room in the table for one more pair, as the vector has it. The pair behind the first `LIST_MAX` needs a table, which is
-// made here.
-pub(crate) fn make_room<K: ObjectKey, V>(
-    alloc: Global,
-    table: &mut Option<Box<Table>>,
-    entries: &Vec<Entry<K, V>>,
-) -> Result<(), AllocError>
-    requires table { IsTableOf table.old (keys_of K.text entries.now.items) }
-    requires room { length entries.now.items < vec_capacity entries.now }
-    ensures ok { OnOk result (CanGrow table.new (keys_of K.text entries.now.items)) }
-    ensures few { length entries.now.items < 32 → table.old ≡ None → table.new ≡ None }
-    ensures err { OnErr result (table.new ≡ table.old) }
-{
-    let has_room = match table {
-        Some(table) => table.has_room(),
-        None => entries.len() < LIST_MAX,
-    };
-    if !has_room {
-        *table = Some(Table::of(alloc, entries)?);
-    }
-    Ok(())
-}
-
-// Returns the table of these pairs, if they are more than `LIST_MAX`.
-pub(crate) fn table_of<K: ObjectKey, V>(
-    alloc: Global,
-    entries: &Vec<Entry<K, V>>,
-) -> Result<Option<Box<Table>>, AllocError>
-    ensures { IfOk result (λ table. IsTableOf table (keys_of K.text entries.now.items)) }
-{
-    if entries.len() <= LIST_MAX {
-        return Ok(None);
-    }
-    Ok(Some(Table::of(alloc, entries)?))
 }
 
 // The hash of the key, which may be known.
@@ -198,31 +159,5 @@ pub(crate) fn hash_of(known: Option<u64>, key: &str) -> u64
     match known {
         Some(hash) => hash,
         None => hash_key(key),
-    }
-}
-
-// Adds the key of the pair that goes last, behind these. `hash` is the key's hash, if it is known.
-pub(crate) fn push_key<K: ObjectKey, V>(
-    table: &mut Option<Box<Table>>,
-    entries: &[Entry<K, V>],
-    hash: Option<u64>,
-    key: &str,
-)
-    requires room { CanGrow table.old (keys_of K.text entries.now) }
-    requires hash { IfSome hash (λ known. known ≡ text_hash key.now) }
-    ensures { IsTableOf table.new (keys_of K.text entries.now ++ key.now ∷ []) }
-{
-    if let Some(table) = table {
-        table.put(hash_of(hash, key), entries.len());
-    }
-}
-
-// Makes the table anew after a pair was inserted or removed.
-pub(crate) fn refill<K: ObjectKey, V>(table: &mut Option<Box<Table>>, entries: &[Entry<K, V>])
-    requires { TableHasRoomFor (length entries.now) table.old }
-    ensures { IsTableOf table.new (keys_of K.text entries.now) }
-{
-    if let Some(table) = table {
-        table.fill(entries);
     }
 }

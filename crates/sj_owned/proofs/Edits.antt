@@ -1,5 +1,6 @@
 -- Edits of a document are edits of its tree.
-use Rattle.std.proofs.Common.{◌≡◌, ℕ, true, false, List, [], ◌∷◌, ◌++◌, refl, ap, sym, ◌∙◌, Vec, Some, option_map, if◌then◌else◌, Bool, bytes_eq}
+use Rattle.std.proofs.Common.{◌≡◌, ℕ, true, false, List, [], ◌∷◌, ◌++◌, Result, refl, ap, sym, subst, ◌∙◌, Vec, Some, option_map, if◌then◌else◌, Bool, bytes_eq}
+use Rattle.std.specs.Prelude.{OnOk, OnErr}
 use native.Mathlib.Numerals.{unary_clauses}
 use Rattle.std.specs.declared.alloc.Global.{Global}
 use Rattle.sj_base.specs.Containers.{items_in, members_in}
@@ -11,6 +12,14 @@ use Rattle.sj_owned.specs.Edits.{with_member, without_member, with_item, without
 use Rattle.sj_owned.specs.Views.{value_tree, items_view, members_view}
 use Rattle.sj_owned.specs.declared.value.Value.{Value, Array, Object}
 use Rattle.sj_owned.proofs.Layers.{tree-Array, tree-Object}
+
+-- what holds on an answer holds on an equal one
+module _ {T E : Type 0} (P : Type 0) (r s : Result T E) (e : r ≡ s) where
+  pub ok_of : OnOk s P → OnOk r P
+  ok_of h = subst (λ x. OnOk x P) (sym e) h
+
+  pub err_of : OnErr s P → OnErr r P
+  err_of h = subst (λ x. OnErr x P) (sym e) h
 
 module _ {K D : Type 0} (text : K → List ℕ) (literal : D → List ℕ) where
   put_first : (b : Bool) (e : Entry K (Value K D)) (u : Value K D) (es more : List (Entry K (Value K D))) (ms : Members) → members_view text literal more ≡ ms

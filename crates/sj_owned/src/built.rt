@@ -2,7 +2,7 @@
 ghost use Rattle.std.specs.Prelude.{◌≡◌, IfOk, map};
 ghost use Rattle.sj_base.specs.Tree.{Tree, decimal, string, list, object};
 ghost use Rattle.sj_base.specs.Scalar.{static_tree, decimal_text};
-ghost use Rattle.sj_object.specs.Members.{AreMembers};
+ghost use Rattle.sj_object.specs.Members.{member_pairs, AreMembers};
 ghost use Rattle.sj_owned.specs.Trees.{items_of, members_of, on_values};
 ghost use Rattle.sj_owned.specs.Views.{value_tree};
 
@@ -57,7 +57,7 @@ pub trait BuildValue<'de, K: ObjectKey>: Sized {
     /// `AllocError` if there is no memory for it. The members are dropped.
     fn from_object(alloc: Global, members: Members<K, Self>) -> Result<Self, AllocError>
         requires { AreMembers K.text members }
-        ensures { IfOk result (λ v. tree v ≡ object (members_of K.text (on_values tree members.entries.items))) };
+        ensures { IfOk result (λ v. tree v ≡ object (members_of K.text (on_values tree (member_pairs members)))) };
 }
 
 impl<'de, K: MakeKey<'de>, D: MakeLiteral<'de>> BuildValue<'de, K> for Value<K, D> {
@@ -92,7 +92,7 @@ impl<'de, K: MakeKey<'de>, D: MakeLiteral<'de>> BuildValue<'de, K> for Value<K, 
         members: Members<K, Value<K, D>>,
     ) -> Result<Value<K, D>, AllocError>
         requires { AreMembers K.text members }
-        ensures { IfOk result (λ v. value_tree K.text D.literal v ≡ object (members_of K.text (on_values (value_tree K.text D.literal) members.entries.items))) }
+        ensures { IfOk result (λ v. value_tree K.text D.literal v ≡ object (members_of K.text (on_values (value_tree K.text D.literal) (member_pairs members)))) }
     {
         Ok(Value::Object(Object::from_members(members)))
     }

@@ -2,11 +2,8 @@
 use Rattle.std.specs.Prelude.{◌≡◌, ℕ, zero, suc, ◌+◌, ◌<◌, ◌≤◌, ◌%◌, Bool, true, false, ◌&&◌, ◌||◌, eqb, ltb, nat_le, if◌then◌else◌, List, length, Option, Some, None, bytes_eq, get_or, slice_get}
 use mathlib.Core.Bool.{Bool-set}
 use native.Mathlib.Nat.{ℕ_set}
-use mathlib.Core.HLevel.{×_prop}
-use Rattle.std.specs.Global.{Box}
 use Rattle.std.specs.Vec.{vec_capacity}
 use Rattle.sj_object.specs.Hash.{text_hash}
-use Rattle.sj_object.specs.Pairs.{AreDistinct, AreDistinct-prop}
 use Rattle.sj_object.specs.declared.entry.Entry.{Entry}
 use Rattle.sj_object.specs.declared.table.Link.{Link}
 use Rattle.sj_object.specs.declared.table.Table.{Table}
@@ -46,34 +43,12 @@ IsTable t ks =
     × (length t.links.items ≡ length ks)
     × ((p : ℕ) (k : List ℕ) → slice_get ks p ≡ Some k → stands t.heads.items t.links.items (text_hash k) p ≡ true)
 
--- An object of more than 32 pairs has a table.
-abbrev pub IsTableOf : Option (Box Table) → List (List ℕ) → Type 0
-IsTableOf None ks = nat_le (length ks) 32 ≡ true
-IsTableOf (Some t) ks = IsTable t.value ks
-
--- the keys are distinct, and the table has them
-abbrev pub AreIndexed : Option (Box Table) → List (List ℕ) → Type 0
-AreIndexed t ks = AreDistinct ks × IsTableOf t ks
-
-IsTableOf-prop : (t : Option (Box Table)) (ks : List (List ℕ)) → IsProp (IsTableOf t ks)
-IsTableOf-prop None ks = Bool-set _ _
-IsTableOf-prop (Some t) ks = λ x y i. (Bool-set _ _ x.0 y.0 i, ℕ_set _ _ x.1 y.1 i, λ p k e. Bool-set _ _ (x.2 p k e) (y.2 p k e) i)
-
-pub AreIndexed-prop : (t : Option (Box Table)) (ks : List (List ℕ)) → IsProp (AreIndexed t ks)
-AreIndexed-prop t ks = ×_prop (AreDistinct-prop ks) (IsTableOf-prop t ks)
+pub IsTable-prop : (t : Table) (ks : List (List ℕ)) → IsProp (IsTable t ks)
+IsTable-prop t ks = λ x y i. (Bool-set _ _ x.0 y.0 i, ℕ_set _ _ x.1 y.1 i, λ p k e. Bool-set _ _ (x.2 p k e) (y.2 p k e) i)
 
 -- a table has a chain at least, and room for n links
 abbrev pub HasRoomFor : ℕ → Table → Type 0
 HasRoomFor n t = (0 < length t.heads.items) × (n ≤ vec_capacity t.links)
-
--- a table has room for n links; without one, n is at most 32
-abbrev pub TableHasRoomFor : ℕ → Option (Box Table) → Type 0
-TableHasRoomFor n None = n ≤ 32
-TableHasRoomFor n (Some t) = HasRoomFor n t.value
-
--- the table is that of these keys, and has room for one more
-abbrev pub CanGrow : Option (Box Table) → List (List ℕ) → Type 0
-CanGrow t ks = TableHasRoomFor (length ks + 1) t × IsTableOf t ks
 
 module _ {K V : Type 0} (text : K → List ℕ) where
   abbrev pair_has_key : Option (Entry K V) → List ℕ → Bool

@@ -1,7 +1,8 @@
 use Rattle.std.proofs.lemmas.Grind.{common_steps}
-use Rattle.std.proofs.Common.{◌≤◌, length, ap, ◌∙◌, arith}
+use Rattle.std.proofs.Common.{◌≤◌, length, sym, subst, ap, ◌∙◌, arith}
 use Rattle.std.proofs.lemmas.List.{take_all}
 use Rattle.sj_object.specs.Copies.{copied_pairs}
+use Rattle.sj_object.specs.Pairs.{keys_of, AreDistinct}
 use Rattle.sj_object.proofs.Copying.{distinct_copy}
 use Rattle.sj_object.proofs.copy.ObjectTryCopy.try_clone.Goals as goal
 
@@ -11,9 +12,10 @@ invariant_of-result g c =
     let value = g.V.TryCopy.copied in
     let es = c.args.self.now in
     let i = c.loop-entry.entry-index in
-    let past : length es ≤ i = omega (arith, c.loop-entry-test.false, ap length (c.deref-entry-items.ensures.value ∙ c.self.view_is)) in
+    let past : length es ≤ i = omega (arith, c.loop-entry-test.false, ap length (c.deref-entry-items.ensures.value ∙ c.entries-2.ensures)) in
     let all = c.loop-entry.invariant.0 ∙ ap (copied_pairs key value) (take_all i es past) in
-    (distinct_copy g.K.ObjectKey.text key value g.met.K.CopyKey.keeps_text es c.loop-entry.entries.items all (rw c.self.view_is at c.self.invariant.0), c.in_ok-table.ensures)
+    let distinct = distinct_copy g.K.ObjectKey.text key value g.met.K.CopyKey.keeps_text es c.loop-entry.entries.items all c.len.ensures.distinct in
+    (subst (λ l. AreDistinct (keys_of g.K.ObjectKey.text l)) (sym c.in_ok-of.ensures.pairs) distinct, c.in_ok-of.ensures.found)
 
 pub loop-entry-preserved : goal.loop-entry-preserved
 loop-entry-preserved c = grind (arith, common_steps)

@@ -1,4 +1,4 @@
-use Rattle.std.proofs.Common.{Some, sym, ap, ◌∙◌, arith}
+use Rattle.std.proofs.Common.{Some, get_or, length, sym, ap, ◌∙◌, arith}
 use Rattle.sj_object.proofs.Places.{place_within, value_at_place, value_at_no_place}
 use Rattle.sj_object.proofs.object.Object.value_by.Goals as goal
 
@@ -7,12 +7,10 @@ returns-in_err-at g c = rw c.from_residual.ensures (sym (value_at_no_place g.K.O
 
 pub index-requires : goal.index-requires
 index-requires g c =
-    let found = rw (← c.self.view_is) at (sym c.in_ok-at.ensures) in
-    omega (arith, place_within g.K.ObjectKey.text c.args.key.now c.self.inside.entries.items c.in_ok-at.at found, c.self.inside.entries.ok.0)
+    omega (arith, place_within g.K.ObjectKey.text c.args.key.now c.args.self.now c.in_ok-at.at (sym c.in_ok-at.ensures), ap length c.entries.ensures, c.entries.result.now.ok.0)
 
 pub returns : goal.returns
 returns g c =
-    let found = rw (← c.self.view_is) at (sym c.in_ok-at.ensures) in
-    rw (← c.self.view_is) (
-    ap (λ e. Some e.value) c.index.ensures
-    ∙ sym (value_at_place g.K.ObjectKey.text c.args.key.now c.index.result.now c.self.inside.entries.items c.in_ok-at.at found))
+    let is = c.index.ensures ∙ ap (λ l. get_or l c.in_ok-at.at c.index.result.now) c.entries.ensures in
+    ap (λ e. Some e.value) is
+    ∙ sym (value_at_place g.K.ObjectKey.text c.args.key.now c.index.result.now c.args.self.now c.in_ok-at.at (sym c.in_ok-at.ensures))
