@@ -1,12 +1,12 @@
 -- The keys stay distinct.
-use Rattle.std.proofs.Common.{◌≡◌, ℕ, zero, suc, false, List, [], ◌∷◌, ◌++◌, get_or, set, length, take, drop, Some, refl, ap, ◌∙◌, inl, inr}
+use Rattle.std.proofs.Common.{◌≡◌, ℕ, zero, suc, false, List, [], ◌∷◌, ◌++◌, get_or, set, length, refl, ap, ◌∙◌, inl, inr}
 use Rattle.std.specs.Prelude.{bytes_eq}
 use Rattle.std.specs.List.{insert}
 use Rattle.std.proofs.lemmas.List.Edits.{insert_end}
 use Rattle.std.specs.Cmp.Lexicographic.{nat_list_eq_equiv}
 use Rattle.std.proofs.lemmas.Bool.{cases_Bool, or_parts, or_from}
 use Rattle.sj_object.specs.declared.entry.Entry.{Entry}
-use Rattle.sj_object.specs.Pairs.{keys_of, place_of, drop_key, has_text, AreDistinct}
+use Rattle.sj_object.specs.Pairs.{keys_of, drop_key, has_text, AreDistinct}
 
 has_text-insert : (ks : List (List ℕ)) (i : ℕ) (x k : List ℕ) → has_text ks x ≡ false → bytes_eq k x ≡ false → has_text (insert ks i k) x ≡ false
 has_text-insert [] zero x k h n = or_from _ _ n refl

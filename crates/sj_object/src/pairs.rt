@@ -74,9 +74,7 @@ impl<K: ObjectKey, V> Pairs<K, V> {
         ensures { result ≡ place_of K.text (stored self.now).items key.now }
     {
         match self {
-            Pairs::Listed(entries) => entries
-                .iter()
-                .position(|entry| entry.key.as_text() == key),
+            Pairs::Listed(entries) => entries.iter().position(|entry| entry.key.as_text() == key),
             Pairs::Hashed(pairs) => pairs.table.find(hash_of(hash, key), key, &pairs.entries),
         }
     }

@@ -1,5 +1,5 @@
 -- A hash table. The pairs stand in chains: each chain has a head, and each pair has a link.
-use Rattle.std.specs.Prelude.{◌≡◌, ℕ, zero, suc, ◌+◌, ◌<◌, ◌≤◌, ◌%◌, Bool, true, false, ◌&&◌, ◌||◌, eqb, ltb, nat_le, if◌then◌else◌, List, length, Option, Some, None, bytes_eq, get_or, slice_get}
+use Rattle.std.specs.Prelude.{◌≡◌, ℕ, zero, suc, ◌<◌, ◌≤◌, ◌%◌, Bool, true, false, ◌&&◌, ◌||◌, eqb, ltb, if◌then◌else◌, List, length, Option, Some, None, bytes_eq, get_or, slice_get}
 use mathlib.Core.Bool.{Bool-set}
 use native.Mathlib.Nat.{ℕ_set}
 use Rattle.std.specs.Vec.{vec_capacity}

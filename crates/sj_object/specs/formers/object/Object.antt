@@ -1,17 +1,15 @@
 -- `Object` as a type that may hold the type that holds it, by its values.
 use Rattle.std.specs.Prelude.{ℕ, Bool, true, false, ◌&&◌, if◌then◌else◌, List, [], ◌∷◌, Option, Some, None, option_map, map, bytes_eq}
-use mathlib.Core.Path.{◌≡◌, refl, sym, ap, subst, ◌∙◌}
+use mathlib.Core.Path.{◌≡◌, refl, sym, ap, ◌∙◌}
 use mathlib.Core.Logic.{◌⊎◌, inl, inr}
 use mathlib.Core.Former.{Former, this, const, pair, or, list, via, children}
-use base.Stored.{code_map, gcons}
-use denote.RattleType.{RattleType}
-use denote.HoleLaws.{Alike}
-use denote.Hole.{as_row}
 use base.Fml.{ftrue}
-use base.Stored.{gnil}
+use base.Stored.{code_map, gcons, gnil}
+use denote.RattleType.{RattleType}
 use denote.Memory.{part_of}
 use denote.RawPtr.{Ptr}
 use denote.Sharing.{nothing}
+use denote.HoleLaws.{Alike}
 use denote.HolePlaces.{Recodes, struct_places, enum_places, eachs, laid, stays, one_value}
 use denote.Hole.Carrier.{listed}
 use denote.Hole.Fix.{over}
@@ -99,12 +97,15 @@ module _ {K X : Type 0} where
 abbrev fields : Type 0 → Former {0}
 fields K = via (or (vector K) (hashed K)) (λ X. Inside K X) (λ X a. split a.pairs) (λ X s. record { pairs = join s }) (λ X a i. record { pairs = join-split a.pairs i }) (λ X s. split-join s)
 
+abbrev with_value : {X Y : Type 0} → Box X → Y → Box Y
+with_value b y = record { ptr = b.ptr; alloc = b.alloc; value = y }
+
 module _ {K X Y : Type 0} (h : X → Y) where
   abbrev over_hashed : HashedPairs K X → HashedPairs K Y
   over_hashed p = record { entries = vec.mapped (on_value h) p.entries; table = p.table }
 
   abbrev over_box : Box (HashedPairs K X) → Box (HashedPairs K Y)
-  over_box b = record { ptr = b.ptr; alloc = b.alloc; value = over_hashed b.value }
+  over_box b = with_value b (over_hashed b.value)
 
   abbrev over_pairs : Pairs K X → Pairs K Y
   over_pairs (Listed entries) = Listed (vec.mapped (on_value h) entries)
@@ -113,10 +114,6 @@ module _ {K X Y : Type 0} (h : X → Y) where
   over_is : (p : Pairs K X) → ((fields K).map X Y h (record { pairs = p })).pairs ≡ over_pairs p
   over_is (Listed entries) = refl
   over_is (Hashed b) = refl
-
-  stored_over : (p : Pairs K X) → (stored (over_pairs p)).items ≡ map (on_value h) (stored p).items
-  stored_over (Listed entries) = refl
-  stored_over (Hashed b) = refl
 
   natural : (p : Pairs K X) → (stored ((fields K).map X Y h (record { pairs = p })).pairs).items ≡ map (on_value h) (stored p).items
   natural (Listed entries) = refl
@@ -134,6 +131,19 @@ held_same : (K X : Type 0) (p : Pairs K X) → held (the_former this K) X (store
 held_same K X (Listed entries) = refl
 held_same K X (Hashed b) = refl
 
+abbrev box_of : RattleType → RattleType
+box_of X = boxed.the_row X heap.the_row ghosts
+
+-- A box is laid out by the layout of its value, and owns and lends what the value does. So it goes along with it
+module _ (X Y : RattleType) (k : X.Denot → Y.Denot) (a : Alike X Y k) where
+  box_places : Alike (box_of X) (box_of Y) (λ b. with_value b (k b.value))
+  unfolding part_of
+  box_places = record {
+    mir_same = λ i. (box_of (one_value X (a.mir_same i) (λ _. ftrue) (λ _ _. nothing) gnil)).mir;
+    own_same = λ b i. (box_of (one_value X (a.mir_same i) (a.own_same b.value i) (a.shr_same b.value i) gnil)).own_val (with_value b tt);
+    shr_same = λ b i. (box_of (one_value X (a.mir_same i) (a.own_same b.value i) (a.shr_same b.value i) gnil)).shr_at (with_value b tt);
+  }
+
 module _ (K : RattleType) (G : Ghosts K.Denot) (R S : RattleType) (h : R.Denot → S.Denot) where
   entry_places : Alike R S h → Alike (E.the_row K R) (E.the_row K S) (on_value h)
   entry_places a = struct_places (E.the_type K R) (E.the_type K S) (λ k. k, (h, tt)) _ (λ d. refl) refl (stays K, (laid _ _ _ a, tt))
@@ -141,25 +151,8 @@ module _ (K : RattleType) (G : Ghosts K.Denot) (R S : RattleType) (h : R.Denot �
   vec_places : Alike R S h → Alike (vector_of.the_row (E.the_row K R) heap.the_row ghosts) (vector_of.the_row (E.the_row K S) heap.the_row ghosts) (vec.mapped (on_value h))
   vec_places a = vec.the_places heap.the_row ghosts (E.the_row K R) (E.the_row K S) (on_value h) (entry_places a)
 
-  vec_of : RattleType → RattleType
-  vec_of X = vector_of.the_row (E.the_row K X) heap.the_row ghosts
-
-  box_of : RattleType → RattleType
-  box_of X = boxed.the_row X heap.the_row ghosts
-
   hashed_places : Alike R S h → Alike (H.the_row K R) (H.the_row K S) (over_hashed h)
   hashed_places a = struct_places (H.the_type K R) (H.the_type K S) (vec.mapped (on_value h), (λ t. t, tt)) (over_hashed h) (λ d. refl) refl (laid _ _ _ (vec_places a), (stays T.the_row, tt))
-
-  abbrev with_value : {X Y : Type 0} → Box X → Y → Box Y
-  with_value b y = record { ptr = b.ptr; alloc = b.alloc; value = y }
-
-  box_places : (X Y : RattleType) (k : X.Denot → Y.Denot) → Alike X Y k → Alike (boxed.the_row X heap.the_row ghosts) (boxed.the_row Y heap.the_row ghosts) (λ b. record { ptr = b.ptr; alloc = b.alloc; value = k b.value })
-  unfolding part_of
-  box_places X Y k a = record {
-    mir_same = λ i. (boxed.the_row (one_value X (a.mir_same i) (λ _. ftrue) (λ _ _. nothing) gnil) heap.the_row ghosts).mir;
-    own_same = λ b i. (boxed.the_row (one_value X (a.mir_same i) (a.own_same b.value i) (a.shr_same b.value i) gnil) heap.the_row ghosts).own_val (with_value b tt);
-    shr_same = λ b i. (boxed.the_row (one_value X (a.mir_same i) (a.own_same b.value i) (a.shr_same b.value i) gnil) heap.the_row ghosts).shr_at (with_value b tt);
-  }
 
   variant : (p : Pairs K.Denot R.Denot)
       → (P.enum K S).as_values (over_pairs h p) ≡ eachs (P.enum K R).parts (P.enum K S).parts ((vec.mapped (on_value h), tt), ((over_box h, tt), tt)) ((P.enum K R).as_values p)
