@@ -213,6 +213,7 @@ fn refuses_arguments(rt: HostRuntime) {
         assert_eq!(rt; status, 2);
         assert!(rt; faults.starts_with(b"error: "));
         assert!(rt; faults.ends_with(b"\n"));
+        assert!(rt; output.taken.is_empty());
     }
     let texts: [(&[&str], &str); 5] = [
         (&["records"], NO_SCRIPT),
@@ -357,7 +358,7 @@ fn input_fails_in_mid_stream(rt: HostRuntime) -> Result<(), Fail> {
 #[test]
 fn output_fails(rt: HostRuntime) {
     let alloc = rt.alloc();
-    for room in 0..RECORD.len() + 1 {
+    for room in 0..=RECORD.len() {
         let mut output = Narrow::new(alloc, room, true);
         let want = (1, &RECORD.as_bytes()[..room], "records: write\n");
         expect(
@@ -407,11 +408,17 @@ fn reads_to_the_end(rt: HostRuntime) {
 }
 
 #[test]
-fn takes_forms_and_depths(rt: HostRuntime) {
+fn takes_forms_and_depths(rt: HostRuntime) -> Result<(), Fail> {
     let alloc = rt.alloc();
-    let records =
-        "{\"replies\":[[]],\"document\":[1]}\n{\"error\":\"Syntax\",\"index\":1,\"character\":\"[\"}\n";
-    for form in ["owned", "borrowed", "lazy"] {
+    let too_deep = "{\"error\":\"Syntax\",\"index\":1,\"character\":\"[\"}\n";
+    for (form, document) in [
+        ("owned", "{\"a\":1}"),
+        ("borrowed", "{\"a\":1}"),
+        ("lazy", "{\"a\":1,\"a\":2}"),
+    ] {
+        let records = format!(in alloc;
+            "{{\"replies\":[[]],\"document\":{document}}}\n{too_deep}"
+        )?;
         let words = ["records", "--form", form, "--depth", "1", "get.json"];
         let mut output = Narrow::new(alloc, usize::MAX, false);
         let want = (0, records.as_bytes(), "");
@@ -419,11 +426,12 @@ fn takes_forms_and_depths(rt: HostRuntime) {
             &rt,
             alloc,
             Given::new(&words),
-            b"[1]\n[[]]\n".as_slice(),
+            b"{\"a\":1,\"a\":2}\n[[]]\n".as_slice(),
             &mut output,
             want,
         );
     }
+    Ok(())
 }
 
 #[test]

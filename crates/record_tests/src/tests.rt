@@ -3,6 +3,7 @@ mod documents;
 mod faults;
 mod hostile;
 mod kept_buffers;
+mod long_lines;
 mod readers;
 mod reloads;
 mod repeats;

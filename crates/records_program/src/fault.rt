@@ -25,7 +25,7 @@ pub enum Fault {
 }
 
 impl Fault {
-    /// Returns the exit status.
+    /// Returns the exit status: 1 if memory, the input or the output failed, else 2.
     pub fn status(&self) -> u8
         ensures { result ≡ status_of self.now }
     {

@@ -58,8 +58,8 @@ fn load_fault(error: &io::Error) -> LoadFault
 ///
 /// # Errors
 ///
-/// `Memory` if an allocation failed, and `Unreadable` if a read failed, or none of `reads` reads gave the end. The bytes that were
-/// read until then stand in `bytes`.
+/// `Memory` if an allocation failed, and `Unreadable` if a read failed, or none of `reads` reads gave the end. What was appended
+/// until then stays in `bytes`.
 pub fn read_rest<R: Read>(reader: &mut R, bytes: &mut Vec<u8>, reads: u64) -> Result<(), LoadFault>
     ensures bytes { OnOk result (IfSome (R.remaining reader.old) (λ xs. bytes.new.items ≡ bytes.old.items ++ xs)) }
     ensures end { OnOk result (IsAtEnd (R.remaining reader.new)) }

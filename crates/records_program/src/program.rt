@@ -21,7 +21,10 @@ use std::convert::AsStr;
 use std::io::{Read, Write};
 use std::marker::Brand;
 
-/// Does what the words ask for, and returns the exit status. The line of a fault is written to `faults`.
+/// Does what the words ask for: runs the script that `load` returns for the name of its file on the input, or writes the help.
+///
+/// Returns the exit status: 0 if that was done, 1 if memory, the input or the output failed, and 2 if the arguments or the
+/// script are refused. The line of a fault is written to `faults`.
 pub fn program<S, L, I, O, E>(
     alloc: Global,
     words: &[S],

@@ -318,7 +318,8 @@ fn own_found<K: ScriptText<D> + Drop, D: Literal + Drop>(
     }
 }
 
-/// Returns the place of a key in the object that the path selects, from 0, or the number of its members if it isn't there.
+/// Returns the place of a key in the object that the path selects, from 0, or the number of its members if it isn't there. Where
+/// the path selects no object, that is 0.
 fn place_at<K: ObjectKey, D: Literal>(document: &Value<K, D>, path: &[PathPart], key: &str) -> usize
     ensures { result ≡ place_at (value_tree K.text D.literal document.now) (path_view path.now) key.now }
 {

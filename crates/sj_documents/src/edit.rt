@@ -130,7 +130,7 @@ impl Write<'_> {
     }
 }
 
-/// Whether a path and levels behind it are together within the limit.
+/// Whether a value of `depth` levels stays within the limit in the place of what the path selects.
 pub(crate) fn is_within(path: &[PathPart], depth: usize, limit: usize) -> bool
     ensures { result ≡ nat_le (length path.now + depth) limit }
 {
@@ -140,7 +140,7 @@ pub(crate) fn is_within(path: &[PathPart], depth: usize, limit: usize) -> bool
     }
 }
 
-/// The same with one more level between the two.
+/// Whether it does so as a member or an item of what the path selects.
 pub(crate) fn is_within_below(path: &[PathPart], depth: usize, limit: usize) -> bool
     ensures { result ≡ nat_le (length path.now + 1 + depth) limit }
 {

@@ -1,8 +1,8 @@
-//! Words in the place of replies.
+//! Why a command is refused.
 ghost use Rattle.std.specs.Prelude.{◌≡◌};
 ghost use Rattle.sj_documents.specs.inside.Documents.{refusal_name};
 
-/// Why a command of a script has no other reply.
+/// Why a command is refused. Its reply is the name of the variant.
 #[derive(Clone, Copy, Debug)]
 pub(crate) enum Refusal {
     NoSuchPath,

@@ -110,7 +110,7 @@ impl<K: ObjectKey, D: Literal> KnownKeyTarget for Value<K, D> {
     }
 }
 
-impl<K: FromString + Drop, D: Literal> KnownKeyDocument for Value<K, D> {
+impl<K: FromString + Drop, D: Literal + Drop> KnownKeyDocument for Value<K, D> {
     type Members = Object<K, Value<K, D>>;
 
     ghost use Rattle.std.proofs.Common.{refl};

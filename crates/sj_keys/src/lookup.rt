@@ -94,7 +94,7 @@ impl KnownKey<'_> {
     /// # Errors
     ///
     /// `Memory` if there is no memory for a new member. The object is unchanged, and `with` isn't called.
-    pub fn map_lookup_or_insert_mut<'t, K: FromString + Drop, V, F: FnOnce() -> V + Drop>(
+    pub fn map_lookup_or_insert_mut<'t, K: FromString + Drop, V: Drop, F: FnOnce() -> V + Drop>(
         &self,
         alloc: Global,
         map: &'t mut Object<K, V>,

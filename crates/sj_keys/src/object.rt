@@ -26,7 +26,7 @@ impl<K: ObjectKey, V> KnownKeyTarget for Object<K, V> {
 }
 
 /// The key of a new member is a copy of the known key's text.
-impl<K: FromString + Drop, V> KnownKeyTargetMut for Object<K, V> {
+impl<K: FromString + Drop, V: Drop> KnownKeyTargetMut for Object<K, V> {
     ghost with_value = { set_value K.text };
 
     ghost puts = { Puts K.text };
@@ -81,7 +81,7 @@ impl<K: FromString + Drop, V> KnownKeyTargetMut for Object<K, V> {
 }
 
 // Puts a new key last, with the value that `with` returns, and returns that value for writing.
-fn insert_new<'t, K: FromString + Drop, V, F: FnOnce() -> V + Drop>(
+fn insert_new<'t, K: FromString + Drop, V: Drop, F: FnOnce() -> V + Drop>(
     object: &'t mut Object<K, V>,
     alloc: Global,
     key: &KnownKey<'_>,

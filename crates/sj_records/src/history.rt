@@ -16,8 +16,10 @@ use std::alloc::AllocError;
 /// Runs a command that is no reload on a document, and appends its reply.
 ///
 /// `history` has what takes the document's writes back, the newest last. A write that isn't refused adds its inverse. `Undo`
-/// takes the newest off and makes its change; it replies `false` if there is none, or if the change can't be made. The law
-/// `histories_stand` asks that no object of the document repeats a key, which `sj_owned::Value::depth` tells of a document.
+/// takes the newest off and makes its change; it replies `false` if there is none, or if the change can't be made. `depth` is the
+/// most levels that the document may nest after a write.
+///
+/// The law `histories_stand` says what `undo` brings back, for commands whose values repeat no key.
 ///
 /// # Errors
 ///

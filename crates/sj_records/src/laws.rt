@@ -34,7 +34,7 @@ pub fn kept_along()
     ensures trees { TreesAreKept }
 {}
 
-/// A second script without `undo` continues the first: on the text that the first comes to, if it has at most 4294967295 bytes,
+/// A second script without `undo` continues a first one that `Script::read` accepts: on the text that the first comes to, if it has at most 4294967295 bytes,
 /// it gives the replies and the document that it gives behind the first, under the same limit of levels, in the
 /// same form and by the same rule for repeated keys. This is said of a first line that isn't refused for a repeated key.
 pub fn scripts_continue()
@@ -60,7 +60,7 @@ pub fn inverse_undoes()
 {}
 
 /// A document and its history that stand for a state stand for the state after a command that [`apply`](crate::apply) runs, and
-/// the reply is that of the state.
+/// the reply is that of the state. The value that a command writes has to repeat no key, as none in a script does.
 pub fn histories_stand()
     ensures { HistoriesStand }
 {}

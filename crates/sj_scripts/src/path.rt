@@ -1,4 +1,5 @@
 //! Paths into a document.
+
 /// One part of a path.
 #[derive(Debug, Drop)]
 pub enum PathPart {
