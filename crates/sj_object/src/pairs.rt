@@ -5,7 +5,7 @@ ghost use Rattle.std.specs.Vec.{vec_capacity};
 ghost use Rattle.sj_object.specs.Hash.{text_hash};
 ghost use Rattle.sj_object.specs.Pairs.{keys_of, place_of, AreDistinct};
 ghost use Rattle.sj_object.specs.inside.Chains.{IsTable, HasRoomFor};
-ghost use Rattle.sj_object.specs.inside.Stored.{stored, IsFound, AreIndexed, HasRoom};
+ghost use Rattle.sj_object.specs.inside.Stored.{stored, IsFound, IsListed, AreIndexed, HasRoom};
 
 use crate::entry::Entry;
 use crate::key::ObjectKey;
@@ -58,6 +58,7 @@ impl<K: ObjectKey, V> Pairs<K, V> {
         V: Drop,
         ensures pairs { IfOk result (λ pairs. (stored pairs).items ≡ entries.items) }
         ensures found { IfOk result (IsFound K.text) }
+        ensures few { length entries.items ≤ 32 → IfOk result IsListed }
     {
         if entries.len() <= LIST_MAX {
             return Ok(Pairs::Listed(entries));
@@ -88,6 +89,7 @@ impl<K: ObjectKey, V> Pairs<K, V> {
         ensures pairs { (stored self.new).items ≡ (stored self.old).items }
         ensures found { IsFound K.text self.new }
         ensures room { OnOk result (HasRoom self.new) }
+        ensures few { length (stored self.old).items < 32 → IsListed self.old → IsListed self.new }
     {
         match self {
             Pairs::Listed(entries) => {

@@ -35,3 +35,8 @@ AreIndexed-prop text p = ×_prop (AreDistinct-prop _) (IsFound-prop text p)
 abbrev pub HasRoom : {K V : Type 0} → Pairs K V → Type 0
 HasRoom (Listed entries) = (length entries.items < vec_capacity entries) × (length entries.items < 32)
 HasRoom (Hashed pairs) = (length pairs.value.entries.items < vec_capacity pairs.value.entries) × HasRoomFor (length pairs.value.entries.items + 1) pairs.value.table
+
+-- there is no table
+abbrev pub IsListed : {K V : Type 0} → Pairs K V → Type 0
+IsListed (Listed entries) = Unit {0}
+IsListed (Hashed pairs) = ⊥
