@@ -11,6 +11,7 @@ mod rows;
 mod undo;
 mod writes;
 
+use hostile::nested;
 use readers::{Pieces, run_on};
 use sj_base::{Error, ErrorType};
 use sj_records::{CommandFault, Form, RunError, Script, ScriptFault};
@@ -233,6 +234,25 @@ fn expect_refused(
     let mut out = Vec::from_slice(alloc, b"is ")?;
     fault.put_fault(&mut out)?;
     assert_eq!(rt; &out[3..], text.as_bytes(), "{script}");
+    Ok(())
+}
+
+// A script nests at most 1024 levels. One that nests so many is read, and has no command.
+#[test]
+fn deep_scripts(rt: HostRuntime) -> Result<(), Fail> {
+    let too_deep = ScriptFault::Json(Error::at(ErrorType::Syntax, 1024, b'['));
+    for (levels, fault, text) in [
+        (
+            1024,
+            command_fault(CommandFault::NoName),
+            "command 0: NoName",
+        ),
+        (1025, too_deep, "Syntax at 1024"),
+    ] {
+        let script = nested(rt.alloc(), levels)?;
+        let script = std::str::from_utf8(&script).unwrap_or("no text");
+        expect_refused(&rt, rt.alloc(), script, fault, text)?;
+    }
     Ok(())
 }
 

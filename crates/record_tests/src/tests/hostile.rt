@@ -80,7 +80,7 @@ fn bytes_at_the_edges_of_blocks(rt: HostRuntime) -> Result<(), Fail> {
 }
 
 // So many arrays, each in the one before.
-fn nested(alloc: Global, levels: usize) -> Result<Vec<u8>, AllocError> {
+pub(super) fn nested(alloc: Global, levels: usize) -> Result<Vec<u8>, AllocError> {
     let mut line = Vec::new(alloc);
     line.resize(levels, b'[')?;
     for _ in 0..levels {

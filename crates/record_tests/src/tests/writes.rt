@@ -27,7 +27,12 @@ pub(super) fn check(
 }
 
 // A script, a line and its record, the same in each form.
-pub(super) const WORKED: [(&str, &str, &str); 9] = [
+pub(super) const WORKED: [(&str, &str, &str); 10] = [
+    (
+        r#"[["get",["a",18446744073709551615]],["get",[0]],["get",["a","0"]]]"#,
+        r#"{"a":[1]}"#,
+        r#"{"replies":[[],[],[]],"document":{"a":[1]}}"#,
+    ),
     (
         r#"[["get",["key"]],["insert",[],"new",42],["get",["new"]]]"#,
         r#"{"key": "value", "snot": 42}"#,
