@@ -1,7 +1,7 @@
 //! What no clause says: the texts of `clap`, that a run with enough memory ends well, which fault comes first, and that
 //! the output is flushed.
 mod cookbook;
-mod given;
+mod system;
 
 use records_program::program::program;
 use records_program::{LoadFault, read_rest};

@@ -12,6 +12,7 @@ For more information, try '--help'.
 ";
 
 // A system that gives one word, which is no UTF-8.
+#[derive(Drop)]
 struct NotUtf8;
 
 impl Env for NotUtf8 {
