@@ -54,6 +54,27 @@ fn expect(
     }
 }
 
+// The same in every form, for a stream of text under the usual limit.
+fn expect_in_forms(
+    rt: &impl Abort,
+    alloc: Global,
+    script: &str,
+    stream: &str,
+    step: usize,
+    records: &str,
+) {
+    expect(
+        rt,
+        alloc,
+        &FORMS,
+        script,
+        stream.as_bytes(),
+        LIMIT,
+        step,
+        records,
+    );
+}
+
 // The two parts of a row of a table: a line, and what is wanted for it.
 fn split_row(row: &str) -> Result<(&str, &str), Fail> {
     Ok(row.split_once(" => ").ok_or("a row without ` => `")?)
@@ -164,17 +185,7 @@ null"#,
         ),
     ] {
         for step in [1, 2, 65536] {
-            let stream = stream.as_bytes();
-            expect(
-                &rt,
-                rt.alloc(),
-                &FORMS,
-                script,
-                stream,
-                LIMIT,
-                step,
-                records,
-            );
+            expect_in_forms(&rt, rt.alloc(), script, stream, step, records);
         }
     }
 }
@@ -207,8 +218,7 @@ fn streams(rt: HostRuntime) {
         ),
     ] {
         for step in [1, 2, 65536] {
-            let stream = stream.as_bytes();
-            expect(&rt, rt.alloc(), &FORMS, "[]", stream, LIMIT, step, records);
+            expect_in_forms(&rt, rt.alloc(), "[]", stream, step, records);
         }
     }
 }

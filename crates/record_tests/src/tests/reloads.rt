@@ -1,6 +1,6 @@
 //! Reloads: worked rows, and what stays the same with a reload at each place of a script.
 use super::writes::{LIMITS, REPEATED_KEYS, WORKED, by_form, check};
-use super::{FORMS, LIMIT, expect};
+use super::{FORMS, LIMIT, expect_in_forms};
 use sj_owned::{OwnedValue, to_owned_value};
 use sj_records::Form;
 use std::alloc::{AllocError, Global};
@@ -218,16 +218,6 @@ fn reloads_of_lines(rt: HostRuntime) {
 {"replies":[true,"NotAnArray",true,true,"NotAnArray"],"document":{"a":1}}
 "#;
     for step in [1, 65536] {
-        let stream = stream.as_bytes();
-        expect(
-            &rt,
-            rt.alloc(),
-            &FORMS,
-            script,
-            stream,
-            LIMIT,
-            step,
-            records,
-        );
+        expect_in_forms(&rt, rt.alloc(), script, stream, step, records);
     }
 }

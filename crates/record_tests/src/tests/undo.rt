@@ -1,7 +1,7 @@
 //! Writes that are taken back: worked rows.
 use super::reloads::check_reloads;
 use super::writes::check;
-use super::{FORMS, LIMIT, expect};
+use super::{FORMS, LIMIT, expect_in_forms};
 use sj_records::Form;
 use std::test::Fail;
 
@@ -114,15 +114,5 @@ fn undone_by_line(rt: HostRuntime) {
 {"replies":[false,[]],"document":[0,1]}
 {"replies":[false,"NotAnArray"],"document":{}}
 "#;
-    let stream = stream.as_bytes();
-    expect(
-        &rt,
-        rt.alloc(),
-        &FORMS,
-        script,
-        stream,
-        LIMIT,
-        65536,
-        records,
-    );
+    expect_in_forms(&rt, rt.alloc(), script, stream, 65536, records);
 }
