@@ -174,8 +174,8 @@ impl Lending {
     }
 }
 
-// Each of these calls as the first one on a tape, whatever it finds. Where the upgrade lacks memory, as
-// `rt try --fail-alloc` has it, the tape stays.
+// Each of these calls as the first one on a tape, whatever it finds. If the upgrade lacks memory, as
+// `oracle/memory.sh` has it, the tape stays.
 #[test]
 fn first_writes(rt: HostRuntime) -> Result<(), Fail> {
     let alloc = rt.alloc();
@@ -320,6 +320,31 @@ fn write_members(
     put_document(alloc, value, BorrowedValue::object(alloc))?;
     assert!(rt; inserts_null(alloc, value)?);
     write_true(alloc, value)
+}
+
+// Whether the value becomes a document of its own. Where that lacks memory, it comes back as it was.
+fn becomes_document(rt: &impl Abort, alloc: Global, value: Value<'_, '_, '_>) -> Result<bool, Fail> {
+    match value.into_value(alloc) {
+        Ok(_) => Ok(true),
+        Err(value) => {
+            assert!(rt; value.is_tape());
+            expect_text(rt, alloc, &value, r#"{"a":1,"a":2}"#)?;
+            Ok(false)
+        }
+    }
+}
+
+// A tape that repeats a key becomes a document. If that lacks memory, as `oracle/memory.sh` has it, it comes back.
+#[test]
+fn value_of_a_tape(rt: HostRuntime) -> Result<(), Fail> {
+    let alloc = rt.alloc();
+    let mut text = bytes(alloc, r#"{"a":1,"a":2}"#)?;
+    let tape = to_tape(alloc, &mut text)?;
+    if becomes_document(&rt, alloc, lazy(&tape)?)? {
+        Ok(())
+    } else {
+        Err("no memory".into())
+    }
 }
 
 // The boolean of a member of the document that the value becomes, or nothing where there is no memory for it.

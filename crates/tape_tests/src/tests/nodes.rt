@@ -4,6 +4,7 @@ ghost use Rattle.std.specs.Prelude.{◌≡◌, ◌≢◌, [], IfOk};
 ghost use Rattle.sj_tape.specs.Views.{tape_nodes};
 
 use super::expect_eq;
+use super::tapes::{expect_answer, expect_items};
 use sj_base::{Counted, StaticNode, WriteFault};
 use sj_reads::ValueAsScalar;
 use sj_tape::{Node, Tape, Value};
@@ -83,6 +84,15 @@ fn preorders_of_one_document(rt: HostRuntime) -> Result<(), Fail> {
         assert_eq!(rt; found.as_slice(), text.as_bytes(), "{words}");
     }
     Ok(())
+}
+
+// The views of a tape that is made of nodes answer as those of one that was read.
+#[test]
+fn views_of_nodes(rt: HostRuntime) -> Result<(), Fail> {
+    let items = tape_of(rt.alloc(), "[3,5 1 [2,2 2 3 4")?;
+    expect_items(&rt, rt.alloc(), items.as_value())?;
+    let answer = tape_of(rt.alloc(), "{1,2 the_answer 42")?;
+    expect_answer(&rt, rt.alloc(), answer.as_value())
 }
 
 #[test]

@@ -195,7 +195,7 @@ fn table_made_by_insert_at(rt: HostRuntime) -> Result<(), Fail> {
     Ok(())
 }
 
-// A refused pair comes back, and the object is as it was, as `rt try --test --fail-alloc N` shows: the 33rd pair needs memory
+// A refused pair comes back, and the object is as it was, as `oracle/memory.sh` shows: the 33rd pair needs memory
 // for the table, and the one before it none.
 #[test]
 fn refused_pairs(rt: HostRuntime) -> Result<(), Fail> {
@@ -291,7 +291,7 @@ fn hashes(rt: HostRuntime) {
 }
 
 // Six blocks, one for each binary digit of `number`, highest first.
-fn colliding_key(alloc: Global, number: u64) -> Result<String, AllocError> {
+pub(super) fn colliding_key(alloc: Global, number: u64) -> Result<String, AllocError> {
     let mut key = String::new(alloc);
     for place in 0..6u32 {
         let digit = number >> (5 - place) & 1;

@@ -1,7 +1,8 @@
 //! Of `sj_scan`: worked positions, the two scans beside each other, and the display texts of faults.
 use super::expect_eq;
+use super::objects::colliding_key;
 use sj_scan::{BlockScan, PlainScan, ScanFault, Stage1};
-use std::alloc::Global;
+use std::alloc::{AllocError, Global};
 use std::process::Abort;
 use std::test::Fail;
 
@@ -46,7 +47,7 @@ fn positions(rt: HostRuntime) -> Result<(), Fail> {
 }
 
 // Texts with something to find near the end of a block, once they stand behind spaces, and the lines of the worked rows but
-// the object of forty members.
+// the object of forty members, which `forty_members` makes.
 const TEXTS: &str = r#"1
 ""
  "\\\"" 
@@ -114,11 +115,25 @@ fn scan_prefixes(rt: &impl Abort, alloc: Global, text: &[u8]) -> Result<(), Fail
     Ok(())
 }
 
+// An object of forty members, whose keys have one hash.
+fn forty_members(alloc: Global) -> Result<String, AllocError> {
+    let mut text = String::new(alloc);
+    for number in 0..40u64 {
+        let key = colliding_key(alloc, number)?;
+        let opening = if number == 0 { '{' } else { ',' };
+        let member = format!(in alloc; r#"{opening}"{key}":{number}"#)?;
+        text.push_str(&member)?;
+    }
+    text.push('}')?;
+    Ok(text)
+}
+
 #[test]
 fn scans_agree(rt: HostRuntime) -> Result<(), Fail> {
     for text in TEXTS.lines() {
         scan_prefixes(&rt, rt.alloc(), text.as_bytes())?;
     }
+    scan_prefixes(&rt, rt.alloc(), forty_members(rt.alloc())?.as_bytes())?;
     scan_prefixes(&rt, rt.alloc(), b"\"\xff")?;
     scan_prefixes(&rt, rt.alloc(), b"1\r")
 }

@@ -59,7 +59,11 @@ fn member_of_a_text(rt: HostRuntime) -> Result<(), Fail> {
 }
 
 // The items of [1,[2,3],4].
-fn expect_items(rt: &impl Abort, alloc: Global, value: Value<'_, '_>) -> Result<(), Fail> {
+pub(super) fn expect_items(
+    rt: &impl Abort,
+    alloc: Global,
+    value: Value<'_, '_>,
+) -> Result<(), Fail> {
     let array = value.as_array().ok_or("no array")?;
     for (index, text) in [(0, "1"), (1, "[2,3]"), (2, "4")] {
         let item = array.get(index).ok_or("no item")?;
@@ -77,7 +81,11 @@ fn items_of_a_tape(rt: HostRuntime) -> Result<(), Fail> {
 }
 
 // The members of {"the_answer": 42}.
-fn expect_answer(rt: &impl Abort, alloc: Global, value: Value<'_, '_>) -> Result<(), Fail> {
+pub(super) fn expect_answer(
+    rt: &impl Abort,
+    alloc: Global,
+    value: Value<'_, '_>,
+) -> Result<(), Fail> {
     let found = value.try_get("the_answer").ok().ok_or("no object")?;
     expect_text(rt, alloc, found.ok_or("no member")?, "42")?;
     let absent = value.try_get("does_not_exist").ok().ok_or("no object")?;
@@ -160,6 +168,32 @@ fn room_of_a_tape_is_used_again(rt: HostRuntime) -> Result<(), Fail> {
     assert!(rt; fill_tape(&mut third, &mut buffers, &mut tape).is_err());
     assert!(rt; fill_tape_padded(&mut fourth, 7, &mut buffers, &mut tape).is_err());
     expect_eq(&rt, tape.into_nodes().capacity(), 100);
+    Ok(())
+}
+
+// Two hundred bytes of brackets.
+fn nested(alloc: Global) -> Result<Vec<u8>, AllocError> {
+    let mut text = Vec::new(alloc);
+    text.resize(100, b'[')?;
+    text.resize(200, b']')?;
+    Ok(text)
+}
+
+// Reads a text a second time into the room of the first, which takes no memory. If the first reading lacks memory, as
+// `oracle/memory.sh` has it, the tape is empty, and the buffers can be used again.
+#[test]
+fn second_text_of_a_kind(rt: HostRuntime) -> Result<(), Fail> {
+    let (mut first, mut second) = (nested(rt.alloc())?, nested(rt.alloc())?);
+    let mut third = *b"[1]";
+    let mut buffers = Buffers::new(rt.alloc(), 0)?;
+    let mut tape = Tape::empty(rt.alloc());
+    if let Err(error) = fill_tape(&mut first, &mut buffers, &mut tape) {
+        expect_eq(&rt, error, Error::generic(ErrorType::OutOfMemory));
+        assert!(rt; tape.is_empty());
+        fill_tape(&mut third, &mut buffers, &mut tape)?;
+        return expect_document(&rt, rt.alloc(), &tape, "[1]");
+    }
+    assert!(rt; fill_tape(&mut second, &mut buffers, &mut tape).is_ok());
     Ok(())
 }
 
