@@ -190,7 +190,7 @@ impl Script {
         ensures refused { IfErr result (λ fault. IsRefusedAs fault bytes.entry.now) }
     {
         let document = to_owned_value(alloc, bytes)?;
-        let commands = read_commands(alloc, document)?;
+        let commands = read_commands(document)?;
         Ok(Script { commands })
     }
 

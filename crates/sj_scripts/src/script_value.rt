@@ -7,7 +7,7 @@ ghost use Rattle.sj_scripts.specs.inside.KeptValues.{is_kept};
 use sj_owned::OwnedValue;
 use std::alloc::AllocError;
 
-/// A value that a command writes, and how deep it nests, which is found out once. No object in it repeats a key.
+/// A value that a command writes, with its depth, which is counted once. No object in it repeats a key.
 #[derive(Debug, Drop)]
 pub struct ScriptValue {
     value: OwnedValue,
@@ -17,7 +17,7 @@ pub struct ScriptValue {
 }
 
 impl ScriptValue {
-    /// Creates one from a document.
+    /// Creates a value from a document.
     ///
     /// # Errors
     ///
