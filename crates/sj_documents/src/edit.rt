@@ -7,7 +7,7 @@ ghost use Rattle.sj_documents.specs.Inverses.{change_view};
 ghost use Rattle.sj_scripts.specs.Script.{path_view};
 ghost use Rattle.sj_documents.specs.Step.{write_at, insertion, pushing};
 ghost use Rattle.sj_scripts.specs.Values.{owned_tree};
-ghost use Rattle.sj_documents.specs.inside.Documents.{rewrite_of, change_of, back_of, is_taken, IsEdited, IsChanged};
+ghost use Rattle.sj_documents.specs.inside.Documents.{rewrite_of, change_of, back_of, is_taken, IsEdited, IsEditBy, IsChangeBy};
 ghost use Rattle.sj_object.specs.Pairs.{value_at};
 
 use crate::inverse::Change;
@@ -15,10 +15,14 @@ use crate::refusal::Refusal;
 use sj_base::{AccessError, DecimalBuf, DecimalCow, TryCopy};
 use sj_object::{Object, ObjectKey};
 use sj_owned::{FromString, Literal, OwnedValue, Value, from_borrowed};
+use sj_scripts::MemoryOr::Refused;
 use sj_scripts::{MemoryOr, PathPart};
 use std::alloc::{AllocError, Global};
 use std::borrow::CowStr;
 use std::mem;
+
+/// The value that an edit replaced or took out, if any, or why the edit is refused.
+type Edited<V> = Result<Option<V>, MemoryOr<Refusal>>;
 
 /// A type of texts for documents whose values are made from owned ones, and owned ones from them, with `D` as type of
 /// literals.
@@ -130,7 +134,7 @@ impl Write<'_> {
     }
 }
 
-/// Whether a value of `depth` levels stays within the limit in the place of what the path selects.
+/// Returns whether a value of `depth` levels stays within the limit in the place of what the path selects.
 pub(crate) fn is_within(path: &[PathPart], depth: usize, limit: usize) -> bool
     ensures { result ≡ nat_le (length path.now + depth) limit }
 {
@@ -140,7 +144,7 @@ pub(crate) fn is_within(path: &[PathPart], depth: usize, limit: usize) -> bool
     }
 }
 
-/// Whether it does so as a member or an item of what the path selects.
+/// Returns whether such a value stays within the limit as a member or an item of what the path selects.
 pub(crate) fn is_within_below(path: &[PathPart], depth: usize, limit: usize) -> bool
     ensures { result ≡ nat_le (length path.now + 1 + depth) limit }
 {
@@ -154,7 +158,7 @@ pub(crate) fn edit_at<K: ScriptText<D> + Drop, D: Literal + Drop>(
     document: &mut Value<K, D>,
     path: &[PathPart],
     edit: Edit<'_>,
-) -> Result<Option<Value<K, D>>, MemoryOr<Refusal>>
+) -> Edited<Value<K, D>>
     ensures { IsEdited (value_tree K.text D.literal) result (value_tree K.text D.literal document.old) (value_tree K.text D.literal document.new)
         (write_at (value_tree K.text D.literal document.old) (path_view path.now) (change_of edit.entry)) }
 {
@@ -164,20 +168,20 @@ pub(crate) fn edit_at<K: ScriptText<D> + Drop, D: Literal + Drop>(
     match part {
         PathPart::Key(name) => {
             let Some(members) = document.as_object_mut() else {
-                return Err(MemoryOr::Refused(Refusal::NoSuchPath));
+                return Err(Refused(Refusal::NoSuchPath));
             };
             match members.get_mut(name) {
                 Some(member) => edit_at(alloc, member, rest, edit),
-                None => Err(MemoryOr::Refused(Refusal::NoSuchPath)),
+                None => Err(Refused(Refusal::NoSuchPath)),
             }
         }
         PathPart::Item(place) => {
             let Some(items) = document.as_array_mut() else {
-                return Err(MemoryOr::Refused(Refusal::NoSuchPath));
+                return Err(Refused(Refusal::NoSuchPath));
             };
             match items.get_mut(*place as usize) {
                 Some(item) => edit_at(alloc, item, rest, edit),
-                None => Err(MemoryOr::Refused(Refusal::NoSuchPath)),
+                None => Err(Refused(Refusal::NoSuchPath)),
             }
         }
     }
@@ -187,9 +191,8 @@ fn edit_part<K: ScriptText<D> + Drop, D: Literal + Drop>(
     alloc: Global,
     part: &mut Value<K, D>,
     edit: Edit<'_>,
-) -> Result<Option<Value<K, D>>, MemoryOr<Refusal>>
-    ensures { IsEdited (value_tree K.text D.literal) result (value_tree K.text D.literal part.old) (value_tree K.text D.literal part.new)
-        (change_of edit.entry (value_tree K.text D.literal part.old)) }
+) -> Edited<Value<K, D>>
+    ensures { IsEditBy (value_tree K.text D.literal) result part.old part.new (change_of edit.entry) }
 {
     match edit {
         Edit::Write(write) => write_part(alloc, part, write),
@@ -197,7 +200,7 @@ fn edit_part<K: ScriptText<D> + Drop, D: Literal + Drop>(
             if change_part(alloc, part, change)? {
                 Ok(None)
             } else {
-                Err(MemoryOr::Refused(Refusal::NoSuchPath))
+                Err(Refused(Refusal::NoSuchPath))
             }
         }
     }
@@ -207,24 +210,23 @@ fn write_part<K: ScriptText<D> + Drop, D: Literal + Drop>(
     alloc: Global,
     part: &mut Value<K, D>,
     write: Write<'_>,
-) -> Result<Option<Value<K, D>>, MemoryOr<Refusal>>
-    ensures { IsEdited (value_tree K.text D.literal) result (value_tree K.text D.literal part.old) (value_tree K.text D.literal part.new)
-        (rewrite_of write.entry (value_tree K.text D.literal part.old)) }
+) -> Edited<Value<K, D>>
+    ensures { IsEditBy (value_tree K.text D.literal) result part.old part.new (rewrite_of write.entry) }
 {
     match write {
         Write::Insert { key, value, fits } => insert_member(alloc, part, key, value, fits),
         Write::Remove { key, .. } => match part.remove(key) {
             Ok(old) => Ok(old),
-            Err(_) => Err(MemoryOr::Refused(Refusal::NotAnObject)),
+            Err(_) => Err(Refused(Refusal::NotAnObject)),
         },
         Write::Push { value, fits } => push_last(alloc, part, value, fits),
         Write::Pop => match part.pop() {
             Ok(last) => Ok(last),
-            Err(_) => Err(MemoryOr::Refused(Refusal::NotAnArray)),
+            Err(_) => Err(Refused(Refusal::NotAnArray)),
         },
         Write::Set { value, fits } => {
             if !fits {
-                return Err(MemoryOr::Refused(Refusal::TooDeep));
+                return Err(Refused(Refusal::TooDeep));
             }
             let new = K::from_owned(alloc, value.try_clone()?)?;
             Ok(Some(mem::replace(part, new)))
@@ -238,15 +240,14 @@ fn insert_member<K: ScriptText<D> + Drop, D: Literal + Drop>(
     key: &str,
     value: &OwnedValue,
     fits: bool,
-) -> Result<Option<Value<K, D>>, MemoryOr<Refusal>>
-    ensures { IsEdited (value_tree K.text D.literal) result (value_tree K.text D.literal part.old) (value_tree K.text D.literal part.new)
-        (insertion fits key.now (owned_tree value.now) (value_tree K.text D.literal part.old)) }
+) -> Edited<Value<K, D>>
+    ensures { IsEditBy (value_tree K.text D.literal) result part.old part.new (insertion fits key.now (owned_tree value.now)) }
 {
     if !part.is_object() {
-        return Err(MemoryOr::Refused(Refusal::NotAnObject));
+        return Err(Refused(Refusal::NotAnObject));
     }
     if !fits {
-        return Err(MemoryOr::Refused(Refusal::TooDeep));
+        return Err(Refused(Refusal::TooDeep));
     }
     let name = K::from_string(String::from_str(alloc, key)?);
     let new = K::from_owned(alloc, value.try_clone()?)?;
@@ -261,15 +262,14 @@ fn push_last<K: ScriptText<D> + Drop, D: Literal + Drop>(
     part: &mut Value<K, D>,
     value: &OwnedValue,
     fits: bool,
-) -> Result<Option<Value<K, D>>, MemoryOr<Refusal>>
-    ensures { IsEdited (value_tree K.text D.literal) result (value_tree K.text D.literal part.old) (value_tree K.text D.literal part.new)
-        (pushing fits (owned_tree value.now) (value_tree K.text D.literal part.old)) }
+) -> Edited<Value<K, D>>
+    ensures { IsEditBy (value_tree K.text D.literal) result part.old part.new (pushing fits (owned_tree value.now)) }
 {
     if !part.is_array() {
-        return Err(MemoryOr::Refused(Refusal::NotAnArray));
+        return Err(Refused(Refusal::NotAnArray));
     }
     if !fits {
-        return Err(MemoryOr::Refused(Refusal::TooDeep));
+        return Err(Refused(Refusal::TooDeep));
     }
     match part.push(K::from_owned(alloc, value.try_clone()?)?) {
         Ok(()) => Ok(None),
@@ -283,7 +283,7 @@ fn change_part<K: ScriptText<D> + Drop, D: Literal + Drop>(
     part: &mut Value<K, D>,
     change: Change,
 ) -> Result<bool, AllocError>
-    ensures { IsChanged result (value_tree K.text D.literal part.old) (value_tree K.text D.literal part.new) (change_view change) }
+    ensures { IsChangeBy (value_tree K.text D.literal) result part.old part.new (change_view change) }
 {
     match change {
         Change::Nothing => Ok(true),
@@ -312,8 +312,7 @@ fn set_member<K: ScriptText<D> + Drop, D: Literal + Drop>(
     key: String,
     value: OwnedValue,
 ) -> Result<bool, AllocError>
-    ensures { IsChanged result (value_tree K.text D.literal part.old) (value_tree K.text D.literal part.new)
-        (set_member (string_bytes key) (owned_tree value)) }
+    ensures { IsChangeBy (value_tree K.text D.literal) result part.old part.new (set_member (string_bytes key) (owned_tree value)) }
 {
     let name: &str = &key;
     let Some(members) = part.as_object_mut() else {
@@ -339,8 +338,7 @@ fn put_member<K: ScriptText<D> + Drop, D: Literal + Drop>(
     key: String,
     value: OwnedValue,
 ) -> Result<bool, AllocError>
-    ensures { IsChanged result (value_tree K.text D.literal part.old) (value_tree K.text D.literal part.new)
-        (put_member place (string_bytes key) (owned_tree value)) }
+    ensures { IsChangeBy (value_tree K.text D.literal) result part.old part.new (put_member place (string_bytes key) (owned_tree value)) }
 {
     let Some(members) = part.as_object_mut() else {
         return Ok(false);
@@ -374,8 +372,7 @@ fn add_item<K: ScriptText<D> + Drop, D: Literal + Drop>(
     part: &mut Value<K, D>,
     value: OwnedValue,
 ) -> Result<bool, AllocError>
-    ensures { IsChanged result (value_tree K.text D.literal part.old) (value_tree K.text D.literal part.new)
-        (add_item (owned_tree value)) }
+    ensures { IsChangeBy (value_tree K.text D.literal) result part.old part.new (add_item (owned_tree value)) }
 {
     if !part.is_array() {
         return Ok(false);

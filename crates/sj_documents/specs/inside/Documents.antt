@@ -94,6 +94,13 @@ IsEdited tree (Ok found) t u w = w ≡ Ok (reply_of (option_map tree found), u)
 IsEdited tree (Err (Refused why)) t u w = (w ≡ Err (refusal_name why)) × (u ≡ t)
 IsEdited tree (Err Memory) t u w = u ≡ t
 
+-- the same of two documents, of which the second is left of the first
+abbrev pub IsEditBy : {V : Type 0} → (V → Tree) → Result (Option V) (MemoryOr Refusal) → V → V → Rewrite → Type 0
+IsEditBy tree result old new rewrite = IsEdited tree result (tree old) (tree new) (rewrite (tree old))
+
+abbrev pub IsChangeBy : {V E : Type 0} → (V → Tree) → Result Bool E → V → V → Change → Type 0
+IsChangeBy tree result old new change = IsChanged result (tree old) (tree new) change
+
 -- What is appended of an object's keys: an array of them, or a part of it before an error. Of another tree nothing is.
 abbrev pub PutsKeys : Tree → Option (Result Unit AllocError) → List ℕ → List ℕ → Type 0
 PutsKeys t (Some r) old new = (ms : Members) × (members_in t ≡ Some ms) × AppendsOrGrows r old new (text (list (key_items ms)))
