@@ -4,6 +4,7 @@ mod depths;
 mod members;
 mod owned;
 mod slices;
+mod texts;
 mod values;
 
 use sj_base::AccessError;

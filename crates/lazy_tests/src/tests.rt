@@ -323,7 +323,11 @@ fn write_members(
 }
 
 // Whether the value becomes a document of its own. Where that lacks memory, it comes back as it was.
-fn becomes_document(rt: &impl Abort, alloc: Global, value: Value<'_, '_, '_>) -> Result<bool, Fail> {
+fn becomes_document(
+    rt: &impl Abort,
+    alloc: Global,
+    value: Value<'_, '_, '_>,
+) -> Result<bool, Fail> {
     match value.into_value(alloc) {
         Ok(_) => Ok(true),
         Err(value) => {

@@ -164,7 +164,7 @@ impl<'a> Given<'a> {
 
     fn load(&self, alloc: Global) -> Result<Vec<u8>, LoadFault> {
         let script = self.script?;
-        Vec::from_slice(alloc, script.as_bytes()).map_err(|_| LoadFault::Memory)
+        Ok(Vec::from_slice(alloc, script.as_bytes())?)
     }
 }
 

@@ -4,15 +4,17 @@ mod faults;
 mod hostile;
 mod kept_buffers;
 mod long_lines;
+mod memory;
 mod readers;
 mod reloads;
 mod repeats;
 mod rows;
+mod runs;
 mod undo;
 mod writes;
 
 use hostile::nested;
-use readers::{Pieces, run_on};
+use runs::Run;
 use sj_base::{Error, ErrorType};
 use sj_records::{CommandFault, Form, RunError, Script, ScriptFault};
 use std::alloc::{AllocError, Global};
@@ -31,49 +33,6 @@ fn script_of(alloc: Global, text: &str) -> Result<Script, ScriptFault> {
 }
 
 const FORMS: [Form; 3] = [Form::Owned, Form::Borrowed, Form::Lazy];
-
-// Looks for what a script writes in these forms, for a stream that comes in pieces of `step` bytes.
-fn expect(
-    rt: &impl Abort,
-    alloc: Global,
-    forms: &[Form],
-    script: &str,
-    stream: &[u8],
-    depth: usize,
-    step: usize,
-    records: &str,
-) {
-    let script = script_of(alloc, script).expect(rt, "a script");
-    for form in forms {
-        let mut output = Vec::new(alloc);
-        let input = Pieces::new(stream, step);
-        let result = run_on(alloc, input, &mut output, &script, depth, *form);
-        assert_eq!(rt; result, Ok(()));
-        let written = std::str::from_utf8(&output);
-        assert_eq!(rt; written, Ok(records), "by {step} in {form:?}");
-    }
-}
-
-// The same in every form, for a stream of text under the usual limit.
-fn expect_in_forms(
-    rt: &impl Abort,
-    alloc: Global,
-    script: &str,
-    stream: &str,
-    step: usize,
-    records: &str,
-) {
-    expect(
-        rt,
-        alloc,
-        &FORMS,
-        script,
-        stream.as_bytes(),
-        LIMIT,
-        step,
-        records,
-    );
-}
 
 // The two parts of a row of a table: a line, and what is wanted for it.
 fn split_row(row: &str) -> Result<(&str, &str), Fail> {
@@ -116,26 +75,35 @@ impl Stream {
         self.reloaded.push('\n')
     }
 
+    // Puts a line and its record before the others.
+    fn put_first(&mut self, alloc: Global, line: &[u8], record: &str) -> Result<(), AllocError> {
+        let mut all = Stream::new(alloc);
+        all.add(0, line, record)?;
+        all.bytes.extend_from_slice(&self.bytes)?;
+        all.records.push_str(&self.records)?;
+        all.reloaded.push_str(&self.reloaded)?;
+        *self = all;
+        Ok(())
+    }
+
     // Looks for the records under the empty script, where the lines come in pieces of `step` bytes.
     fn check(&self, rt: &impl Abort, alloc: Global, depth: usize, step: usize) {
-        let records = &self.records;
-        expect(rt, alloc, &FORMS, "[]", &self.bytes, depth, step, records);
+        let run = Run {
+            step,
+            depth,
+            ..Run::new("[]", &self.bytes)
+        };
+        run.expect(rt, alloc, &FORMS, &self.records);
     }
 
     // Looks for the records under a reload of each kind.
     fn check_reloads(&self, rt: &impl Abort, alloc: Global, depth: usize) {
         for script in [r#"[["reload"]]"#, r#"[["reload_pp"]]"#] {
-            let records = &self.reloaded;
-            expect(
-                rt,
-                alloc,
-                &FORMS,
-                script,
-                &self.bytes,
+            let run = Run {
                 depth,
-                65536,
-                records,
-            );
+                ..Run::new(script, &self.bytes)
+            };
+            run.expect(rt, alloc, &FORMS, &self.reloaded);
         }
     }
 }
@@ -184,8 +152,9 @@ null"#,
 "#,
         ),
     ] {
+        let run = Run::new(script, stream.as_bytes());
         for step in [1, 2, 65536] {
-            expect_in_forms(&rt, rt.alloc(), script, stream, step, records);
+            Run { step, ..run }.expect(&rt, rt.alloc(), &FORMS, records);
         }
     }
 }
@@ -217,193 +186,66 @@ fn streams(rt: HostRuntime) {
 "#,
         ),
     ] {
+        let run = Run::new("[]", stream.as_bytes());
         for step in [1, 2, 65536] {
-            expect_in_forms(&rt, rt.alloc(), "[]", stream, step, records);
+            Run { step, ..run }.expect(&rt, rt.alloc(), &FORMS, records);
         }
     }
 }
 
-fn command_fault(fault: CommandFault) -> ScriptFault {
-    ScriptFault::Command { place: 0, fault }
-}
-
-// The fault of a script, if it has one.
-fn fault_of(alloc: Global, script: &str) -> Option<ScriptFault> {
-    script_of(alloc, script).err()
-}
-
-// Looks for the fault of a script, and for its report behind what is there.
-fn expect_refused(
-    rt: &impl Abort,
-    alloc: Global,
-    script: &str,
-    fault: ScriptFault,
-    text: &str,
-) -> Result<(), AllocError> {
-    assert_eq!(rt; fault_of(alloc, script), Some(fault), "{script}");
+// Looks for the report of a script's fault, behind what is there.
+fn expect_refused(rt: &impl Abort, alloc: Global, script: &str, text: &str) -> Result<(), Fail> {
+    let fault = script_of(alloc, script).err().ok_or("no fault")?;
     let mut out = Vec::from_slice(alloc, b"is ")?;
     fault.put_fault(&mut out)?;
-    assert_eq!(rt; &out[3..], text.as_bytes(), "{script}");
+    assert_eq!(rt; std::str::from_utf8(&out[3..]), Ok(text), "{script}");
     Ok(())
 }
 
 // A script nests at most 1024 levels. One that nests so many is read, and has no command.
 #[test]
 fn deep_scripts(rt: HostRuntime) -> Result<(), Fail> {
-    let too_deep = ScriptFault::Json(Error::at(ErrorType::Syntax, 1024, b'['));
-    for (levels, fault, text) in [
-        (
-            1024,
-            command_fault(CommandFault::NoName),
-            "command 0: NoName",
-        ),
-        (1025, too_deep, "Syntax at 1024"),
-    ] {
+    for (levels, text) in [(1024, "command 0: NoName"), (1025, "Syntax at 1024")] {
         let script = nested(rt.alloc(), levels)?;
-        let script = std::str::from_utf8(&script).unwrap_or("no text");
-        expect_refused(&rt, rt.alloc(), script, fault, text)?;
+        expect_refused(&rt, rt.alloc(), std::str::from_utf8(&script)?, text)?;
     }
     Ok(())
 }
 
+// Each script that is refused, and the text of its first fault.
+const REFUSED: &str = r#"
+time => ExpectedTrue at 0
+  => Eof at 0
+["a => Syntax at 0
+[["get",["\q"]]] => InvalidEscape at 10
+{} => NotAnArray
+[7] => command 0: NotAnArray
+[[]] => command 0: NoName
+[["redo"]] => command 0: UnknownName
+[["get",[]],["frob",[]]] => command 1: UnknownName
+[["type",[]],["frob",[]]] => command 1: UnknownName
+[["get"]] => command 0: WrongCount
+[["get",[-1],1]] => command 0: WrongCount
+[["contains",1]] => command 0: WrongCount
+[["set",[]]] => command 0: WrongCount
+[["insert",1,2]] => command 0: WrongCount
+[["pop",[],1]] => command 0: WrongCount
+[["reload",[]]] => command 0: WrongCount
+[["reload"],["reload_pp",1]] => command 1: WrongCount
+[["get",[-1]]] => command 0: BadPath
+[["get",[1.0]]] => command 0: BadPath
+[["get",[18446744073709551616]]] => command 0: BadPath
+[["remove",7,1]] => command 0: BadPath
+[["set","a",1]] => command 0: BadPath
+[["contains",[],1]] => command 0: BadKey
+[["remove",[],null]] => command 0: BadKey
+[["insert",[],1,2]] => command 0: BadKey"#;
+
 #[test]
 fn refused_scripts(rt: HostRuntime) -> Result<(), Fail> {
-    let second = ScriptFault::Command {
-        place: 1,
-        fault: CommandFault::UnknownName,
-    };
-    for (script, fault, text) in [
-        (
-            "time",
-            ScriptFault::Json(Error::at(ErrorType::ExpectedTrue, 0, b't')),
-            "ExpectedTrue at 0",
-        ),
-        (
-            " ",
-            ScriptFault::Json(Error::generic(ErrorType::Eof)),
-            "Eof at 0",
-        ),
-        (
-            r#"["a"#,
-            ScriptFault::Json(Error::generic(ErrorType::Syntax)),
-            "Syntax at 0",
-        ),
-        (
-            r#"[["get",["\q"]]]"#,
-            ScriptFault::Json(Error::at(ErrorType::InvalidEscape, 10, b'\\')),
-            "InvalidEscape at 10",
-        ),
-        (
-            r#"[["get",[18446744073709551616]]]"#,
-            command_fault(CommandFault::BadPath),
-            "command 0: BadPath",
-        ),
-        ("{}", ScriptFault::NotAnArray, "NotAnArray"),
-        (
-            "[7]",
-            command_fault(CommandFault::NotAnArray),
-            "command 0: NotAnArray",
-        ),
-        (
-            "[[]]",
-            command_fault(CommandFault::NoName),
-            "command 0: NoName",
-        ),
-        (
-            r#"[["get",[]],["frob",[]]]"#,
-            second,
-            "command 1: UnknownName",
-        ),
-        (
-            r#"[["get"]]"#,
-            command_fault(CommandFault::WrongCount),
-            "command 0: WrongCount",
-        ),
-        (
-            r#"[["get",[-1],1]]"#,
-            command_fault(CommandFault::WrongCount),
-            "command 0: WrongCount",
-        ),
-        (
-            r#"[["get",[-1]]]"#,
-            command_fault(CommandFault::BadPath),
-            "command 0: BadPath",
-        ),
-        (
-            r#"[["get",[1.0]]]"#,
-            command_fault(CommandFault::BadPath),
-            "command 0: BadPath",
-        ),
-        (
-            r#"[["type",[]],["frob",[]]]"#,
-            second,
-            "command 1: UnknownName",
-        ),
-        (
-            r#"[["redo"]]"#,
-            command_fault(CommandFault::UnknownName),
-            "command 0: UnknownName",
-        ),
-        (
-            r#"[["reload",[]]]"#,
-            command_fault(CommandFault::WrongCount),
-            "command 0: WrongCount",
-        ),
-        (
-            r#"[["reload"],["reload_pp",1]]"#,
-            ScriptFault::Command {
-                place: 1,
-                fault: CommandFault::WrongCount,
-            },
-            "command 1: WrongCount",
-        ),
-        (
-            r#"[["contains",1]]"#,
-            command_fault(CommandFault::WrongCount),
-            "command 0: WrongCount",
-        ),
-        (
-            r#"[["set",[]]]"#,
-            command_fault(CommandFault::WrongCount),
-            "command 0: WrongCount",
-        ),
-        (
-            r#"[["contains",[],1]]"#,
-            command_fault(CommandFault::BadKey),
-            "command 0: BadKey",
-        ),
-        (
-            r#"[["remove",[],null]]"#,
-            command_fault(CommandFault::BadKey),
-            "command 0: BadKey",
-        ),
-        (
-            r#"[["insert",1,2]]"#,
-            command_fault(CommandFault::WrongCount),
-            "command 0: WrongCount",
-        ),
-        (
-            r#"[["pop",[],1]]"#,
-            command_fault(CommandFault::WrongCount),
-            "command 0: WrongCount",
-        ),
-        (
-            r#"[["remove",7,1]]"#,
-            command_fault(CommandFault::BadPath),
-            "command 0: BadPath",
-        ),
-        (
-            r#"[["set","a",1]]"#,
-            command_fault(CommandFault::BadPath),
-            "command 0: BadPath",
-        ),
-        (
-            r#"[["insert",[],1,2]]"#,
-            command_fault(CommandFault::BadKey),
-            "command 0: BadKey",
-        ),
-    ] {
-        expect_refused(&rt, rt.alloc(), script, fault, text)?;
+    for row in REFUSED.lines().skip(1) {
+        let (script, text) = split_row(row)?;
+        expect_refused(&rt, rt.alloc(), script, text)?;
     }
     Ok(())
 }
@@ -430,10 +272,14 @@ fn display_texts(rt: HostRuntime) -> Result<(), Fail> {
     ] {
         expect_display(&rt, rt.alloc(), &error, text)?;
     }
+    let no_name = ScriptFault::Command {
+        place: 0,
+        fault: CommandFault::NoName,
+    };
     for (fault, text) in [
         (ScriptFault::Json(Error::generic(ErrorType::Eof)), "Json"),
         (ScriptFault::NotAnArray, "NotAnArray"),
-        (command_fault(CommandFault::NoName), "Command"),
+        (no_name, "Command"),
         (ScriptFault::Memory, "Memory"),
     ] {
         expect_display(&rt, rt.alloc(), &fault, text)?;

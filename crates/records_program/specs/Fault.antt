@@ -1,5 +1,8 @@
 -- The statuses and the lines of the program's faults.
-use Rattle.std.specs.Prelude.{ℕ, List, [], ◌∷◌, ◌++◌, codes, string_bytes, Result, Ok, Err}
+use Rattle.std.specs.Prelude.{◌≡◌, ◌≢◌, ℕ, List, [], ◌∷◌, ◌++◌, codes, string_bytes, Result, Ok, Err}
+use Rattle.std.specs.IoError.{error_kind}
+use Rattle.std.specs.declared.io.Error.{Error}
+use Rattle.std.specs.declared.io.ErrorKind.TheVariants.{OutOfMemory}
 use Rattle.sj_scripts.specs.Script.{fault_text}
 use Rattle.sj_scripts.specs.declared.script.ScriptFault.{ScriptFault}
 use Rattle.records_program.specs.declared.fault.Fault.{Fault}
@@ -35,6 +38,10 @@ line_of (Script line) = line.items
 -- the line of a script that is refused
 abbrev pub refusal_line : ScriptFault → List ℕ
 refusal_line fault = codes "records: script: " ++ (fault_text fault ++ 10 ∷ [])
+
+-- the fault of a file at which the system gave this error
+abbrev pub IsLoadFault : Error → LoadFault → Type 0
+IsLoadFault e fault = (error_kind e ≡ OutOfMemory → fault ≡ NoRoom) × (error_kind e ≢ OutOfMemory → fault ≡ NoFile)
 
 -- the fault of a file that is not loaded
 abbrev pub of_load : LoadFault → Fault

@@ -5,7 +5,7 @@ ghost use Rattle.records_program.specs.declared.fault.Fault.TheVariants.{Memory}
 
 use crate::load::LoadFault;
 use sj_records::RunError;
-use std::alloc::{AllocError, AllocFailed};
+use std::alloc::AllocError;
 
 /// Why the program fails.
 #[derive(Debug, Drop)]
@@ -54,14 +54,6 @@ impl From<AllocError> for Fault {
     ghost from_gives = { λ _ f. f ≡ Memory };
 
     fn from(_error: AllocError) -> Fault {
-        Fault::Memory
-    }
-}
-
-impl<T: Drop> From<AllocFailed<T>> for Fault {
-    ghost from_gives = { λ _ f. f ≡ Memory };
-
-    fn from(_error: AllocFailed<T>) -> Fault {
         Fault::Memory
     }
 }

@@ -1,8 +1,10 @@
 //! Reading a file to its end.
-ghost use Rattle.std.specs.Prelude.{◌≡◌, ◌≢◌, ◌++◌, IfErr, IfSome, OnOk};
-ghost use Rattle.std.specs.IoError.{error_kind};
+ghost use Rattle.std.specs.Prelude.{◌≡◌, ◌++◌, IfSome, OnOk};
 ghost use Rattle.std.specs.Io.KnownBytes.{IsAtEnd};
+ghost use Rattle.records_program.specs.Fault.{IsLoadFault};
+ghost use Rattle.records_program.specs.declared.load.LoadFault.TheVariants.{Memory};
 
+use std::alloc::AllocError;
 use std::io::{ErrorKind, Read};
 use std::rt::Files;
 use std::{fs, io};
@@ -14,13 +16,34 @@ pub enum LoadFault {
     /// An allocation failed.
     #[error("Memory")]
     Memory,
-    /// The file could not be opened or read, or gave no end within `MAX_READS` reads.
+    /// The file could not be opened or read, or gave no end within 2^62 reads.
     #[error("Unreadable")]
     Unreadable,
 }
 
+impl From<AllocError> for LoadFault {
+    ghost from_gives = { λ _ fault. fault ≡ Memory };
+
+    fn from(_error: AllocError) -> LoadFault {
+        LoadFault::Memory
+    }
+}
+
+/// `Memory` for an error of that kind, and `Unreadable` for any other.
+impl From<io::Error> for LoadFault {
+    ghost from_gives = { IsLoadFault };
+
+    fn from(error: io::Error) -> LoadFault {
+        if error.kind() == ErrorKind::OutOfMemory {
+            LoadFault::Memory
+        } else {
+            LoadFault::Unreadable
+        }
+    }
+}
+
 /// The most reads of one file.
-pub const MAX_READS: u64 = 1 << 62;
+const MAX_READS: u64 = 1 << 62;
 
 /// The most bytes that one read gives.
 const PIECE_LEN: usize = 4096;
@@ -29,29 +52,12 @@ const PIECE_LEN: usize = 4096;
 ///
 /// # Errors
 ///
-/// `Memory` if an allocation failed, and `Unreadable` if the file can't be opened or read, or gives no end within `MAX_READS`
-/// reads.
+/// `Memory` if an allocation failed, and `Unreadable` if the file can't be opened or read, or gives no end within 2^62 reads.
 pub fn read_file<R: Files + AllocGlobal>(rt: &R, name: &str) -> Result<Vec<u8>, LoadFault> {
-    match fs::open(rt, name) {
-        Ok(mut file) => {
-            let mut bytes = Vec::new(rt.alloc());
-            read_rest(&mut file, &mut bytes, MAX_READS)?;
-            Ok(bytes)
-        }
-        Err(error) => Err(load_fault(&error)),
-    }
-}
-
-/// The fault for an error of the system.
-fn load_fault(error: &io::Error) -> LoadFault
-    ensures memory { error_kind error.now ≡ ErrorKind.OutOfMemory → result ≡ LoadFault.Memory }
-    ensures other { error_kind error.now ≢ ErrorKind.OutOfMemory → result ≡ LoadFault.Unreadable }
-{
-    if error.kind() == ErrorKind::OutOfMemory {
-        LoadFault::Memory
-    } else {
-        LoadFault::Unreadable
-    }
+    let mut file = fs::open(rt, name)?;
+    let mut bytes = Vec::new(rt.alloc());
+    read_rest(&mut file, &mut bytes, MAX_READS)?;
+    Ok(bytes)
 }
 
 /// Appends all bytes up to the reader's end, by at most `reads` reads. An interrupted read is tried again.
@@ -68,23 +74,10 @@ pub fn read_rest<R: Read>(reader: &mut R, bytes: &mut Vec<u8>, reads: u64) -> Re
     for _ in 0..reads {
         match reader.read(&mut piece) {
             Ok(0) => return Ok(()),
-            Ok(taken) => append(bytes, &piece[..taken])?,
-            Err(error) => {
-                if error.kind() != ErrorKind::Interrupted {
-                    return Err(load_fault(&error));
-                }
-            }
+            Ok(taken) => bytes.extend_from_slice(&piece[..taken])?,
+            Err(error) if error.kind() == ErrorKind::Interrupted => {}
+            Err(error) => return Err(error.into()),
         }
     }
     Err(LoadFault::Unreadable)
-}
-
-fn append(bytes: &mut Vec<u8>, piece: &[u8]) -> Result<(), LoadFault>
-    ensures ok { OnOk result (bytes.new.items ≡ bytes.old.items ++ piece.now) }
-    ensures only { IfErr result (λ e. e ≡ LoadFault.Memory) }
-{
-    match bytes.extend_from_slice(piece) {
-        Ok(()) => Ok(()),
-        Err(_) => Err(LoadFault::Memory),
-    }
 }

@@ -19,10 +19,11 @@ use sj_tape::Tape;
 use std::alloc::{AllocError, Global};
 use std::io::ErrorKind;
 
-/// Splits a piece at its first line feed, into the bytes before it and those behind it, or else returns all of it.
+/// Splits a piece at its first line feed: returns the bytes before it and those after it, or the whole piece and `None`.
 fn split_line<'p>(piece: &'p mut [u8]) -> (&'p mut [u8], Option<&'p mut [u8]>)
     ensures free { HasNoLineFeed result.0.now }
-    ensures parts { MatchOption result.1 (piece.entry.now ≡ result.0.now) (λ rest. piece.entry.now ≡ result.0.now ++ 0x0a ∷ rest.now) }
+    ensures parts { MatchOption result.1 (piece.entry.now ≡ result.0.now)
+        (λ rest. piece.entry.now ≡ result.0.now ++ 0x0a ∷ rest.now) }
 {
     let Some(end) = memchr::memchr(b'\n', piece) else {
         return (piece, None);
@@ -53,7 +54,6 @@ struct Pending {
 
 /// Writes the record of a line. The line is rewritten, and the tape filled anew.
 fn write_record<'de, W: Sink>(
-    alloc: Global,
     writer: &mut W,
     buffers: &mut Buffers,
     scratch: &mut Scratch,
@@ -68,13 +68,12 @@ fn write_record<'de, W: Sink>(
     ensures limit { buffer_limit buffers.new ≡ buffer_limit buffers.old }
     ensures writes { WritesFor result (W.calls writer.old) (W.calls writer.new) }
 {
-    make_record(alloc, buffers, scratch, tape, line, task)?;
+    make_record(buffers, scratch, tape, line, task)?;
     write_all(writer, &scratch.out)
 }
 
 /// Writes the record of the pending line, which is rewritten.
 fn write_pending<W: Sink>(
-    alloc: Global,
     writer: &mut W,
     buffers: &mut Buffers,
     pending: &mut Pending,
@@ -89,11 +88,10 @@ fn write_pending<W: Sink>(
 {
     let Pending { line, scratch } = pending;
     write_record(
-        alloc,
         writer,
         buffers,
         scratch,
-        &mut Tape::empty(alloc),
+        &mut Tape::empty(*line.allocator()),
         line,
         task,
     )
@@ -102,7 +100,6 @@ fn write_pending<W: Sink>(
 /// Writes the record of the pending line, of which `end` is the last part, and clears the line. Both are rewritten. The
 /// tape is filled anew if `end` is the whole line.
 fn complete_line<'p, W: Sink>(
-    alloc: Global,
     writer: &mut W,
     buffers: &mut Buffers,
     pending: &mut Pending,
@@ -120,18 +117,10 @@ fn complete_line<'p, W: Sink>(
     ensures writes { WritesFor result (W.calls writer.old) (W.calls writer.new) }
 {
     if pending.line.is_empty() {
-        return write_record(
-            alloc,
-            writer,
-            buffers,
-            &mut pending.scratch,
-            tape,
-            end,
-            task,
-        );
+        return write_record(writer, buffers, &mut pending.scratch, tape, end, task);
     }
     pending.line.extend_from_slice(end)?;
-    write_pending(alloc, writer, buffers, pending, task)?;
+    write_pending(writer, buffers, pending, task)?;
     pending.line.clear();
     Ok(())
 }
@@ -139,7 +128,6 @@ fn complete_line<'p, W: Sink>(
 /// Writes the record of each line that the piece ends, and keeps the bytes behind the last line feed. The piece is
 /// rewritten.
 fn process_piece<W: Sink>(
-    alloc: Global,
     writer: &mut W,
     buffers: &mut Buffers,
     pending: &mut Pending,
@@ -158,7 +146,7 @@ fn process_piece<W: Sink>(
     ensures writes { WritesFor result (W.calls writer.old) (W.calls writer.new) }
 {
     // Its nodes borrow from the lines of the piece.
-    let mut tape = Tape::empty(alloc);
+    let mut tape = Tape::empty(*pending.line.allocator());
     let mut rest = piece;
     loop {
         let (end, behind) = split_line(rest);
@@ -166,14 +154,13 @@ fn process_piece<W: Sink>(
             pending.line.extend_from_slice(end)?;
             return Ok(());
         };
-        complete_line(alloc, writer, buffers, pending, &mut tape, end, task)?;
+        complete_line(writer, buffers, pending, &mut tape, end, task)?;
         rest = behind;
     }
 }
 
 /// Writes the record of a last line that no line feed ends. The line is rewritten.
 fn finish<W: Sink>(
-    alloc: Global,
     writer: &mut W,
     buffers: &mut Buffers,
     pending: &mut Pending,
@@ -189,7 +176,7 @@ fn finish<W: Sink>(
     if pending.line.is_empty() {
         return Ok(());
     }
-    write_pending(alloc, writer, buffers, pending, task)
+    write_pending(writer, buffers, pending, task)
 }
 
 /// The most bytes that one read gives.
@@ -204,8 +191,8 @@ fn zeros(alloc: Global, len: usize) -> Result<Vec<u8>, AllocError>
     vec![in alloc; 0; len]
 }
 
-/// `run_with` with at most `max_reads` reads.
-fn run_within<R: Source, W: Sink>(
+/// Runs the task on each line of a stream, with at most `max_reads` reads.
+fn run_task<R: Source, W: Sink>(
     alloc: Global,
     reader: &mut R,
     writer: &mut W,
@@ -232,15 +219,8 @@ fn run_within<R: Source, W: Sink>(
     let mut piece = zeros(alloc, PIECE_LEN)?;
     for _ in 0..max_reads {
         match reader.read(&mut piece) {
-            Ok(0) => return finish(alloc, writer, buffers, &mut pending, task),
-            Ok(taken) => process_piece(
-                alloc,
-                writer,
-                buffers,
-                &mut pending,
-                &mut piece[..taken],
-                task,
-            )?,
+            Ok(0) => return finish(writer, buffers, &mut pending, task),
+            Ok(taken) => process_piece(writer, buffers, &mut pending, &mut piece[..taken], task)?,
             Err(e) if e.kind() == ErrorKind::Interrupted => {}
             Err(_) => return Err(RunError::Read),
         }
@@ -315,11 +295,44 @@ pub fn run_with<R: Source, W: Sink>(
     ensures writes { WritesFor result (W.calls writer.old) (W.calls writer.new) }
     ensures limit { buffer_limit buffers.new ≡ buffer_limit buffers.old }
 {
+    run_within(
+        alloc, reader, writer, script, form, buffers, repeats, MAX_READS,
+    )
+}
+
+/// Does what [`run_with`] does, with at most `max_reads` reads, those that were interrupted included.
+///
+/// # Errors
+///
+/// See [`RunError`] for each error and what is written before it. `TooManyReads` comes if so many reads gave no end.
+pub fn run_within<R: Source, W: Sink>(
+    alloc: Global,
+    reader: &mut R,
+    writer: &mut W,
+    script: &Script,
+    form: Form,
+    buffers: &mut Buffers,
+    repeats: Repeats,
+    max_reads: u64,
+) -> Result<(), RunError>
+    // As of `run_with`, with `max_reads` in the place of 2^62.
+    ensures stands { Transfers (R.remaining reader.old) (R.remaining reader.new)
+        (W.contents writer.old) (W.contents writer.new)
+        (LeavesOutput result (job_of script.now (buffer_limit buffers.old) form repeats)) }
+    ensures at_end { OnOk result (IsAtEnd (R.remaining reader.new)) }
+    ensures texts { OnOk result (HasReadStream (job_of script.now (buffer_limit buffers.old) form repeats)
+        (R.remaining reader.old) (R.remaining reader.new) (W.contents writer.old) (W.contents writer.new)
+        buffers.old buffers.new) }
+    ensures reads { ReadsFor max_reads result (R.calls reader.old) (R.calls reader.new) }
+    ensures bound { (R.calls reader.new).made ≤ (R.calls reader.old).made + max_reads }
+    ensures writes { WritesFor result (W.calls writer.old) (W.calls writer.new) }
+    ensures limit { buffer_limit buffers.new ≡ buffer_limit buffers.old }
+{
     let task = Task {
         script,
         depth: buffers.max_depth(),
         form,
         repeats,
     };
-    run_within(alloc, reader, writer, buffers, task, MAX_READS)
+    run_task(alloc, reader, writer, buffers, task, max_reads)
 }

@@ -24,8 +24,8 @@ use std::alloc::AllocError;
 /// # Errors
 ///
 /// `AllocError` if there is no memory for what the call of the document needs, or for one more inverse. `out` is unchanged. The
-/// document is as it was, as the command leaves it or, in the form `Lazy`, without repeated members. Nothing is known of
-/// `history`.
+/// document is as it was, as the command leaves it or, in the form `Lazy`, without repeated members. The
+/// state of `history` is unspecified.
 pub fn apply<T: Document>(
     document: &mut T,
     history: &mut Vec<Inverse>,
@@ -55,7 +55,8 @@ pub fn apply<T: Document>(
     add(history, written, start, out)
 }
 
-/// Adds what a write handed out. Takes the reply, which begins at `start`, off again if there is no memory for it.
+/// Adds the inverse that a write returned, if any. Truncates `out` to `start`, where the reply begins, if there is no memory for
+/// the inverse.
 fn add(
     history: &mut Vec<Inverse>,
     written: Result<Option<Inverse>, AllocError>,

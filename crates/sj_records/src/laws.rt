@@ -34,9 +34,11 @@ pub fn kept_along()
     ensures trees { TreesAreKept }
 {}
 
-/// A second script without `undo` continues a first one that `Script::read` accepts: on the text that the first comes to, if it has at most 4294967295 bytes,
-/// it gives the replies and the document that it gives behind the first, under the same limit of levels, in the
-/// same form and by the same rule for repeated keys. This is said of a first line that isn't refused for a repeated key.
+/// Two scripts can be run one after the other. The second, on the document that the first printed, gives the replies and the
+/// document that it gives behind the first, under the same limit of levels, form and rule for repeated keys.
+///
+/// `Script::read` accepts the first script, its line isn't refused for a repeated key, the second script has no `undo`, and the
+/// printed document has at most 4294967295 bytes.
 pub fn scripts_continue()
     ensures { ScriptsContinue }
 {

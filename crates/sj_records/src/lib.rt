@@ -5,11 +5,12 @@ mod engine;
 mod form;
 mod history;
 pub mod laws;
+mod refused_line;
 mod repeats;
 mod run_error;
 mod task;
 
-pub use engine::{run, run_with};
+pub use engine::{run, run_with, run_within};
 pub use form::Form;
 pub use history::apply;
 pub use repeats::Repeats;

@@ -2,10 +2,10 @@
 ghost use Rattle.std.specs.Prelude.{◌≡◌};
 ghost use Rattle.sj_records.specs.declared.run_error.RunError.TheVariants.{Memory};
 
-use std::alloc::{AllocError, AllocFailed};
+use std::alloc::AllocError;
 use thiserror::Error;
 
-/// The error of `run` and `run_with`. Only whole records are written before it, except before `Write`.
+/// The error of `run`, `run_with` and `run_within`. Only whole records are written before it, except before `Write`.
 #[derive(Clone, Copy, Debug, PartialEq, Eq, Error)]
 pub enum RunError {
     /// An allocation for a line, a document or a record failed. The records of the first k lines that a line feed ended are
@@ -18,7 +18,7 @@ pub enum RunError {
     /// A read failed other than by an interruption. The records of the lines that a line feed ended are written.
     #[error("Read")]
     Read,
-    /// The reader gave no end within 2^62 reads. The same records are written as before `Read`.
+    /// The reader gave no end within 2^62 reads, or as many as `run_within` is given. The same records are written as before `Read`.
     #[error("TooManyReads")]
     TooManyReads,
 }
@@ -27,14 +27,6 @@ impl From<AllocError> for RunError {
     ghost from_gives = { λ _ e. e ≡ Memory };
 
     fn from(_e: AllocError) -> RunError {
-        RunError::Memory
-    }
-}
-
-impl<T: Drop> From<AllocFailed<T>> for RunError {
-    ghost from_gives = { λ _ e. e ≡ Memory };
-
-    fn from(_e: AllocFailed<T>) -> RunError {
         RunError::Memory
     }
 }

@@ -1,19 +1,19 @@
 //! The record of one line, in bytes.
-ghost use Rattle.std.specs.Prelude.{◌≡◌, ◌≢◌, ℕ, nat_le, true, false, List, ◌∷◌, [], ◌++◌, length, map, Some, option_map, OnOk, IfOk, IfErr};
+ghost use Rattle.std.specs.Prelude.{◌≡◌, ◌≢◌, ℕ, nat_le, true, false, List, ◌∷◌, [], ◌++◌, length, Some, option_map, OnOk, IfOk, IfErr};
 ghost use Rattle.std.specs.Option.{option_copied};
 ghost use Rattle.sj_base.specs.Spelling.{longest};
 ghost use Rattle.sj_base.specs.Tree.{Tree};
 ghost use Rattle.sj_base.specs.Keep.{keep};
-ghost use Rattle.sj_base.specs.Text.{text as text_of, items_text};
+ghost use Rattle.sj_base.specs.Text.{text as text_of};
 ghost use Rattle.sj_parse.specs.Answers.{IsTapeOf, buffer_limit};
 ghost use Rattle.sj_parse.specs.Fault.{fault};
 ghost use Rattle.sj_records.specs.History.{StandFor, Applied};
-ghost use Rattle.sj_records.specs.Record.{IsRecord, tree_record, outcome, repeat_record, refused_repeat, part_items, part_tree, fault_record, character_of};
+ghost use Rattle.sj_records.specs.Record.{IsRecord, tree_record, outcome, refused_repeat};
 ghost use Rattle.sj_records.specs.Texts.{if_read, reread, reloads, rereads, HasRead, HasReadLines};
 ghost use Rattle.sj_owned.specs.Views.{value_tree};
 ghost use Rattle.sj_scripts.specs.Script.{command_view, commands_view};
 ghost use Rattle.sj_documents.specs.Step.{State, begun, start, reload_reply};
-ghost use Rattle.sj_tape.specs.Repeats.{part_view, repeat_view};
+ghost use Rattle.sj_tape.specs.Repeats.{repeat_view};
 ghost use Rattle.sj_tape.specs.Views.{tape_nodes, nodes_tree};
 ghost use Rattle.sj_scripts.specs.inside.ReadErrors.{IfRefused};
 ghost use Rattle.sj_records.specs.Job.{repeats_of};
@@ -22,16 +22,17 @@ ghost use Rattle.sj_records.specs.inside.Reloads.{IsReadable, IsPrinted, Runs};
 
 use crate::form::Form;
 use crate::history::{apply, put_bool};
+use crate::refused_line::{put_fault_record, put_repeat_record};
 use crate::repeats::Repeats;
 use sj_base::laws::printing_reads_back;
-use sj_base::{DecimalBuf, DecimalCow, Error, put_int, put_string};
+use sj_base::{DecimalBuf, DecimalCow, Error};
 use sj_documents::{Document, Inverse, LazyDocument, put_separator};
 use sj_object::MakeKey;
 use sj_owned::{MakeLiteral, Value, build_tape, build_value};
 use sj_parse::laws::printed_texts;
 use sj_parse::{Buffers, fill_tape};
 use sj_scripts::{Command, MemoryOr, Script};
-use sj_tape::{Repeat, RepeatPart, Tape};
+use sj_tape::{Repeat, Tape};
 use std::alloc::{AllocError, Global};
 use std::borrow::CowStr;
 use std::mem;
@@ -40,7 +41,7 @@ use std::mem;
 #[derive(Clone, Copy)]
 pub(crate) struct Task<'s> {
     pub(crate) script: &'s Script,
-    /// In levels.
+    /// The most levels that a document may nest.
     pub(crate) depth: usize,
     pub(crate) form: Form,
     pub(crate) repeats: Repeats,
@@ -68,7 +69,7 @@ pub(crate) struct Room {
 }
 
 impl Scratch {
-    /// Creates one. No line is known yet, so no room is taken.
+    /// Creates one without room.
     pub(crate) fn new(alloc: Global) -> Scratch {
         Scratch {
             room: Room {
@@ -81,10 +82,9 @@ impl Scratch {
     }
 }
 
-/// Makes the record of a line, and a line feed, in place of the record and the history of the line before. The line is rewritten. The
-/// tape is filled anew.
+/// Prints the record of a line and a line feed into `scratch.out`, in place of the record of the line before, and empties the
+/// history first. The line is rewritten, and the tape filled anew.
 pub(crate) fn make_record<'de>(
-    alloc: Global,
     buffers: &mut Buffers,
     scratch: &mut Scratch,
     tape: &mut Tape<'de>,
@@ -100,13 +100,12 @@ pub(crate) fn make_record<'de>(
     let Scratch { room, out } = scratch;
     room.history.clear();
     out.clear();
-    put_record(alloc, buffers, room, tape, out, line, task)?;
+    put_record(buffers, room, tape, out, line, task)?;
     out.push(b'\n')?;
     Ok(())
 }
 
 fn put_record<'de>(
-    alloc: Global,
     buffers: &mut Buffers,
     room: &mut Room,
     tape: &mut Tape<'de>,
@@ -122,7 +121,7 @@ fn put_record<'de>(
     ensures limit { buffer_limit buffers.new ≡ buffer_limit buffers.old }
 {
     match read_tape(buffers, tape, line) {
-        Ok(()) => put_tape_record(alloc, buffers, room, tape, task, out),
+        Ok(()) => put_tape_record(buffers, room, tape, task, out),
         Err(MemoryOr::Refused(fault)) => put_fault_record(fault, out),
         Err(MemoryOr::Memory) => Err(AllocError),
     }
@@ -154,7 +153,6 @@ fn read_tape<'de>(
 
 /// Appends the record of a line that was read into the tape.
 fn put_tape_record(
-    alloc: Global,
     buffers: &mut Buffers,
     room: &mut Room,
     tape: &mut Tape<'_>,
@@ -171,9 +169,9 @@ fn put_tape_record(
         (rereads (task_job task.entry) (nodes_tree (tape_nodes tape.old)))) }
     ensures limit { buffer_limit buffers.new ≡ buffer_limit buffers.old }
 {
-    match find_refused(alloc, tape, task.repeats)? {
+    match find_refused(*out.allocator(), tape, task.repeats)? {
         Some(repeat) => put_repeat_record(&repeat, out),
-        None => put_document_record(alloc, buffers, room, tape, task, out),
+        None => put_document_record(buffers, room, tape, task, out),
     }
 }
 
@@ -195,7 +193,6 @@ fn find_refused<'de>(
 
 /// Appends the record of a document that isn't refused, in the task's form.
 fn put_document_record(
-    alloc: Global,
     buffers: &mut Buffers,
     room: &mut Room,
     tape: &mut Tape<'_>,
@@ -222,10 +219,10 @@ fn put_document_record(
     let mut left = run_on_tape(tape, task, commands, true, history, printed, out)?;
     if left.is_some() && tape.nodes().len() > KEPT_NODES {
         // The tape and that of the text are never both in memory as a whole.
-        *tape = Tape::empty(alloc);
+        *tape = Tape::empty(*out.allocator());
     }
     while let Some(commands) = left {
-        left = run_on_text(alloc, buffers, room, task, commands, out)?;
+        left = run_on_text(buffers, room, task, commands, out)?;
     }
     Ok(())
 }
@@ -250,7 +247,6 @@ fn build<'de, K: MakeKey<'de> + Drop, D: MakeLiteral<'de> + Drop>(
 
 /// Reads the text that was printed last, and runs commands on its document, as `run_on_tape`.
 fn run_on_text<'s>(
-    alloc: Global,
     buffers: &mut Buffers,
     room: &mut Room,
     task: Task<'_>,
@@ -272,7 +268,7 @@ fn run_on_text<'s>(
         next,
         history,
     } = room;
-    let mut tape = Tape::empty(alloc);
+    let mut tape = Tape::empty(*out.allocator());
     match read_tape(buffers, &mut tape, printed) {
         Ok(()) => {}
         Err(MemoryOr::Refused(_)) => unreachable!(),
@@ -392,59 +388,4 @@ fn put_reload(text: &[u8], out: &mut Vec<u8>) -> Result<bool, AllocError>
     let is_readable = text.len() <= u32::MAX as usize;
     put_bool(is_readable, out)?;
     Ok(is_readable)
-}
-
-fn put_fault_record(fault: Error, out: &mut Vec<u8>) -> Result<(), AllocError>
-    ensures { OnOk result (out.new.items ≡ out.old.items ++ text_of (fault_record fault)) }
-{
-    out.extend_from_slice(b"{\"error\":")?;
-    put_string(out, fault.error().name())?;
-    out.extend_from_slice(b",\"index\":")?;
-    put_int(out, fault.index() as u64)?;
-    out.extend_from_slice(b",\"character\":")?;
-    put_character(fault.character(), out)?;
-    out.push(b'}')?;
-    Ok(())
-}
-
-fn put_repeat_record(repeat: &Repeat<'_>, out: &mut Vec<u8>) -> Result<(), AllocError>
-    ensures { OnOk result (out.new.items ≡ out.old.items ++ text_of (repeat_record (repeat_view repeat.now))) }
-{
-    out.extend_from_slice(b"{\"error\":\"RepeatedKey\",\"path\":[")?;
-    put_path(&repeat.path, out)?;
-    out.extend_from_slice(b"],\"key\":")?;
-    put_string(out, repeat.key)?;
-    out.push(b'}')?;
-    Ok(())
-}
-
-/// Appends the keys and places of a path.
-fn put_path(path: &[RepeatPart<'_>], out: &mut Vec<u8>) -> Result<(), AllocError>
-    ensures { OnOk result (out.new.items ≡ out.old.items ++ items_text (part_items (map part_view path.now))) }
-{
-    let mut is_first = true;
-    for part in path {
-        put_separator(is_first, out)?;
-        put_part(part, out)?;
-        is_first = false;
-    }
-    Ok(())
-}
-
-fn put_part(part: &RepeatPart<'_>, out: &mut Vec<u8>) -> Result<(), AllocError>
-    ensures { OnOk result (out.new.items ≡ out.old.items ++ text_of (part_tree (part_view part.now))) }
-{
-    match part {
-        RepeatPart::Key(key) => put_string(out, key),
-        RepeatPart::Item(place) => put_int(out, *place),
-    }
-}
-
-fn put_character(character: Option<char>, out: &mut Vec<u8>) -> Result<(), AllocError>
-    ensures { OnOk result (out.new.items ≡ out.old.items ++ text_of (character_of character)) }
-{
-    match character {
-        Some(character) => put_string(out, character.encode_utf8(&mut [0; 4])),
-        None => out.extend_from_slice(b"null"),
-    }
 }

@@ -1,7 +1,8 @@
 //! Lines that are made to mislead a reader of blocks, of levels or of hashes, by readers that give few bytes a read.
-use super::readers::{Pieces, run_on};
-use super::rows::ROWS;
-use super::{FORMS, LIMIT, MOST_SPACES, Stream, expect, script_of, split_row};
+use super::rows::{ACROSS_BLOCKS, ROWS};
+use super::runs::Run;
+use super::writes::forty;
+use super::{FORMS, LIMIT, MOST_SPACES, Stream, split_row};
 use sj_records::Form;
 use std::alloc::{AllocError, Global};
 use std::process::Abort;
@@ -129,10 +130,9 @@ fn first_key_again(rt: HostRuntime) -> Result<(), Fail> {
         put_members(alloc, &mut members, count)?;
         let line = format!(in alloc; r#"{{{members},"k0":-1}}"#)?;
         let kept = format!(in alloc; "{{\"replies\":[],\"document\":{{{members}}}}}\n")?;
+        let run = Run::new("[]", line.as_bytes());
         for step in STEPS {
-            let forms = [Form::Owned, Form::Borrowed];
-            let bytes = line.as_bytes();
-            expect(&rt, alloc, &forms, "[]", bytes, LIMIT, step, &kept);
+            Run { step, ..run }.expect(&rt, alloc, &[Form::Owned, Form::Borrowed], &kept);
         }
     }
     Ok(())
@@ -163,40 +163,63 @@ fn cut_line(rt: HostRuntime) -> Result<(), Fail> {
     Ok(())
 }
 
-// What is written for a stream in pieces of `step` bytes.
-fn written(
-    rt: &impl Abort,
-    alloc: Global,
-    form: Form,
-    stream: &[u8],
-    step: usize,
-) -> Result<Vec<u8>, Fail> {
-    let script = script_of(alloc, "[]").ok().ok_or("no script")?;
-    let mut output = Vec::new(alloc);
-    let input = Pieces::new(stream, step);
-    let result = run_on(alloc, input, &mut output, &script, LIMIT, form);
-    assert_eq!(rt; result, Ok(()));
-    Ok(output)
+// Worked lines that are neither among `ROWS` nor among `ACROSS_BLOCKS`.
+const MORE_LINES: [&[u8]; 15] = [
+    br#"{"key": "value", "snot": 42}"#,
+    br#"{"a":1,"a":2}"#,
+    b"7",
+    b"null",
+    b"{}",
+    b"\"\xff",
+    b"1\r",
+    br#"{"the_answer": 42}"#,
+    br#"{"a":[1,"x"],"b":null}"#,
+    br#"{"key":1}"#,
+    br#"{"1":time}"#,
+    b"[null, new]",
+    b"[1,[2,3],4]",
+    br#"{"some": ["key", "value", 2]}"#,
+    br#"{"snot": 1, "badger":[2, 2.5]}"#,
+];
+
+// Adds the line once for each of its lengths, cut there.
+fn add_cuts(stream: &mut Vec<u8>, line: &[u8]) -> Result<(), AllocError> {
+    for end in 0..=line.len() {
+        stream.extend_from_slice(line.get(..end).unwrap_or_default())?;
+        stream.push(b'\n')?;
+    }
+    Ok(())
 }
 
-// The worked lines, each cut behind each of its bytes: one record each, whatever a read gives.
-#[test]
-fn cut_lines(rt: HostRuntime) -> Result<(), Fail> {
-    let alloc = rt.alloc();
+// The worked lines, each cut behind each of its bytes.
+fn cuts(alloc: Global) -> Result<Vec<u8>, Fail> {
     let mut stream = Vec::new(alloc);
     for row in ROWS.lines().skip(1) {
         let (line, _) = split_row(row)?;
-        for end in 0..=line.len() {
-            stream.extend_from_slice(line.as_bytes().get(..end).unwrap_or_default())?;
-            stream.push(b'\n')?;
-        }
+        add_cuts(&mut stream, line.as_bytes())?;
     }
+    for line in ACROSS_BLOCKS {
+        add_cuts(&mut stream, line.as_bytes())?;
+    }
+    for line in MORE_LINES {
+        add_cuts(&mut stream, line)?;
+    }
+    add_cuts(&mut stream, forty(alloc, 0)?.as_bytes())?;
+    Ok(stream)
+}
+
+// Each line that is cut gives one record, whatever a read gives.
+#[test]
+fn cut_lines(rt: HostRuntime) -> Result<(), Fail> {
+    let alloc = rt.alloc();
+    let stream = cuts(alloc)?;
     let count = |bytes: &[u8]| bytes.iter().filter(|byte| **byte == b'\n').count();
+    let run = Run::new("[]", &stream);
     for form in FORMS {
-        let whole = written(&rt, alloc, form, &stream, 65536)?;
+        let whole = run.output(&rt, alloc, form);
         assert_eq!(rt; count(&whole), count(&stream));
         for step in STEPS {
-            let records = written(&rt, alloc, form, &stream, step)?;
+            let records = Run { step, ..run }.output(&rt, alloc, form);
             assert!(rt; records == whole);
         }
     }

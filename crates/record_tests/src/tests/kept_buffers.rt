@@ -29,10 +29,10 @@ fn run_with_on<I: Read + Drop, O: Write + Drop>(
 
 // Looks for the records of a stream in one form, in these buffers.
 fn expect_with(
-    buffers: &mut Buffers,
-    form: Form,
     rt: &impl Abort,
     alloc: Global,
+    buffers: &mut Buffers,
+    form: Form,
     script: &str,
     stream: &str,
     records: &str,
@@ -56,10 +56,10 @@ fn streams_in_the_same_buffers(rt: HostRuntime) -> Result<(), Fail> {
         let mut buffers = Buffers::with_max_depth(alloc, 0, 1)?;
         for _ in 0..2 {
             expect_with(
-                &mut buffers,
-                form,
                 &rt,
                 alloc,
+                &mut buffers,
+                form,
                 r#"[["push",[],[]],["push",[],3]]"#,
                 "[1, 2]\n[\n[]",
                 concat!(
@@ -71,7 +71,7 @@ fn streams_in_the_same_buffers(rt: HostRuntime) -> Result<(), Fail> {
                     "\n"
                 ),
             );
-            expect_with(&mut buffers, form, &rt, alloc, "[]", "", "");
+            expect_with(&rt, alloc, &mut buffers, form, "[]", "", "");
         }
         assert_eq!(rt; buffers.max_depth(), 1);
     }
@@ -95,10 +95,10 @@ fn positions_behind_a_reload(rt: HostRuntime) -> Result<(), Fail> {
         };
         let mut buffers = Buffers::new(alloc, 0)?;
         expect_with(
-            &mut buffers,
-            form,
             &rt,
             alloc,
+            &mut buffers,
+            form,
             r#"[["reload"],["len",[]]]"#,
             r#"{"a":1,"a":2}"#,
             record,

@@ -2,7 +2,8 @@
 
 use super::{LIMIT, script_of};
 use sj_base::Counted;
-use sj_records::{Form, Repeats, RunError, Script, run};
+use sj_parse::Buffers;
+use sj_records::{Form, Repeats, RunError, Script, run, run_within};
 use std::alloc::Global;
 use std::io;
 use std::io::{ErrorKind, Read, Write};
@@ -49,6 +50,16 @@ impl Read for Pieces<'_> {
     }
 }
 
+// Is interrupted at each read.
+#[derive(Drop)]
+struct Interrupted;
+
+impl Read for Interrupted {
+    fn read(&mut self, _buf: &mut [u8]) -> io::Result<usize> {
+        Err(io::Error::from(ErrorKind::Interrupted))
+    }
+}
+
 // How a writer refuses what it has no room for.
 #[derive(Clone, Copy, Debug)]
 enum Refusal {
@@ -86,17 +97,6 @@ impl Write for Narrow {
     }
 }
 
-pub(super) fn run_on<I: Read + Drop, O: Write + Drop>(
-    alloc: Global,
-    input: I,
-    output: &mut O,
-    script: &Script,
-    depth: usize,
-    form: Form,
-) -> Result<(), RunError> {
-    run_by(alloc, input, output, script, depth, form, Repeats::Keep)
-}
-
 pub(super) fn run_by<I: Read + Drop, O: Write + Drop>(
     alloc: Global,
     input: I,
@@ -126,7 +126,8 @@ fn run_empty<I: Read + Drop, O: Write + Drop>(
     output: &mut O,
 ) -> Result<(), RunError> {
     let script = script_of(alloc, "[]").expect(rt, "a script");
-    run_on(alloc, input, output, &script, LIMIT, Form::Owned)
+    let (form, repeats) = (Form::Owned, Repeats::Keep);
+    run_by(alloc, input, output, &script, LIMIT, form, repeats)
 }
 
 #[test]
@@ -151,11 +152,53 @@ fn interrupted_reader(rt: HostRuntime) {
     assert_eq!(rt; output.as_slice(), BOTH.as_bytes());
 }
 
+// Runs the empty script with at most three reads.
+fn run_three<I: Read + Drop>(
+    rt: &impl Abort,
+    alloc: Global,
+    input: I,
+    output: &mut Vec<u8>,
+) -> Result<(), RunError> {
+    let script = script_of(alloc, "[]").expect(rt, "a script");
+    let mut buffers = Buffers::new(alloc, 0)?;
+    let mut source = Counted::new(input);
+    let mut sink = Counted::new(output);
+    let (form, repeats) = (Form::Owned, Repeats::Keep);
+    let result = run_within(
+        alloc,
+        &mut source,
+        &mut sink,
+        &script,
+        form,
+        &mut buffers,
+        repeats,
+        3,
+    );
+    let _ = source.into_inner();
+    let _ = sink.into_inner();
+    result
+}
+
+// A reader that gives no end, and one that gives it by its third read.
+#[test]
+fn bounded_reads(rt: HostRuntime) {
+    let mut output = Vec::new(rt.alloc());
+    let result = run_three(&rt, rt.alloc(), Interrupted, &mut output);
+    assert_eq!(rt; result, Err(RunError::TooManyReads));
+    assert!(rt; output.is_empty());
+    let result = run_three(&rt, rt.alloc(), Pieces::new(b"1\n", 1), &mut output);
+    assert_eq!(rt; result, Ok(()));
+    assert_eq!(rt;
+        output.as_slice(),
+        b"{\"replies\":[],\"document\":1}\n".as_slice()
+    );
+}
+
 // A run whose writer has room for the first bytes alone, which are written.
-fn run_narrow(rt: &impl Abort, alloc: Global, refusal: Refusal, room: usize) {
+fn run_narrow(rt: &impl Abort, alloc: Global, refusal: Refusal, step: usize, room: usize) {
     let mut output = Narrow {
         taken: Vec::new(alloc),
-        step: 7,
+        step,
         room,
         refusal,
     };
@@ -175,7 +218,8 @@ fn run_narrow(rt: &impl Abort, alloc: Global, refusal: Refusal, room: usize) {
 fn narrow_writer(rt: HostRuntime) {
     for refusal in [Refusal::Fails, Refusal::Interrupts, Refusal::TakesNothing] {
         for room in 0..=BOTH.len() {
-            run_narrow(&rt, rt.alloc(), refusal, room);
+            run_narrow(&rt, rt.alloc(), refusal, 1, room);
+            run_narrow(&rt, rt.alloc(), refusal, 7, room);
         }
     }
 }

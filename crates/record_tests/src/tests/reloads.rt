@@ -1,6 +1,7 @@
 //! Reloads: worked rows, and what stays the same with a reload at each place of a script.
-use super::writes::{LIMITS, REPEATED_KEYS, WORKED, by_form, check};
-use super::{FORMS, LIMIT, expect_in_forms};
+use super::runs::{Row, Run};
+use super::writes::{LIMITS, REPEATED_KEYS, WORKED, by_form};
+use super::{FORMS, LIMIT};
 use sj_owned::{OwnedValue, to_owned_value};
 use sj_records::Form;
 use std::alloc::{AllocError, Global};
@@ -38,7 +39,14 @@ fn worked_reloads(rt: HostRuntime) -> Result<(), Fail> {
             r#"{"replies":[[],true,"TooDeep",true,[[[]]]],"document":[8]}"#,
         ),
     ] {
-        check(&rt, rt.alloc(), &FORMS, script, line, depth, record)?;
+        let row = Row {
+            script,
+            line,
+            depth,
+            record,
+        };
+        row.check(&rt, rt.alloc(), &FORMS)?;
+        row.check_reloads(&rt, rt.alloc(), &FORMS)?;
     }
     Ok(())
 }
@@ -56,7 +64,9 @@ fn reloaded_repeats(rt: HostRuntime) -> Result<(), Fail> {
     ] {
         let script = r#"[["reload"],["len",[]]]"#;
         let line = r#"{"a":1,"a":2}"#;
-        check(&rt, rt.alloc(), &[form], script, line, LIMIT, record)?;
+        let row = Row::new(script, line, record);
+        row.check(&rt, rt.alloc(), &[form])?;
+        row.check_reloads(&rt, rt.alloc(), &[form])?;
     }
     Ok(())
 }
@@ -73,7 +83,11 @@ fn deep_reload(rt: HostRuntime) -> Result<(), Fail> {
     }
     let record = format!(in alloc; r#"{{"replies":[true],"document":{line}}}"#)?;
     let script = r#"[["reload_pp"]]"#;
-    check(&rt, alloc, &FORMS, script, &line, LIMIT + 1, &record)?;
+    let row = Row {
+        depth: LIMIT + 1,
+        ..Row::new(script, &line, &record)
+    };
+    row.check(&rt, alloc, &FORMS)?;
     Ok(())
 }
 
@@ -139,52 +153,42 @@ fn len(array: &OwnedValue) -> Result<usize, Fail> {
     Ok(array.as_array().ok_or("no array")?.len())
 }
 
-// Looks for the record with a reload at this place of the commands.
-fn check_reload(
-    rt: &impl Abort,
-    alloc: Global,
-    forms: &[Form],
-    commands: &OwnedValue,
-    reload: &str,
-    place: usize,
-    line: &str,
-    depth: usize,
-    record: &str,
-) -> Result<(), Fail> {
-    let script = with_item(alloc, commands, place, reload)?;
-    let record = with_reply(alloc, record, place)?;
-    check(rt, alloc, forms, &script, line, depth, &record)?;
-    Ok(())
-}
-
-// Looks for the record with a reload of each kind at each place of the script.
-pub(super) fn check_reloads(
-    rt: &impl Abort,
-    alloc: Global,
-    forms: &[Form],
-    script: &str,
-    line: &str,
-    depth: usize,
-    record: &str,
-) -> Result<(), Fail> {
-    let commands = read(alloc, script)?;
-    for reload in RELOADS {
-        for place in 0..=len(&commands)? {
-            check_reload(
-                rt, alloc, forms, &commands, reload, place, line, depth, record,
-            )?;
+impl Row<'_> {
+    // Looks for the record with a reload of each kind at each place of the script.
+    pub(super) fn check_reloads(
+        self,
+        rt: &impl Abort,
+        alloc: Global,
+        forms: &[Form],
+    ) -> Result<(), Fail> {
+        let commands = read(alloc, self.script)?;
+        for reload in RELOADS {
+            for place in 0..=len(&commands)? {
+                let script = with_item(alloc, &commands, place, reload)?;
+                let record = with_reply(alloc, self.record, place)?;
+                let row = Row {
+                    script: &script,
+                    record: &record,
+                    ..self
+                };
+                row.check(rt, alloc, forms)?;
+            }
         }
+        Ok(())
     }
-    Ok(())
 }
 
 #[test]
 fn reloads_change_nothing(rt: HostRuntime) -> Result<(), Fail> {
     for (script, line, record) in &WORKED {
-        check_reloads(&rt, rt.alloc(), &FORMS, script, line, LIMIT, record)?;
+        Row::new(script, line, record).check_reloads(&rt, rt.alloc(), &FORMS)?;
     }
     for (script, line, depth, record) in &LIMITS {
-        check_reloads(&rt, rt.alloc(), &FORMS, script, line, *depth, record)?;
+        let row = Row {
+            depth: *depth,
+            ..Row::new(script, line, record)
+        };
+        row.check_reloads(&rt, rt.alloc(), &FORMS)?;
     }
     Ok(())
 }
@@ -194,7 +198,7 @@ fn reloads_change_nothing(rt: HostRuntime) -> Result<(), Fail> {
 fn reloads_keep_repeats(rt: HostRuntime) -> Result<(), Fail> {
     for (script, line, kept, lazy) in &REPEATED_KEYS {
         for (form, record) in by_form(kept, lazy) {
-            check_reloads(&rt, rt.alloc(), &[form], script, line, LIMIT, record)?;
+            Row::new(script, line, record).check_reloads(&rt, rt.alloc(), &[form])?;
         }
     }
     Ok(())
@@ -217,7 +221,8 @@ fn reloads_of_lines(rt: HostRuntime) {
 {"replies":[true,[],true,true,["x"]],"document":[]}
 {"replies":[true,"NotAnArray",true,true,"NotAnArray"],"document":{"a":1}}
 "#;
+    let run = Run::new(script, stream.as_bytes());
     for step in [1, 65536] {
-        expect_in_forms(&rt, rt.alloc(), script, stream, step, records);
+        Run { step, ..run }.expect(&rt, rt.alloc(), &FORMS, records);
     }
 }

@@ -1,9 +1,7 @@
 //! Lines that repeat a key, where that is refused.
-use super::readers::{Pieces, run_by};
-use super::{FORMS, LIMIT, script_of, split_row};
+use super::runs::Run;
+use super::{FORMS, split_row};
 use sj_records::Repeats;
-use std::alloc::Global;
-use std::process::Abort;
 use std::test::Fail;
 
 // Each line, and its record under a script without commands.
@@ -16,20 +14,6 @@ const ROWS: &str = r#"{"a":{"x":1,"x":2},"a":3} => {"error":"RepeatedKey","path"
 [[],{"\"":[0,{"\n":1,"\u000a":2}]}] => {"error":"RepeatedKey","path":[1,"\"",1],"key":"\n"}
 {"":1,"":2} => {"error":"RepeatedKey","path":[],"key":""}
 {"a":[{"b":1},{"b":1}],"b":"a"} => {"replies":[],"document":{"a":[{"b":1},{"b":1}],"b":"a"}}"#;
-
-// Looks for what a script writes in each form, where repeated keys are refused.
-fn expect_refusing(rt: &impl Abort, alloc: Global, script: &str, stream: &str, records: &str) {
-    let script = script_of(alloc, script).expect(rt, "a script");
-    for form in FORMS {
-        let mut output = Vec::new(alloc);
-        let input = Pieces::new(stream.as_bytes(), 65536);
-        let refuse = Repeats::Refuse;
-        let result = run_by(alloc, input, &mut output, &script, LIMIT, form, refuse);
-        assert_eq!(rt; result, Ok(()));
-        let written = std::str::from_utf8(&output);
-        assert_eq!(rt; written, Ok(records), "{form:?}");
-    }
-}
 
 // One after the other, so that a refused line leaves no trace in the next.
 #[test]
@@ -44,7 +28,11 @@ fn refused_lines(rt: HostRuntime) -> Result<(), Fail> {
         records.push_str(record)?;
         records.push('\n')?;
     }
-    expect_refusing(&rt, alloc, "[]", &stream, &records);
+    let run = Run {
+        repeats: Repeats::Refuse,
+        ..Run::new("[]", stream.as_bytes())
+    };
+    run.expect(&rt, alloc, &FORMS, &records);
     Ok(())
 }
 
@@ -59,5 +47,9 @@ fn scripts_on_refused_lines(rt: HostRuntime) {
 "#;
     let script =
         r#"[["insert",[],"a",2],["set",["b"],{"c":3,"c":4}],["reload"],["get",["b"]],["undo"]]"#;
-    expect_refusing(&rt, rt.alloc(), script, stream, records);
+    let run = Run {
+        repeats: Repeats::Refuse,
+        ..Run::new(script, stream.as_bytes())
+    };
+    run.expect(&rt, rt.alloc(), &FORMS, records);
 }

@@ -35,16 +35,23 @@ time => {"error":"ExpectedTrue","index":0,"character":"t"}
 
 // Lines whose strings end at the edge of a block of 64 bytes. In the first, bytes 63 and 64 are backslashes, and a bracket
 // stands in the string behind them. In the second, byte 63 is a backslash and byte 64 the quote that it escapes.
-const ACROSS_BLOCKS: [&str; 2] = [
+pub(super) const ACROSS_BLOCKS: [&str; 2] = [
     r#"["aaaaaaaaaaaaaaaaaaaaaaaaaaaaaaaaaaaaaaaaaaaaaaaaaaaaaaaaaaaaa\\]"]"#,
     r#"["aaaaaaaaaaaaaaaaaaaaaaaaaaaaaaaaaaaaaaaaaaaaaaaaaaaaaaaaaaaaa\"]"]"#,
 ];
 
-// Looks for the record of a line by itself, and adds both to a stream of many.
+// Many lines with their records, in order and in reverse order.
+#[derive(Drop)]
+struct Streams {
+    all: Stream,
+    reversed: Stream,
+}
+
+// Looks for the record of a line by itself, and adds both to the streams.
 fn check_row(
     rt: &impl Abort,
     alloc: Global,
-    all: &mut Stream,
+    streams: &mut Streams,
     line: &[u8],
     record: &str,
 ) -> Result<(), Fail> {
@@ -53,28 +60,39 @@ fn check_row(
     for step in [1, 63, 65536] {
         one.check(rt, alloc, LIMIT, step);
     }
-    all.add(0, line, record)?;
+    streams.all.add(0, line, record)?;
+    streams.reversed.put_first(alloc, line, record)?;
     Ok(())
 }
 
-// Each line by itself, and all in one stream.
-#[test]
-fn of_worked_lines(rt: HostRuntime) -> Result<(), Fail> {
-    let mut all = Stream::new(rt.alloc());
+// Looks for the records of each line by itself.
+fn check_rows(rt: &impl Abort, alloc: Global) -> Result<Streams, Fail> {
+    let mut streams = Streams {
+        all: Stream::new(alloc),
+        reversed: Stream::new(alloc),
+    };
     for row in ROWS.lines().skip(1) {
         let (line, record) = split_row(row)?;
-        check_row(&rt, rt.alloc(), &mut all, line.as_bytes(), record)?;
+        check_row(rt, alloc, &mut streams, line.as_bytes(), record)?;
     }
     for line in ACROSS_BLOCKS {
-        let record = format!(in rt.alloc(); r#"{{"replies":[],"document":{line}}}"#)?;
-        check_row(&rt, rt.alloc(), &mut all, line.as_bytes(), &record)?;
+        let record = format!(in alloc; r#"{{"replies":[],"document":{line}}}"#)?;
+        check_row(rt, alloc, &mut streams, line.as_bytes(), &record)?;
     }
     let not_utf8 = r#"{"error":"InvalidUtf8","index":0,"character":null}"#;
-    check_row(&rt, rt.alloc(), &mut all, b"\"\xff", not_utf8)?;
+    check_row(rt, alloc, &mut streams, b"\"\xff", not_utf8)?;
+    Ok(streams)
+}
+
+// Each line by itself, and all in one stream, in order and in reverse order.
+#[test]
+fn of_worked_lines(rt: HostRuntime) -> Result<(), Fail> {
+    let streams = check_rows(&rt, rt.alloc())?;
     for step in [1, 63, 65536] {
-        all.check(&rt, rt.alloc(), LIMIT, step);
+        streams.all.check(&rt, rt.alloc(), LIMIT, step);
+        streams.reversed.check(&rt, rt.alloc(), LIMIT, step);
     }
-    all.check_reloads(&rt, rt.alloc(), LIMIT);
+    streams.all.check_reloads(&rt, rt.alloc(), LIMIT);
     Ok(())
 }
 

@@ -1,7 +1,6 @@
 //! Writes that are taken back: worked rows.
-use super::reloads::check_reloads;
-use super::writes::check;
-use super::{FORMS, LIMIT, expect_in_forms};
+use super::FORMS;
+use super::runs::{Row, Run};
 use sj_records::Form;
 use std::test::Fail;
 
@@ -35,8 +34,9 @@ fn worked_undo(rt: HostRuntime) -> Result<(), Fail> {
             r#"{"replies":[["x"],[],[1],true,true,true],"document":"x"}"#,
         ),
     ] {
-        check(&rt, rt.alloc(), &FORMS, script, line, LIMIT, record)?;
-        check_reloads(&rt, rt.alloc(), &FORMS, script, line, LIMIT, record)?;
+        let row = Row::new(script, line, record);
+        row.check(&rt, rt.alloc(), &FORMS)?;
+        row.check_reloads(&rt, rt.alloc(), &FORMS)?;
     }
     Ok(())
 }
@@ -56,8 +56,9 @@ fn undone_without_change(rt: HostRuntime) -> Result<(), Fail> {
             r#"{"replies":[[],"NotAnArray","NoSuchPath","NotAnObject",true,false],"document":{"a":[]}}"#,
         ),
     ] {
-        check(&rt, rt.alloc(), &FORMS, script, line, LIMIT, record)?;
-        check_reloads(&rt, rt.alloc(), &FORMS, script, line, LIMIT, record)?;
+        let row = Row::new(script, line, record);
+        row.check(&rt, rt.alloc(), &FORMS)?;
+        row.check_reloads(&rt, rt.alloc(), &FORMS)?;
     }
     Ok(())
 }
@@ -81,7 +82,7 @@ fn undone_repeats(rt: HostRuntime) -> Result<(), Fail> {
     ] {
         let script = r#"[["undo"],["len",[]],["remove",[],"a"],["undo"]]"#;
         let line = r#"{"a":1,"a":2}"#;
-        check(&rt, rt.alloc(), &[form], script, line, LIMIT, record)?;
+        Row::new(script, line, record).check(&rt, rt.alloc(), &[form])?;
     }
     Ok(())
 }
@@ -101,7 +102,7 @@ fn thirteen_undone(rt: HostRuntime) -> Result<(), Fail> {
         r#""document":{"a":[1,"x"],"b":null}}"#
     );
     let line = r#"{"a":[1,"x"],"b":null}"#;
-    check(&rt, rt.alloc(), &FORMS, script, line, LIMIT, record)?;
+    Row::new(script, line, record).check(&rt, rt.alloc(), &FORMS)?;
     Ok(())
 }
 
@@ -114,5 +115,5 @@ fn undone_by_line(rt: HostRuntime) {
 {"replies":[false,[]],"document":[0,1]}
 {"replies":[false,"NotAnArray"],"document":{}}
 "#;
-    expect_in_forms(&rt, rt.alloc(), script, stream, 65536, records);
+    Run::new(script, stream.as_bytes()).expect(&rt, rt.alloc(), &FORMS, records);
 }

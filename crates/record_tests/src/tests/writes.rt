@@ -1,33 +1,13 @@
 //! Worked rows of scripts that read and write, in each form.
-use super::reloads::check_reloads;
-use super::{FORMS, LIMIT, expect, script_of};
-use sj_owned::{OwnedValue, to_owned_value};
+use super::runs::Row;
+use super::{FORMS, LIMIT, script_of};
+use sj_owned::to_owned_value;
 use sj_records::{Command, Document, Form};
 use std::alloc::{AllocError, Global};
-use std::process::Abort;
 use std::test::Fail;
 
-// Looks for the record of one line under a script, in these forms.
-pub(super) fn check(
-    rt: &impl Abort,
-    alloc: Global,
-    forms: &[Form],
-    script: &str,
-    line: &str,
-    depth: usize,
-    record: &str,
-) -> Result<(), AllocError> {
-    let stream = format!(in alloc; "{line}\n")?;
-    let records = format!(in alloc; "{record}\n")?;
-    for step in [1, 65536] {
-        let stream = stream.as_bytes();
-        expect(rt, alloc, forms, script, stream, depth, step, &records);
-    }
-    Ok(())
-}
-
 // A script, a line and its record, the same in each form.
-pub(super) const WORKED: [(&str, &str, &str); 10] = [
+pub(super) const WORKED: [(&str, &str, &str); 11] = [
     (
         r#"[["get",["a",18446744073709551615]],["get",[0]],["get",["a","0"]]]"#,
         r#"{"a":[1]}"#,
@@ -78,12 +58,13 @@ pub(super) const WORKED: [(&str, &str, &str); 10] = [
         r#"{"a":1}"#,
         r#"{"replies":["NoSuchPath","NoSuchPath","NoSuchPath","NotAnObject","NoSuchPath","NoSuchPath","NotAnArray"],"document":{"a":1}}"#,
     ),
+    ("[]", "1\r", r#"{"replies":[],"document":1}"#),
 ];
 
 #[test]
 fn worked_scripts(rt: HostRuntime) -> Result<(), Fail> {
     for (script, line, record) in &WORKED {
-        check(&rt, rt.alloc(), &FORMS, script, line, LIMIT, record)?;
+        Row::new(script, line, record).check(&rt, rt.alloc(), &FORMS)?;
     }
     Ok(())
 }
@@ -141,7 +122,7 @@ pub(super) fn by_form<'a>(kept: &'a str, lazy: &'a str) -> [(Form, &'a str); 3] 
 fn repeated_keys(rt: HostRuntime) -> Result<(), Fail> {
     for (script, line, kept, lazy) in &REPEATED_KEYS {
         for (form, record) in by_form(kept, lazy) {
-            check(&rt, rt.alloc(), &[form], script, line, LIMIT, record)?;
+            Row::new(script, line, record).check(&rt, rt.alloc(), &[form])?;
         }
     }
     Ok(())
@@ -179,7 +160,11 @@ pub(super) const LIMITS: [(&str, &str, usize, &str); 4] = [
 #[test]
 fn depth_limits(rt: HostRuntime) -> Result<(), Fail> {
     for (script, line, depth, record) in &LIMITS {
-        check(&rt, rt.alloc(), &FORMS, script, line, *depth, record)?;
+        let row = Row {
+            depth: *depth,
+            ..Row::new(script, line, record)
+        };
+        row.check(&rt, rt.alloc(), &FORMS)?;
     }
     Ok(())
 }
@@ -196,7 +181,7 @@ fn put_member(alloc: Global, out: &mut String, number: u8, value: u8) -> Result<
 }
 
 // An object of the members from `first` to 39.
-fn forty(alloc: Global, first: u8) -> Result<String, AllocError> {
+pub(super) fn forty(alloc: Global, first: u8) -> Result<String, AllocError> {
     let mut text = String::from_str(alloc, "{")?;
     for number in first..40u8 {
         if number > first {
@@ -215,8 +200,9 @@ fn forty_equal_hashes(rt: HostRuntime) -> Result<(), Fail> {
     let left = forty(alloc, 1)?;
     let record = format!(in alloc; r#"{{"replies":[[39],[0],39],"document":{left}}}"#)?;
     let script = r#"[["get",["BBAaAaBBBBBB"]],["remove",[],"AaAaAaAaAaAa"],["len",[]]]"#;
-    check(&rt, alloc, &FORMS, script, &line, LIMIT, &record)?;
-    check_reloads(&rt, alloc, &FORMS, script, &line, LIMIT, &record)
+    let row = Row::new(script, &line, &record);
+    row.check(&rt, alloc, &FORMS)?;
+    row.check_reloads(&rt, alloc, &FORMS)
 }
 
 // The first of them is taken out, and comes back to its place.
@@ -227,7 +213,7 @@ fn forty_equal_hashes_undone(rt: HostRuntime) -> Result<(), Fail> {
     let record = format!(in alloc; r#"{{"replies":[[0],true,[0],[39]],"document":{line}}}"#)?;
     let script =
         r#"[["remove",[],"AaAaAaAaAaAa"],["undo"],["get",["AaAaAaAaAaAa"]],["get",["BBAaAaBBBBBB"]]]"#;
-    check(&rt, alloc, &FORMS, script, &line, LIMIT, &record)?;
+    Row::new(script, &line, &record).check(&rt, alloc, &FORMS)?;
     Ok(())
 }
 
@@ -244,58 +230,13 @@ fn forty_equal_hashes_twice(rt: HostRuntime) -> Result<(), Fail> {
     line.push('}')?;
     let script = r#"[["len",[]],["get",["AaAaAaAaAaAa"]]]"#;
     let kept = format!(in alloc; r#"{{"replies":[40,[0]],"document":{once}}}"#)?;
-    check(
-        &rt,
-        alloc,
-        &[Form::Owned, Form::Borrowed],
-        script,
-        &line,
-        LIMIT,
-        &kept,
-    )?;
+    Row::new(script, &line, &kept).check(&rt, alloc, &[Form::Owned, Form::Borrowed])?;
     let whole = format!(in alloc; r#"{{"replies":[80,[0]],"document":{line}}}"#)?;
-    check(&rt, alloc, &[Form::Lazy], script, &line, LIMIT, &whole)?;
+    Row::new(script, &line, &whole).check(&rt, alloc, &[Form::Lazy])?;
     Ok(())
 }
 
-// Looks at what the call left of the document {"a":{"k":"old"}}, and at what it appended.
-fn expect_written(
-    rt: &impl Abort,
-    alloc: Global,
-    document: &OwnedValue,
-    hands_out: Option<bool>,
-    out: &[u8],
-) -> Result<(), AllocError> {
-    let mut shown = Vec::new(alloc);
-    Document::text(document, &mut shown)?;
-    let is_new = shown.as_slice() == br#"{"a":{"k":["new"]}}"#.as_slice();
-    match hands_out {
-        Some(has_inverse) => {
-            assert!(rt; is_new && has_inverse);
-            assert_eq!(rt; out, br#"> ["old"]"#.as_slice());
-        }
-        None => {
-            assert!(rt; is_new || shown.as_slice() == br#"{"a":{"k":"old"}}"#.as_slice());
-            assert_eq!(rt; out, b"> ".as_slice());
-        }
-    }
-    Ok(())
-}
-
-// Makes the call, and returns whether it hands out an inverse, or nothing on want of memory.
-fn call_insert(
-    command: &Command,
-    document: &mut OwnedValue,
-    out: &mut Vec<u8>,
-) -> Result<Option<bool>, Fail> {
-    let Command::Insert(path, key, value) = command else {
-        return Err(Fail::new("another command"));
-    };
-    let done = Document::insert(document, path, key, value, LIMIT, out);
-    Ok(done.ok().map(|inverse| inverse.is_some()))
-}
-
-// A write call appends its reply and hands out an inverse, or on want of memory appends nothing. Then the document is as it was or as the write leaves it.
+// A write call on a document appends its reply and hands out an inverse.
 #[test]
 fn write_call(rt: HostRuntime) -> Result<(), Fail> {
     let alloc = rt.alloc();
@@ -303,10 +244,14 @@ fn write_call(rt: HostRuntime) -> Result<(), Fail> {
         .ok()
         .ok_or("no script")?;
     assert_eq!(rt; script.len(), 1);
+    let Command::Insert(path, key, value) = script.command(0) else {
+        return Err(Fail::new("another command"));
+    };
     let mut text = *br#"{"a":{"k":"old"}}"#;
     let mut document = to_owned_value(alloc, &mut text)?;
     let mut out = b"> ".to_vec(alloc)?;
-    let hands_out = call_insert(script.command(0), &mut document, &mut out)?;
-    expect_written(&rt, alloc, &document, hands_out, &out)?;
+    let inverse = Document::insert(&mut document, path, key, value, LIMIT, &mut out)?;
+    assert!(rt; inverse.is_some());
+    assert_eq!(rt; out.as_slice(), br#"> ["old"]"#.as_slice());
     Ok(())
 }

@@ -1,34 +1,56 @@
-use Rattle.std.proofs.Common.{◌≡◌, [], ◌∷◌, ◌++◌, max, refl, sym, ap, subst, ◌∙◌, append_assoc, arith, rules}
-use Rattle.sj_base.specs.Tree.{depth, members_depth}
+use Rattle.std.specs.Prelude.{IsUtf8}
+use Rattle.std.proofs.Common.{◌≡◌, ◌+◌, suc, [], ◌∷◌, ◌++◌, drop, max, refl, sym, ap, ap₂, subst, ◌∙◌, append_assoc, add-one, arith, rules}
+use Rattle.std.proofs.Math.Seq.{drop-cons}
+use Rattle.sj_base.specs.Tree.{depth, item, items_depth, members_depth, AreValidItems, AreValidMembers}
 use Rattle.sj_object.specs.Iterators.{entries_left}
 use Rattle.sj_object.specs.declared.entry.Entry.{Entry}
-use Rattle.sj_owned.specs.Views.{value_tree, members_view}
+use Rattle.sj_owned.specs.Views.{value_tree, items_view, members_view}
 use Rattle.sj_owned.specs.declared.value.Value.{Value}
+use Rattle.sj_owned.specs.inside.Depths.{KeepItems}
 use Rattle.sj_owned.proofs.Depths.{KeepEach, one_member_more, distinct_kept}
 use Rattle.sj_owned.proofs.depth.+count_levels.Goals as goal
 
-pub count_member_levels-loop-member-init : goal.count_member_levels-loop-member-init
-count_member_levels-loop-member-init g t c =
+pub count_item_levels-loop-item-preserved : goal.count_item_levels-loop-item-preserved
+count_item_levels-loop-item-preserved g t c =
     let text = g.K.ObjectKey.text in
     let literal = g.D.Literal.literal in
-    let all : entries_left c.into_iter-member-iterator.result ≡ c.args.members.now = c.into_iter-member-iterator.ensures.into_iter_gives in
-    let same : members_depth (members_view text literal (entries_left c.into_iter-member-iterator.result)) ≡ members_depth (members_view text literal c.args.members.now) = ap (λ es. members_depth (members_view text literal es)) all in
-    (tt, tt, [], sym all, omega (arith, same), λ each. subst (λ es. KeepEach text literal es) all each)
+    let at = c.loop-item in
+    let v : Value g.row.K.Denot g.row.D.Denot = c.item-item.result in
+    let items = c.deref-item-items.result.now in
+    let left = drop (at.item-index + 1) items in
+    let first : drop at.item-index items ≡ v ∷ left = rw add-one (drop-cons items at.item-index v c.loop-item-test.true ∙ ap (λ w. w ∷ drop (suc at.item-index) items) (sym c.item-item.is)) in
+    let deeper : max at.deepest (max (depth (value_tree text literal v)) (items_depth (items_view text literal left))) ≡ items_depth (items_view text literal items) = ap (λ vs. max at.deepest (items_depth (items_view text literal vs))) (sym first) ∙ at.invariant.0 in
+    let now : max c.max-deepest.result (items_depth (items_view text literal left)) ≡ items_depth (items_view text literal items) = search rules in
+    let each : KeepItems text literal left → KeepItems text literal items = λ rest. at.invariant.1 (rw first (ap₂ item c.in_ok-count_levels.ensures.kept rest)) in
+    let valid : AreValidItems (items_view text literal left) → AreValidItems (items_view text literal items) = λ rest. at.invariant.2 (rw first (c.in_ok-count_levels.ensures.valid, rest)) in
+    (now, each, valid)
 
-pub count_member_levels-loop-member-preserved : goal.count_member_levels-loop-member-preserved
-count_member_levels-loop-member-preserved g t c =
+pub count_member_levels-loop-key-init : goal.count_member_levels-loop-key-init
+count_member_levels-loop-key-init g t c =
     let text = g.K.ObjectKey.text in
     let literal = g.D.Literal.literal in
-    let at = c.loop-member in
+    let all : entries_left c.into_iter-key-iterator.result ≡ c.args.members.now = c.into_iter-key-iterator.ensures.into_iter_gives in
+    let same : members_depth (members_view text literal (entries_left c.into_iter-key-iterator.result)) ≡ members_depth (members_view text literal c.args.members.now) = ap (λ es. members_depth (members_view text literal es)) all in
+    (tt, tt, [], sym all, omega (arith, same), λ each. subst (λ es. KeepEach text literal es) all each, λ valid. subst (λ es. AreValidMembers (members_view text literal es)) all valid)
+
+pub count_member_levels-loop-key-preserved : goal.count_member_levels-loop-key-preserved
+count_member_levels-loop-key-preserved g t c =
+    let text = g.K.ObjectKey.text in
+    let literal = g.D.Literal.literal in
+    let at = c.loop-key in
     let done = at.invariant.2 in
-    let e : Entry g.row.K.Denot (Value g.row.K.Denot g.row.D.Denot) = record { key = c.in-Some.field-0-0.now; value = c.in-Some.member.now } in
+    let e : Entry g.row.K.Denot (Value g.row.K.Denot g.row.D.Denot) = record { key = c.in-Some.key.now; value = c.in-Some.member.now } in
     let left = entries_left c.next.new.self in
-    let first : entries_left at.member-iterator ≡ e ∷ left = search rules in
+    let first : entries_left at.key-iterator ≡ e ∷ left = search rules in
     let all : c.args.members.now ≡ done ++ e ∷ left = at.invariant.3 ∙ ap (λ es. done ++ es) first in
     let deeper : max at.deepest (max (depth (value_tree text literal c.in-Some.member.now)) (members_depth (members_view text literal left))) ≡ members_depth (members_view text literal c.args.members.now) = ap (λ es. max at.deepest (members_depth (members_view text literal es))) (sym first) ∙ at.invariant.4 in
     let now : max c.max-deepest.result (members_depth (members_view text literal left)) ≡ members_depth (members_view text literal c.args.members.now) = search rules in
     let each : KeepEach text literal left → KeepEach text literal c.args.members.now = λ rest. at.invariant.5 (rw first (one_member_more text literal e left c.in_ok-count_levels.ensures.kept rest)) in
-    (tt, tt, done ++ e ∷ [], all ∙ sym (append_assoc done (e ∷ []) left), now, each)
+    let valid : AreValidMembers (members_view text literal left) → AreValidMembers (members_view text literal c.args.members.now) = λ rest. at.invariant.6 (rw first (subst IsUtf8 c.as_text-text.ensures c.as_text-text.utf8, c.in_ok-count_levels.ensures.valid, rest)) in
+    (tt, tt, done ++ e ∷ [], all ∙ sym (append_assoc done (e ∷ []) left), now, each, valid)
 
 pub count_member_levels-returns-clause-kept : goal.count_member_levels-returns-clause-kept
-count_member_levels-returns-clause-kept g t c = distinct_kept g.K.ObjectKey.text g.D.Literal.literal c.args.members.now c.len.ensures.distinct (c.loop-member.invariant.5 (rw c.in-None.ensures.steps.0 refl))
+count_member_levels-returns-clause-kept g t c = distinct_kept g.K.ObjectKey.text g.D.Literal.literal c.args.members.now c.len.ensures.distinct (c.loop-key.invariant.5 (rw c.in-None.ensures.steps.0 refl))
+
+pub count_member_levels-returns-clause-valid : goal.count_member_levels-returns-clause-valid
+count_member_levels-returns-clause-valid g t c = c.loop-key.invariant.6 (rw c.in-None.ensures.steps.0 tt)

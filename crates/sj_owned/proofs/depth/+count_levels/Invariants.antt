@@ -1,5 +1,5 @@
 use Rattle.std.proofs.Common.{◌≡◌, ◌++◌, List, drop, max}
-use Rattle.sj_base.specs.Tree.{items_depth, members_depth}
+use Rattle.sj_base.specs.Tree.{items_depth, members_depth, AreValidItems, AreValidMembers}
 use Rattle.sj_object.specs.Iterators.{entries_left}
 use Rattle.sj_object.specs.declared.entry.Entry.{Entry}
 use Rattle.sj_owned.specs.Views.{items_view, members_view}
@@ -14,14 +14,16 @@ invariant-count_item_levels-loop-item g l =
     let literal = g.D.Literal.literal in
     (max l.deepest (items_depth (items_view text literal (drop l.item-index l.item-items))) ≡ items_depth (items_view text literal l.item-items))
     × (KeepItems text literal (drop l.item-index l.item-items) → KeepItems text literal l.item-items)
+    × (AreValidItems (items_view text literal (drop l.item-index l.item-items)) → AreValidItems (items_view text literal l.item-items))
 
-abbrev pub invariant-count_member_levels-loop-member : goal.invariant-count_member_levels-loop-member
-invariant-count_member_levels-loop-member g l =
+abbrev pub invariant-count_member_levels-loop-key : goal.invariant-count_member_levels-loop-key
+invariant-count_member_levels-loop-key g l =
     let text = g.K.ObjectKey.text in
     let literal = g.D.Literal.literal in
-    (goal.iterator-count_member_levels-loop-member g).can_next l.member-iterator
-    × (goal.iterator-count_member_levels-loop-member g).is_finite l.member-iterator
+    (goal.iterator-count_member_levels-loop-key g).can_next l.key-iterator
+    × (goal.iterator-count_member_levels-loop-key g).is_finite l.key-iterator
     × (done : List (Entry g.row.K.Denot (Value g.row.K.Denot g.row.D.Denot)))
-    × (l.fn.members ≡ done ++ entries_left l.member-iterator)
-    × (max l.deepest (members_depth (members_view text literal (entries_left l.member-iterator))) ≡ members_depth (members_view text literal l.fn.members))
-    × (KeepEach text literal (entries_left l.member-iterator) → KeepEach text literal l.fn.members)
+    × (l.fn.members ≡ done ++ entries_left l.key-iterator)
+    × (max l.deepest (members_depth (members_view text literal (entries_left l.key-iterator))) ≡ members_depth (members_view text literal l.fn.members))
+    × (KeepEach text literal (entries_left l.key-iterator) → KeepEach text literal l.fn.members)
+    × (AreValidMembers (members_view text literal (entries_left l.key-iterator)) → AreValidMembers (members_view text literal l.fn.members))

@@ -9,8 +9,8 @@ use Rattle.std.proofs.lemmas.Result.{err_from_is_err_and}
 use Rattle.sj_records.specs.inside.Progress.{task_job}
 use Rattle.sj_records.proofs.Counts.{GoesOn-some, GoesOn-interrupted, GoesOn-then}
 use Rattle.sj_records.proofs.Running.{Running-clean, Running-idle, Running-more, Running-failed, Running-piece_failed, Running-ended, Running-read}
-use Rattle.sj_records.proofs.engine.run_within.Goals as goal
-use Rattle.sj_records.proofs.engine.run_within.Goals.{in-Ok+in_ok-process_piece-in-Ok, in-Err}
+use Rattle.sj_records.proofs.engine.run_task.Goals as goal
+use Rattle.sj_records.proofs.engine.run_task.Goals.{in-Ok+in_ok-process_piece-in-Ok, in-Err}
 
 pub returns-in-Ok-eq0-clause-stands : goal.returns-in-Ok-eq0-clause-stands
 returns-in-Ok-eq0-clause-stands g c =

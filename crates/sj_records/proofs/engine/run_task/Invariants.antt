@@ -4,7 +4,7 @@ use Rattle.sj_records.specs.Run.{GoesOn}
 use Rattle.sj_records.specs.inside.Progress.{task_job}
 use Rattle.sj_records.proofs.Running.{Running}
 use Rattle.sj_parse.specs.Answers.{buffer_limit}
-use Rattle.sj_records.proofs.engine.run_within.Given as goal
+use Rattle.sj_records.proofs.engine.run_task.Given as goal
 
 abbrev pub invariant-loop : goal.invariant-loop
 invariant-loop g l = record {

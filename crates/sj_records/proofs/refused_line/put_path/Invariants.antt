@@ -4,7 +4,7 @@ use Rattle.sj_base.specs.Text.{items_text}
 use Rattle.sj_tape.specs.Repeats.{part_view}
 use Rattle.sj_documents.specs.inside.Documents.{items_left}
 use Rattle.sj_records.specs.Record.{part_items}
-use Rattle.sj_records.proofs.task.put_path.Given as goal
+use Rattle.sj_records.proofs.refused_line.put_path.Given as goal
 
 -- what was appended, and what is left
 abbrev pub invariant-loop-part : goal.invariant-loop-part

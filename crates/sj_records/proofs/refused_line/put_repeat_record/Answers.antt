@@ -3,7 +3,7 @@ use Rattle.sj_base.specs.Text.{items_text}
 use Rattle.sj_tape.specs.Repeats.{part_view, repeat_view}
 use Rattle.sj_records.specs.Record.{part_items}
 use Rattle.sj_records.proofs.RecordText.{repeat_printed}
-use Rattle.sj_records.proofs.task.put_repeat_record.Goals as goal
+use Rattle.sj_records.proofs.refused_line.put_repeat_record.Goals as goal
 
 pub returns : goal.returns
 returns c =

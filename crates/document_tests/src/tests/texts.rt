@@ -1,0 +1,61 @@
+//! Of `sj_owned`: the texts of a document are read back as the document.
+ghost use Rattle.std.specs.Prelude.{IfOk};
+ghost use Rattle.sj_base.specs.Spelling.{Spells};
+ghost use Rattle.sj_owned.specs.Views.{value_tree};
+
+use super::{expect_eq, owned_of};
+use sj_base::laws::printing_reads_back;
+use sj_object::ObjectKey;
+use sj_owned::{Literal, Value, to_owned_value};
+use std::alloc::{AllocError, Global};
+use std::process::Abort;
+use std::test::Fail;
+
+// The compact text of a document. Its clause says what the text spells, so that every reading of it gives this tree.
+fn compact<K: ObjectKey, D: Literal>(
+    alloc: Global,
+    value: &Value<K, D>,
+) -> Result<Vec<u8>, AllocError>
+    ensures { IfOk result (λ text. Spells text.items (value_tree K.text D.literal value.now)) }
+{
+    printing_reads_back();
+    let _levels = value.depth()?;
+    let mut text = Vec::new(alloc);
+    value.encode(&mut text)?;
+    Ok(text)
+}
+
+// The indented text, as `compact`.
+fn indented<K: ObjectKey, D: Literal>(
+    alloc: Global,
+    value: &Value<K, D>,
+) -> Result<Vec<u8>, AllocError>
+    ensures { IfOk result (λ text. Spells text.items (value_tree K.text D.literal value.now)) }
+{
+    printing_reads_back();
+    let _levels = value.depth()?;
+    let mut text = Vec::new(alloc);
+    value.encode_pp(&mut text)?;
+    Ok(text)
+}
+
+fn expect_read_back(rt: &impl Abort, alloc: Global, json: &str) -> Result<(), Fail> {
+    let value = owned_of(alloc, json)?;
+    let mut text = compact(alloc, &value)?;
+    expect_eq(rt, &to_owned_value(alloc, &mut text)?, &value);
+    let mut text = indented(alloc, &value)?;
+    expect_eq(rt, &to_owned_value(alloc, &mut text)?, &value);
+    Ok(())
+}
+
+#[test]
+fn read_back(rt: HostRuntime) -> Result<(), Fail> {
+    for json in [
+        "-0",
+        r#"{"a":[1,-2,1.50,18446744073709551616],"":{"é":null,"\u001f":true}}"#,
+        r#"[[],{},"\ud83d\ude00\"\\",{"b":[{"c":[]}]}]"#,
+    ] {
+        expect_read_back(&rt, rt.alloc(), json)?;
+    }
+    Ok(())
+}

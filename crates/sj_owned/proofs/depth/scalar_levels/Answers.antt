@@ -1,0 +1,5 @@
+use Rattle.sj_base.proofs.Carriers.{IsDecimal-decimal_text}
+use Rattle.sj_owned.proofs.depth.scalar_levels.Goals as goal
+
+pub returns-in-Literal-clause-valid : goal.returns-in-Literal-clause-valid
+returns-in-Literal-clause-valid c = rw c.in-Literal.is (IsDecimal-decimal_text c.in-Literal._literal)

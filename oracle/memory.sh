@@ -1,0 +1,113 @@
+#!/usr/bin/env bash
+# Refuses one request for memory after another to `records` and to tests, and fails where they do anything but say so.
+#
+#     oracle/memory.sh [program] [tests]
+#
+# `program`: in each form `records` runs two scripts over three lines with its Nth request refused, for N from 1 on, until it makes
+# fewer than N; then again with the Nth request and all behind it refused. Each of these runs has to end with status 1, with
+# `records: memory` on standard error, and to leave the records of the first lines, whole: never fewer than the run before, and of
+# all lines but the last one where the last request is refused.
+#
+# `tests`: those of the tests below that look at what stands after a refusal run with each of their requests refused. They may fail
+# for the want of memory, but not by an assertion.
+#
+# Without a word it does both. It needs gcc, glibc and Python 3. What is missing of the program and the tests is made by `rt run` and
+# `rt test`. Settings are taken from the environment:
+#
+#     RECORDS=FILE     the program
+set -eu
+
+top=$(cd "$(dirname "$0")/.." && pwd)
+work=$(mktemp -d)
+trap 'rm -rf "$work"' EXIT
+gcc -O1 -shared -fPIC -o "$work/refuse.so" "$top/oracle/refuse.c"
+
+make_it() { # make_it CRATE FILE COMMAND..
+    local crate=$1 file=$2
+    shift 2
+    if [ ! -x "$file" ] && ! (cd "$top/crates/$crate" && "$@" > "$work/log" 2>&1); then
+        echo "$file can't be made: $(tail -n 1 "$work/log")" >&2
+        exit 1
+    fi
+}
+
+fail() { # fail WHAT
+    echo "$of, request $number${rest:+ and all behind it}: $1" >&2
+    exit 1
+}
+
+run() { # run: the program with the request refused
+    status=0
+    env ${number:+REFUSE=$number} ${rest:+REFUSE_REST=1} LD_PRELOAD="$work/refuse.so" \
+        "$program" --form "$form" "$work/$script.json" < "$work/lines.jsonl" > "$work/out" 2> "$work/err" || status=$?
+}
+
+refuse_to_program() {
+    program=${RECORDS:-$top/crates/records_cli/out/records_cli}
+    make_it records_cli "$program" rt run
+    # The third line has forty keys of one hash.
+    python3 - > "$work/lines.jsonl" << 'END'
+print('{"key": "value", "snot": 42}')
+print('{"a":1,"a":2}')
+members = (f'"{"".join("BB" if i >> bit & 1 else "Aa" for bit in range(5, -1, -1))}":{i}' for i in range(40))
+print("{" + ",".join(members) + "}")
+END
+    echo '[["get",["key"]],["insert",[],"new",42],["get",["new"]]]' > "$work/edit.json"
+    echo '[["reload"],["push",[],0],["insert",[],"z",[1]],["remove",[],"z"],["undo"]]' > "$work/undo.json"
+    echo 'records: memory' > "$work/said"
+    for form in owned borrowed lazy; do
+        for script in edit undo; do
+            of="$form, $script" number='' rest=''
+            run
+            [ "$status" = 0 ] || fail "status $status, where nothing is refused"
+            mv "$work/out" "$work/whole"
+            for rest in '' yes; do
+                number=1 records=0
+                while run && [ "$status" != 0 ]; do
+                    [ "$status" = 1 ] || fail "status $status"
+                    cmp -s "$work/err" "$work/said" || fail "it said: $(head -c 200 "$work/err")"
+                    left=$(wc -l < "$work/out")
+                    head -n "$left" "$work/whole" | cmp -s - "$work/out" || fail 'what it wrote is no run of whole records'
+                    [ "$left" -ge "$records" ] || fail "$left records, and $records with a request before it refused"
+                    number=$((number + 1)) records=$left
+                done
+                cmp -s "$work/out" "$work/whole" || fail 'it ended with 0, and other records'
+                [ "$records" = 2 ] || fail "$records records, where the last request was refused"
+            done
+            echo "$of: each of $((number - 1)) requests refused, alone and with all behind it"
+        done
+    done
+}
+
+refuse_to_tests() {
+    rest=''
+    while read -r crate test; do
+        of="$crate, $test"
+        tests=$top/crates/$crate/out/${crate}_tests
+        make_it "$crate" "$tests" rt test
+        REFUSE_MADE="$work/made" LD_PRELOAD="$work/refuse.so" "$tests" "$test" > "$work/out" 2>&1 || fail "$(cat "$work/out")"
+        made=$(cat "$work/made")
+        for ((number = 1; number <= made; number++)); do
+            if ! REFUSE=$number LD_PRELOAD="$work/refuse.so" "$tests" "$test" > "$work/out" 2>&1; then
+                grep -q 'the test failed: its result gives status 1' "$work/out" || fail "$(cat "$work/out")"
+            fi
+        done
+        echo "$of: each of $made requests refused"
+    done << 'END'
+tape_tests tests::objects::refused_pairs
+tape_tests tests::tapes::second_text_of_a_kind
+key_tests tests::made_for_new_keys
+lazy_tests tests::first_writes
+lazy_tests tests::value_of_a_tape
+record_tests tests::memory::edits_without_memory
+record_tests tests::memory::reloads_without_memory
+END
+}
+
+for what in ${*:-program tests}; do
+    case $what in
+        program) refuse_to_program ;;
+        tests) refuse_to_tests ;;
+        *) echo "usage: oracle/memory.sh [program] [tests]" >&2; exit 2 ;;
+    esac
+done
