@@ -3,10 +3,10 @@
 #
 #     oracle/memory.sh [program] [tests]
 #
-# `program`: in each form `records` runs two scripts over three lines with its Nth request refused, for N from 1 on, until it makes
-# fewer than N; then again with the Nth request and all behind it refused. Each of these runs has to end with status 1, with
-# `records: memory` on standard error, and to leave the records of the first lines, whole: never fewer than the run before, and of
-# all lines but the last one where the last request is refused.
+# `program`: in each form `records` runs two scripts over three lines with its Nth request refused, for each N up to the number of
+# requests that it makes; then with the Nth request and all behind it refused. Each of these runs has to end with status 1, with
+# `records: memory` on standard error, and to leave the records of the first lines, whole: never fewer than a run before, and of all
+# lines but the last one in the end. A run that does without the request has to end with status 0 and to leave all records.
 #
 # `tests`: those of the tests below that look at what stands after a refusal run with each of their requests refused. They may fail
 # for the want of memory, but not by an assertion.
@@ -38,7 +38,7 @@ fail() { # fail WHAT
 
 run() { # run: the program with the request refused
     status=0
-    env ${number:+REFUSE=$number} ${rest:+REFUSE_REST=1} LD_PRELOAD="$work/refuse.so" \
+    env REFUSE_MADE="$work/made" ${number:+REFUSE=$number} ${rest:+REFUSE_REST=1} LD_PRELOAD="$work/refuse.so" \
         "$program" --form "$form" "$work/$script.json" < "$work/lines.jsonl" > "$work/out" 2> "$work/err" || status=$?
 }
 
@@ -61,20 +61,26 @@ END
             run
             [ "$status" = 0 ] || fail "status $status, where nothing is refused"
             mv "$work/out" "$work/whole"
+            made=$(cat "$work/made")
             for rest in '' yes; do
-                number=1 records=0
-                while run && [ "$status" != 0 ]; do
+                records=0 passed=0
+                for ((number = 1; number <= made; number++)); do
+                    run
+                    if [ "$status" = 0 ]; then
+                        cmp -s "$work/out" "$work/whole" || fail 'it ended with 0, and other records'
+                        passed=$((passed + 1))
+                        continue
+                    fi
                     [ "$status" = 1 ] || fail "status $status"
                     cmp -s "$work/err" "$work/said" || fail "it said: $(head -c 200 "$work/err")"
                     left=$(wc -l < "$work/out")
                     head -n "$left" "$work/whole" | cmp -s - "$work/out" || fail 'what it wrote is no run of whole records'
                     [ "$left" -ge "$records" ] || fail "$left records, and $records with a request before it refused"
-                    number=$((number + 1)) records=$left
+                    records=$left
                 done
-                cmp -s "$work/out" "$work/whole" || fail 'it ended with 0, and other records'
-                [ "$records" = 2 ] || fail "$records records, where the last request was refused"
+                [ "$records" = 2 ] || fail "$records records, where the last request that counts was refused"
+                echo "$of: each of $made requests refused${rest:+ with all behind it}; it did without $passed of them"
             done
-            echo "$of: each of $((number - 1)) requests refused, alone and with all behind it"
         done
     done
 }
