@@ -232,6 +232,36 @@ fn made_for_new_keys(rt: HostRuntime) -> Result<(), Fail> {
     Ok(())
 }
 
+// The same of the members of a document.
+#[test]
+fn made_for_new_members(rt: HostRuntime) -> Result<(), Fail> {
+    let alloc = rt.alloc();
+    let mut document = OwnedValue::object(alloc);
+    let mut calls = 0u64;
+    for text in ["key", "cake", "key"] {
+        let calls_before = calls;
+        let before = document.try_clone()?;
+        let with = || {
+            calls = calls.wrapping_add(1);
+            OwnedValue::from(calls)
+        };
+        match KnownKey::from(text).lookup_or_insert_mut(alloc, &mut document, with) {
+            Ok(found) => {
+                let wanted = if text == "key" { 1 } else { 2 };
+                expect_eq(&rt, found.as_u64(), Some(wanted));
+            }
+            Err(error) => {
+                expect_eq(&rt, error, KnownKeyError::Memory);
+                expect_eq(&rt, calls, calls_before);
+                expect_eq(&rt, &document, &before);
+                return Err(Fail::new("no memory"));
+            }
+        }
+    }
+    expect_eq(&rt, calls, 2);
+    Ok(())
+}
+
 // Six blocks, one for each binary digit of `number`, highest first. All of them have one hash.
 fn colliding_key(alloc: Global, number: u64) -> Result<String, AllocError> {
     let mut key = String::new(alloc);

@@ -161,6 +161,14 @@ enum Lending {
     GetIdxMut,
 }
 
+const LENDINGS: [Lending; 5] = [
+    Lending::ValueMut,
+    Lending::AsArrayMut,
+    Lending::AsObjectMut,
+    Lending::GetMut,
+    Lending::GetIdxMut,
+];
+
 impl Lending {
     // Makes the call, and returns whether there was memory for it.
     fn is_made(self, value: &mut Value<'_, '_, '_>, alloc: Global) -> bool {
@@ -179,13 +187,7 @@ impl Lending {
 #[test]
 fn first_writes(rt: HostRuntime) -> Result<(), Fail> {
     let alloc = rt.alloc();
-    for call in [
-        Lending::ValueMut,
-        Lending::AsArrayMut,
-        Lending::AsObjectMut,
-        Lending::GetMut,
-        Lending::GetIdxMut,
-    ] {
+    for call in LENDINGS {
         on_text(alloc, r#"{"a":1,"a":2}"#, |value| {
             let is_made = call.is_made(value, alloc);
             assert!(rt;
@@ -245,6 +247,23 @@ fn borrowed_document(rt: HostRuntime) -> Result<(), Fail> {
     expect_removed(&rt, alloc, &mut held(&document))?;
     expect_made(&rt, alloc, held(&document), r#"{"a":[1,2],"s":"x"}"#)?;
     assert!(rt; owns_document(held(&document), alloc));
+    Ok(())
+}
+
+// Each call that lends a part for writing, as the first one on such a value. If the copy lacks memory, as
+// `oracle/memory.sh` has it, the value goes on borrowing the document.
+#[test]
+fn first_writes_to_copies(rt: HostRuntime) -> Result<(), Fail> {
+    let alloc = rt.alloc();
+    let mut text = *br#"{"a":[1,2],"s":"x"}"#;
+    let document = to_borrowed_value(alloc, &mut text)?;
+    for call in LENDINGS {
+        let mut value = held(&document);
+        let is_made = call.is_made(&mut value, alloc);
+        let is_owned = matches!(value, Value::Value(Held::Owned(_)));
+        assert!(rt; is_owned == is_made, "{call:?}");
+        expect_text(&rt, alloc, &value, r#"{"a":[1,2],"s":"x"}"#)?;
+    }
     Ok(())
 }
 

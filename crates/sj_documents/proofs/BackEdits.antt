@@ -3,7 +3,7 @@ use Rattle.std.proofs.Common.{◌≡◌, ℕ, zero, suc, ◌≤◌, length, Bool
 use Rattle.std.specs.Prelude.{bytes_eq, cond, not, ◌&&◌, nat_le, is_some, is_err, ok_or, option_and_then, OnOk, OnErr, if◌then◌else◌}
 use Rattle.std.specs.Option.{unwrap_or}
 use Rattle.std.proofs.lemmas.Bool.{and_from, and_parts, le-leb, leb-true}
-use Rattle.std.proofs.lemmas.Option.{none-some}
+use Rattle.std.proofs.lemmas.Option.{none-some, same_Some}
 use Rattle.sj_base.specs.Tree.{Tree, object, Members, member}
 use Rattle.sj_base.specs.Path.{Part, member_at, at}
 use Rattle.sj_base.specs.Containers.{members_len, items_in, members_in}
@@ -114,6 +114,16 @@ module _ {K D : Type 0} (text : K → List ℕ) (literal : D → List ℕ) where
   members_set [] k w old found = absurd (none-some old found)
   members_set (e ∷ es) k w old found =
       set_or_on (bytes_eq (text e.key) k) e es k w refl (λ other. members_set es k w old (found_behind (bytes_eq (text e.key) k) e.value old (pairs.value_at text es k) other found))
+
+  -- a value that is put where it is
+  same_first : (b : Bool) (e : Entry K (Value K D)) (w : Value K D) (es more : List (Entry K (Value K D))) (o : Option (Value K D)) → (if b then Some e.value else o) ≡ Some w → (o ≡ Some w → more ≡ es)
+      → (if b then record e { value = w } ∷ es else e ∷ more) ≡ e ∷ es
+  same_first true e w es more o found rest = ap (λ v. record e { value = v } ∷ es) (sym (same_Some e.value w found))
+  same_first false e w es more o found rest = ap (λ l. e ∷ l) (rest found)
+
+  pub same_set : (es : List (Entry K (Value K D))) (k : List ℕ) (w : Value K D) → pairs.value_at text es k ≡ Some w → pairs.set_value text es k w ≡ es
+  same_set [] k w found = refl
+  same_set (e ∷ es) k w found = same_first (bytes_eq (text e.key) k) e w es (pairs.set_value text es k w) (pairs.value_at text es k) found (same_set es k w)
 
   module _ (v : Value K D) (es : List (Entry K (Value K D))) (is : members_inside v ≡ Some es) (k : List ℕ) (t : Tree) where
     set_or_not : changed (set_member k t) (tree v) ≡ (if is_some (member_at (members es) k) then Some (object (edits.put_member (members es) k t)) else None)

@@ -17,9 +17,7 @@ use Rattle.sj_owned.specs.Edits.{with_member, without_member, without_last, last
 use Rattle.sj_owned.specs.Parts.{member_of}
 use Rattle.sj_owned.proofs.Members.{value_member}
 use Rattle.sj_documents.specs.Step.{if_fits, reply_of, insertion, removal, popping}
-
-same_Ok : {A E : Type 0} (x y : A) (r s : Result A E) → r ≡ Ok x → s ≡ Ok y → r ≡ s → x ≡ y
-same_Ok x y r s f g e = cc
+use Rattle.sj_documents.proofs.Changes.{same_ok}
 
 module _ {K D : Type 0} (text : K → List ℕ) (literal : D → List ℕ) where
   -- the containers inside a document are those of its tree
@@ -78,7 +76,7 @@ module _ {K D : Type 0} (text : K → List ℕ) (literal : D → List ℕ) where
       removed_at (Some es) is now was =
           let found : members_in (tree v) ≡ Some (members_view text literal es) = members-inside v ∙ ap (option_map (members_view text literal)) is in
           let dropped : object (drop_member (members_view text literal es) k) ≡ tree w = same_Some _ _ (sym (now ∙ ap (option_map (λ ms. object (drop_member ms k))) found)) in
-          let value : old ≡ value_at text es k = same_Ok _ _ _ _ refl refl (was ∙ ap (λ o. ok_or (option_map (λ es. value_at text es k) o) AccessError.NotAnObject) is) in
+          let value : old ≡ value_at text es k = same_ok _ _ _ _ refl refl (was ∙ ap (λ o. ok_or (option_map (λ es. value_at text es k) o) AccessError.NotAnObject) is) in
           let reply : member_at (members_view text literal es) k ≡ option_map tree old = sym (value_member text tree es k) ∙ ap (option_map tree) (sym value) in
           ap (λ o. ok_or o (codes "NotAnObject") >>= λ ms. Ok (reply_of (member_at ms k), object (drop_member ms k))) found
           ∙ ap (λ r. Ok (reply_of r, object (drop_member (members_view text literal es) k))) reply
@@ -94,7 +92,7 @@ module _ {K D : Type 0} (text : K → List ℕ) (literal : D → List ℕ) where
     popped_at (Some vs) is now was =
         let found : items_in (tree v) ≡ Some (items_view text literal vs) = items-inside v ∙ ap (option_map (items_view text literal)) is in
         let shorter : list (pop_item (items_view text literal vs)) ≡ tree w = same_Some _ _ (sym (now ∙ ap (option_map (λ ts. list (pop_item ts))) found)) in
-        let value : old ≡ last_of vs = same_Ok _ _ _ _ refl refl (was ∙ ap (λ o. ok_or (option_map last_of o) AccessError.NotAnArray) is) in
+        let value : old ≡ last_of vs = same_ok _ _ _ _ refl refl (was ∙ ap (λ o. ok_or (option_map last_of o) AccessError.NotAnArray) is) in
         let reply : last_item (items_view text literal vs) ≡ option_map tree old = sym (last_of_items vs) ∙ ap (option_map tree) (sym value) in
         ap (λ o. ok_or o (codes "NotAnArray") >>= λ ts. Ok (reply_of (last_item ts), list (pop_item ts))) found
         ∙ ap (λ r. Ok (reply_of r, list (pop_item (items_view text literal vs)))) reply

@@ -64,7 +64,7 @@ last_bracket : (b : Bool) → end_text (compact_list b) ≡ 0x5d ∷ []
 last_bracket true = refl
 last_bracket false = refl
 
-nothing_left : (b : Bool) → items_left b no_items ≡ []
+pub nothing_left : (b : Bool) → items_left b no_items ≡ []
 nothing_left true = refl
 nothing_left false = refl
 

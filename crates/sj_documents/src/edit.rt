@@ -318,17 +318,11 @@ fn set_member<K: ScriptText<D> + Drop, D: Literal + Drop>(
     let Some(members) = part.as_object_mut() else {
         return Ok(false);
     };
-    if !members.contains_key(name) {
+    let Some(member) = members.get_mut(name) else {
         return Ok(false);
-    }
-    let value = K::from_owned(alloc, value)?;
-    match members.get_mut(name) {
-        Some(member) => {
-            *member = value;
-            Ok(true)
-        }
-        None => Ok(false),
-    }
+    };
+    *member = K::from_owned(alloc, value)?;
+    Ok(true)
 }
 
 fn put_member<K: ScriptText<D> + Drop, D: Literal + Drop>(

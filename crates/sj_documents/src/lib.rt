@@ -17,4 +17,3 @@ pub use document::Document;
 pub use edit::ScriptText;
 pub use inverse::{Change, Inverse};
 pub use lazy_document::LazyDocument;
-pub use reads::put_separator;

@@ -5,7 +5,7 @@ ghost use Rattle.sj_base.specs.Text.{text};
 ghost use Rattle.sj_documents.specs.Step.{reply_of, part_at, contains_reply, type_reply, len_reply, keys_reply};
 ghost use Rattle.sj_scripts.specs.Script.{path_view};
 ghost use Rattle.sj_base.specs.Output.{AppendsOrLeaves};
-ghost use Rattle.sj_documents.specs.inside.Documents.{GivesReply, reply_view, separator};
+ghost use Rattle.sj_documents.specs.inside.Documents.{GivesReply, reply_view};
 ghost use Rattle.sj_scripts.specs.inside.Output.{AppendsOrGrows};
 
 use crate::part::Part;
@@ -112,19 +112,5 @@ fn put_reply<P: Part>(found: Option<P>, out: &mut Vec<u8>) -> Result<(), AllocEr
         value.put(out)?;
     }
     out.push(b']')?;
-    Ok(())
-}
-
-/// Appends a comma unless the element behind it is the first.
-///
-/// # Errors
-///
-/// `AllocError` if there is no memory for it. The vector is unchanged then.
-pub fn put_separator(is_first: bool, out: &mut Vec<u8>) -> Result<(), AllocError>
-    ensures { AppendsOrLeaves result out.old.items out.new.items (separator is_first) }
-{
-    if !is_first {
-        out.push(b',')?;
-    }
     Ok(())
 }

@@ -12,7 +12,9 @@ use Rattle.sj_records.specs.Laws.{with_script}
 use Rattle.sj_tape.specs.Repeats.{Repetition}
 use Rattle.sj_records.specs.Record.{record_of, part_items, repeat_record}
 use Rattle.sj_scripts.specs.Script.{commands_view}
-use Rattle.sj_documents.specs.inside.Documents.{separator, items_left}
+use Rattle.sj_documents.specs.inside.Documents.{items_left}
+use Rattle.sj_documents.proofs.ListedKeys.{nothing_left}
+use Rattle.sj_records.specs.inside.Separator.{separator}
 use Rattle.sj_records.specs.inside.Reloads.{record_from, IsPrinted, Reloads, Runs}
 use Rattle.sj_records.specs.Texts.{reread, reloads}
 
@@ -64,10 +66,6 @@ after_join job s (c ∷ cs) ds = after_join job (step job s c).1 cs ds
 reply_left : (b : Bool) (r : Tree) (rs : Items) → items_left b (item r rs) ≡ separator b ++ (text r ++ more_items_text rs)
 reply_left true r rs = refl
 reply_left false r rs = refl
-
-none_left : (b : Bool) → items_left b no_items ≡ []
-none_left true = refl
-none_left false = refl
 
 -- Since the state was `first`, the commands before `left` were run, and their replies were appended to `before`. The texts are
 -- those that their reloads are to read.
@@ -122,7 +120,7 @@ module _ (job : Job) (first : State) (cs : List Step) (began : Bool) (before : L
       let s = after job first r.ran in
       let apart : ((out ++ codes "],\"document\":") ++ text t) ++ 0x7d ∷ [] ≡ out ++ (codes "],\"document\":" ++ (text t ++ 0x7d ∷ [])) = simp (append_assoc) in
       let last : out ++ record_from job s [] b ≡ out ++ (codes "],\"document\":" ++ (text t ++ 0x7d ∷ [])) =
-      ap₂ (λ (bs : List ℕ) (u : Tree). out ++ (bs ++ (codes "],\"document\":" ++ (text u ++ 0x7d ∷ [])))) (none_left b) is in (
+      ap₂ (λ (bs : List ℕ) (u : Tree). out ++ (bs ++ (codes "],\"document\":" ++ (text u ++ 0x7d ∷ [])))) (nothing_left b) is in (
         ends ∙ ap (λ bs. bs ++ 0x7d ∷ []) (shows ∙ ap (λ bs. bs ++ text t) names) ∙ apart ∙ sym last ∙ ap (λ ls. out ++ record_from job s ls b) (sym none) ∙ r.written,
         r.read ∙ ap (λ ls. reloads job s ls) none,
       )

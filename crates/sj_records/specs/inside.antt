@@ -1,4 +1,5 @@
 -- What only clauses of private functions cite.
 pub mod Progress
 pub mod Reloads
+pub mod Separator
 pub mod Adds

@@ -8,6 +8,7 @@ pub mod laws;
 mod refused_line;
 mod repeats;
 mod run_error;
+mod separator;
 mod task;
 
 pub use engine::{run, run_with, run_within};

@@ -4,8 +4,8 @@ ghost use Rattle.sj_base.specs.Text.{text as text_of, items_text};
 ghost use Rattle.sj_records.specs.Record.{repeat_record, part_items, part_tree, fault_record, character_of};
 ghost use Rattle.sj_tape.specs.Repeats.{part_view, repeat_view};
 
+use crate::separator::put_separator;
 use sj_base::{Error, put_int, put_string};
-use sj_documents::put_separator;
 use sj_tape::{Repeat, RepeatPart};
 use std::alloc::AllocError;
 

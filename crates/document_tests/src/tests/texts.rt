@@ -11,40 +11,31 @@ use std::alloc::{AllocError, Global};
 use std::process::Abort;
 use std::test::Fail;
 
-// The compact text of a document. Its clause says what the text spells, so that every reading of it gives this tree.
-fn compact<K: ObjectKey, D: Literal>(
+// The text of a document, compact or indented. Its clause says what the text spells, so that every reading of it gives this tree.
+fn text_of<K: ObjectKey, D: Literal>(
     alloc: Global,
     value: &Value<K, D>,
+    is_indented: bool,
 ) -> Result<Vec<u8>, AllocError>
     ensures { IfOk result (λ text. Spells text.items (value_tree K.text D.literal value.now)) }
 {
     printing_reads_back();
     let _levels = value.depth()?;
     let mut text = Vec::new(alloc);
-    value.encode(&mut text)?;
-    Ok(text)
-}
-
-// The indented text, as `compact`.
-fn indented<K: ObjectKey, D: Literal>(
-    alloc: Global,
-    value: &Value<K, D>,
-) -> Result<Vec<u8>, AllocError>
-    ensures { IfOk result (λ text. Spells text.items (value_tree K.text D.literal value.now)) }
-{
-    printing_reads_back();
-    let _levels = value.depth()?;
-    let mut text = Vec::new(alloc);
-    value.encode_pp(&mut text)?;
+    if is_indented {
+        value.encode_pp(&mut text)?;
+    } else {
+        value.encode(&mut text)?;
+    }
     Ok(text)
 }
 
 fn expect_read_back(rt: &impl Abort, alloc: Global, json: &str) -> Result<(), Fail> {
     let value = owned_of(alloc, json)?;
-    let mut text = compact(alloc, &value)?;
-    expect_eq(rt, &to_owned_value(alloc, &mut text)?, &value);
-    let mut text = indented(alloc, &value)?;
-    expect_eq(rt, &to_owned_value(alloc, &mut text)?, &value);
+    for is_indented in [false, true] {
+        let mut text = text_of(alloc, &value, is_indented)?;
+        expect_eq(rt, &to_owned_value(alloc, &mut text)?, &value);
+    }
     Ok(())
 }
 

@@ -25,11 +25,6 @@ use Rattle.sj_documents.specs.Inverse.{Change, drop_item, changed, insertion_bac
 use Rattle.sj_documents.specs.Inverses.{change_view}
 use Rattle.sj_documents.specs.Step.{Word, Rewrite, reply_of, insertion, removal, pushing, popping, setting, key_items}
 
--- what stands before an element that is the first or another
-abbrev pub separator : Bool → List ℕ
-separator true = []
-separator false = 0x2c ∷ []
-
 -- the text of the items from the first of them on, or from another
 abbrev pub items_left : Bool → Items → List ℕ
 items_left true ts = items_text ts

@@ -1,5 +1,5 @@
 use Rattle.std.proofs.Common.{rules}
-use Rattle.sj_documents.proofs.reads.put_separator.Goals as goal
+use Rattle.sj_records.proofs.separator.put_separator.Goals as goal
 
 pub returns-else-not-is_first : goal.returns-else-not-is_first
 returns-else-not-is_first c = search rules
