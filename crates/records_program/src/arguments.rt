@@ -94,15 +94,13 @@ fn run_of<'a>(matches: &ArgMatches<'a>) -> Option<RunArguments<'a>>
     let script = matches.get_str("SCRIPT")?;
     let form = find_form(matches.get_str("form")?)?;
     let repeats = find_repeats(matches.get_str("repeats")?)?;
-    match matches.get_str("depth")?.parse() {
-        Ok(depth) => Some(RunArguments {
-            script,
-            form,
-            depth,
-            repeats,
-        }),
-        Err(_) => None,
-    }
+    let depth = matches.get_str("depth")?.parse().ok()?;
+    Some(RunArguments {
+        script,
+        form,
+        depth,
+        repeats,
+    })
 }
 
 fn find_form(name: &str) -> Option<Form>

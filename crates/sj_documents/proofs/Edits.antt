@@ -1,5 +1,5 @@
 -- The part of a document, and the document after an edit of it.
-use Rattle.std.proofs.Common.{◌≡◌, ℕ, suc, List, [], ◌∷◌, length, Option, Some, None, Result, Ok, refl, sym, ap, ◌∙◌, rules, option_map}
+use Rattle.std.proofs.Common.{◌≡◌, ℕ, suc, List, [], ◌∷◌, length, Option, Some, None, Ok, refl, sym, ap, ◌∙◌, rules, option_map}
 use Rattle.std.specs.Prelude.{option_and_then, ok_or, true, codes}
 use Rattle.sj_base.specs.Tree.{Tree, list, object}
 use Rattle.sj_base.specs.Path.{member_at}

@@ -1,7 +1,7 @@
 -- The text of a record, piece by piece.
 use Rattle.std.proofs.Common.{◌≡◌, ℕ, suc, ◌<◌, ◌≤◌, Bool, true, false, List, [], ◌∷◌, ◌++◌, length, Option, Some, None, codes, append_assoc, refl, sym, ap, ap₂, subst, ◌∙◌, arith}
 use Rattle.std.proofs.lemmas.List.{append-nil}
-use Rattle.sj_base.specs.Tree.{Tree, Items, no_items, item}
+use Rattle.sj_base.specs.Tree.{Tree, Items, item}
 use Rattle.sj_base.specs.Text.{quoted, text, items_text, more_items_text}
 use Rattle.sj_scripts.specs.declared.script.Command.{Command}
 use Rattle.sj_scripts.specs.Command.{Step, get, contains, type_of, len, keys, insert, remove, push, pop, set_at, undo, reload, reload_pp}

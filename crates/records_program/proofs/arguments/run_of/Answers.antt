@@ -37,14 +37,14 @@ returns-in_err-get_str-3-clause-none c =
     let f = found_of c.args.matches.now in
     λ none run. no-depth (rows_of f) run (value-none f (codes "depth") _ c.get_str-4.ensures c.in_err-get_str-3.was)
 
-pub returns-in-Err-clause-none : goal.returns-in-Err-clause-none
-returns-in-Err-clause-none c =
+pub returns-in_err-depth-clause-none : goal.returns-in_err-depth-clause-none
+returns-in_err-depth-clause-none c =
     let f = found_of c.args.matches.now in
     let text = value-some f (codes "depth") _ _ c.get_str-4.ensures c.in_ok-get_str-3.was in
-    λ none run. no-number (rows_of f) run _ _ _ text c.parse.ensures.value.0 c.in-Err.is
+    λ none run. no-number (rows_of f) run _ _ text c.parse.ensures.value.0 (sym c.ok.ensures.value ∙ c.in_err-depth.was)
 
-pub returns-in-Ok-clause-some : goal.returns-in-Ok-clause-some
-returns-in-Ok-clause-some c =
+pub returns-clause-some : goal.returns-clause-some
+returns-clause-some c =
     let f = found_of c.args.matches.now in
     let script = value-some f (codes "SCRIPT") _ _ c.get_str.ensures c.in_ok-script.was in
     let name = value-some f (codes "form") _ _ c.get_str-2.ensures c.in_ok-get_str.was in
@@ -52,4 +52,4 @@ returns-in-Ok-clause-some c =
     let text = value-some f (codes "depth") _ _ c.get_str-4.ensures c.in_ok-get_str-3.was in
     let repeats = ap (option_and_then repeats_named) rule ∙ (sym c.find_repeats.ensures ∙ c.in_ok-repeats.was) in
     let form = ap (option_and_then form_named) name ∙ (sym c.find_form.ensures ∙ c.in_ok-form.was) in
-    (script, form, repeats, (c.in_ok-get_str-3.field-0.now, text, parsed-number c.in_ok-get_str-3.field-0.now _ _ c.parse.ensures.value.0 c.in-Ok.is))
+    (script, form, repeats, (c.in_ok-get_str-3.field-0.now, text, parsed-number c.in_ok-get_str-3.field-0.now _ _ c.parse.ensures.value.0 (sym c.ok.ensures.value ∙ c.in_ok-depth.was)))
