@@ -56,10 +56,7 @@ pub trait ValueGetScalar: TypedValue {
     /// `None` if the value isn't an object, has no such member, or the member isn't a boolean.
     fn get_bool(&self, key: &str) -> Option<bool>
         ensures { let found = looked_up (Self.kind self.now) (member self.now key.now) in
-            result ≡ bool_read (found_scalar found) }
-    {
-        read_bool(found_scalar(self.try_get_member(key)))
-    }
+            result ≡ bool_read (found_scalar found) };
 
     /// Returns the member with this key as a boolean, or `None` if the object has no such member.
     ///
@@ -69,23 +66,14 @@ pub trait ValueGetScalar: TypedValue {
     /// `Object` or `Bool`.
     fn try_get_bool(&self, key: &str) -> Result<Option<bool>, TryTypeError>
         ensures { let found = looked_up (Self.kind self.now) (member self.now key.now) in
-            result ≡ try_found bool_read ValueType.Bool found }
-    {
-        let Some(member) = self.try_get_member(key)? else {
-            return Ok(None);
-        };
-        or_mismatch(read_bool(member.scalar), ValueType::Bool, member.kind).map(Some)
-    }
+            result ≡ try_found bool_read ValueType.Bool found };
 
     /// Returns the member with this key as an `i8`.
     ///
     /// `None` if the value isn't an object, has no such member, or the member isn't an integer that fits an `i8`.
     fn get_i8(&self, key: &str) -> Option<i8>
         ensures { let found = looked_up (Self.kind self.now) (member self.now key.now) in
-            result ≡ signed_read 7 (found_scalar found) }
-    {
-        read_i8(found_scalar(self.try_get_member(key)))
-    }
+            result ≡ signed_read 7 (found_scalar found) };
 
     /// Returns the member with this key as an `i8`, or `None` if the object has no such member.
     ///
@@ -95,23 +83,14 @@ pub trait ValueGetScalar: TypedValue {
     /// expected type is `Object` or `I64`.
     fn try_get_i8(&self, key: &str) -> Result<Option<i8>, TryTypeError>
         ensures { let found = looked_up (Self.kind self.now) (member self.now key.now) in
-            result ≡ try_found (signed_read 7) ValueType.I64 found }
-    {
-        let Some(member) = self.try_get_member(key)? else {
-            return Ok(None);
-        };
-        or_mismatch(read_i8(member.scalar), ValueType::I64, member.kind).map(Some)
-    }
+            result ≡ try_found (signed_read 7) ValueType.I64 found };
 
     /// Returns the member with this key as an `i16`.
     ///
     /// `None` if the value isn't an object, has no such member, or the member isn't an integer that fits an `i16`.
     fn get_i16(&self, key: &str) -> Option<i16>
         ensures { let found = looked_up (Self.kind self.now) (member self.now key.now) in
-            result ≡ signed_read 15 (found_scalar found) }
-    {
-        read_i16(found_scalar(self.try_get_member(key)))
-    }
+            result ≡ signed_read 15 (found_scalar found) };
 
     /// Returns the member with this key as an `i16`, or `None` if the object has no such member.
     ///
@@ -121,23 +100,14 @@ pub trait ValueGetScalar: TypedValue {
     /// expected type is `Object` or `I64`.
     fn try_get_i16(&self, key: &str) -> Result<Option<i16>, TryTypeError>
         ensures { let found = looked_up (Self.kind self.now) (member self.now key.now) in
-            result ≡ try_found (signed_read 15) ValueType.I64 found }
-    {
-        let Some(member) = self.try_get_member(key)? else {
-            return Ok(None);
-        };
-        or_mismatch(read_i16(member.scalar), ValueType::I64, member.kind).map(Some)
-    }
+            result ≡ try_found (signed_read 15) ValueType.I64 found };
 
     /// Returns the member with this key as an `i32`.
     ///
     /// `None` if the value isn't an object, has no such member, or the member isn't an integer that fits an `i32`.
     fn get_i32(&self, key: &str) -> Option<i32>
         ensures { let found = looked_up (Self.kind self.now) (member self.now key.now) in
-            result ≡ signed_read 31 (found_scalar found) }
-    {
-        read_i32(found_scalar(self.try_get_member(key)))
-    }
+            result ≡ signed_read 31 (found_scalar found) };
 
     /// Returns the member with this key as an `i32`, or `None` if the object has no such member.
     ///
@@ -147,23 +117,14 @@ pub trait ValueGetScalar: TypedValue {
     /// expected type is `Object` or `I64`.
     fn try_get_i32(&self, key: &str) -> Result<Option<i32>, TryTypeError>
         ensures { let found = looked_up (Self.kind self.now) (member self.now key.now) in
-            result ≡ try_found (signed_read 31) ValueType.I64 found }
-    {
-        let Some(member) = self.try_get_member(key)? else {
-            return Ok(None);
-        };
-        or_mismatch(read_i32(member.scalar), ValueType::I64, member.kind).map(Some)
-    }
+            result ≡ try_found (signed_read 31) ValueType.I64 found };
 
     /// Returns the member with this key as an `i64`.
     ///
     /// `None` if the value isn't an object, has no such member, or the member isn't an integer that fits an `i64`.
     fn get_i64(&self, key: &str) -> Option<i64>
         ensures { let found = looked_up (Self.kind self.now) (member self.now key.now) in
-            result ≡ signed_read 63 (found_scalar found) }
-    {
-        read_i64(found_scalar(self.try_get_member(key)))
-    }
+            result ≡ signed_read 63 (found_scalar found) };
 
     /// Returns the member with this key as an `i64`, or `None` if the object has no such member.
     ///
@@ -173,23 +134,14 @@ pub trait ValueGetScalar: TypedValue {
     /// expected type is `Object` or `I64`.
     fn try_get_i64(&self, key: &str) -> Result<Option<i64>, TryTypeError>
         ensures { let found = looked_up (Self.kind self.now) (member self.now key.now) in
-            result ≡ try_found (signed_read 63) ValueType.I64 found }
-    {
-        let Some(member) = self.try_get_member(key)? else {
-            return Ok(None);
-        };
-        or_mismatch(read_i64(member.scalar), ValueType::I64, member.kind).map(Some)
-    }
+            result ≡ try_found (signed_read 63) ValueType.I64 found };
 
     /// Returns the member with this key as an `i128`.
     ///
     /// `None` if the value isn't an object, has no such member, or the member isn't an integer that fits an `i128`.
     fn get_i128(&self, key: &str) -> Option<i128>
         ensures { let found = looked_up (Self.kind self.now) (member self.now key.now) in
-            result ≡ signed_read 127 (found_scalar found) }
-    {
-        read_i128(found_scalar(self.try_get_member(key)))
-    }
+            result ≡ signed_read 127 (found_scalar found) };
 
     /// Returns the member with this key as an `i128`, or `None` if the object has no such member.
     ///
@@ -199,23 +151,14 @@ pub trait ValueGetScalar: TypedValue {
     /// expected type is `Object` or `I64`.
     fn try_get_i128(&self, key: &str) -> Result<Option<i128>, TryTypeError>
         ensures { let found = looked_up (Self.kind self.now) (member self.now key.now) in
-            result ≡ try_found (signed_read 127) ValueType.I64 found }
-    {
-        let Some(member) = self.try_get_member(key)? else {
-            return Ok(None);
-        };
-        or_mismatch(read_i128(member.scalar), ValueType::I64, member.kind).map(Some)
-    }
+            result ≡ try_found (signed_read 127) ValueType.I64 found };
 
     /// Returns the member with this key as a `u8`.
     ///
     /// `None` if the value isn't an object, has no such member, or the member isn't an integer that fits a `u8`.
     fn get_u8(&self, key: &str) -> Option<u8>
         ensures { let found = looked_up (Self.kind self.now) (member self.now key.now) in
-            result ≡ unsigned_read 8 (found_scalar found) }
-    {
-        read_u8(found_scalar(self.try_get_member(key)))
-    }
+            result ≡ unsigned_read 8 (found_scalar found) };
 
     /// Returns the member with this key as a `u8`, or `None` if the object has no such member.
     ///
@@ -225,23 +168,14 @@ pub trait ValueGetScalar: TypedValue {
     /// expected type is `Object` or `U64`.
     fn try_get_u8(&self, key: &str) -> Result<Option<u8>, TryTypeError>
         ensures { let found = looked_up (Self.kind self.now) (member self.now key.now) in
-            result ≡ try_found (unsigned_read 8) ValueType.U64 found }
-    {
-        let Some(member) = self.try_get_member(key)? else {
-            return Ok(None);
-        };
-        or_mismatch(read_u8(member.scalar), ValueType::U64, member.kind).map(Some)
-    }
+            result ≡ try_found (unsigned_read 8) ValueType.U64 found };
 
     /// Returns the member with this key as a `u16`.
     ///
     /// `None` if the value isn't an object, has no such member, or the member isn't an integer that fits a `u16`.
     fn get_u16(&self, key: &str) -> Option<u16>
         ensures { let found = looked_up (Self.kind self.now) (member self.now key.now) in
-            result ≡ unsigned_read 16 (found_scalar found) }
-    {
-        read_u16(found_scalar(self.try_get_member(key)))
-    }
+            result ≡ unsigned_read 16 (found_scalar found) };
 
     /// Returns the member with this key as a `u16`, or `None` if the object has no such member.
     ///
@@ -251,23 +185,14 @@ pub trait ValueGetScalar: TypedValue {
     /// expected type is `Object` or `U64`.
     fn try_get_u16(&self, key: &str) -> Result<Option<u16>, TryTypeError>
         ensures { let found = looked_up (Self.kind self.now) (member self.now key.now) in
-            result ≡ try_found (unsigned_read 16) ValueType.U64 found }
-    {
-        let Some(member) = self.try_get_member(key)? else {
-            return Ok(None);
-        };
-        or_mismatch(read_u16(member.scalar), ValueType::U64, member.kind).map(Some)
-    }
+            result ≡ try_found (unsigned_read 16) ValueType.U64 found };
 
     /// Returns the member with this key as a `u32`.
     ///
     /// `None` if the value isn't an object, has no such member, or the member isn't an integer that fits a `u32`.
     fn get_u32(&self, key: &str) -> Option<u32>
         ensures { let found = looked_up (Self.kind self.now) (member self.now key.now) in
-            result ≡ unsigned_read 32 (found_scalar found) }
-    {
-        read_u32(found_scalar(self.try_get_member(key)))
-    }
+            result ≡ unsigned_read 32 (found_scalar found) };
 
     /// Returns the member with this key as a `u32`, or `None` if the object has no such member.
     ///
@@ -277,23 +202,14 @@ pub trait ValueGetScalar: TypedValue {
     /// expected type is `Object` or `U64`.
     fn try_get_u32(&self, key: &str) -> Result<Option<u32>, TryTypeError>
         ensures { let found = looked_up (Self.kind self.now) (member self.now key.now) in
-            result ≡ try_found (unsigned_read 32) ValueType.U64 found }
-    {
-        let Some(member) = self.try_get_member(key)? else {
-            return Ok(None);
-        };
-        or_mismatch(read_u32(member.scalar), ValueType::U64, member.kind).map(Some)
-    }
+            result ≡ try_found (unsigned_read 32) ValueType.U64 found };
 
     /// Returns the member with this key as a `u64`.
     ///
     /// `None` if the value isn't an object, has no such member, or the member isn't an integer that fits a `u64`.
     fn get_u64(&self, key: &str) -> Option<u64>
         ensures { let found = looked_up (Self.kind self.now) (member self.now key.now) in
-            result ≡ unsigned_read 64 (found_scalar found) }
-    {
-        read_u64(found_scalar(self.try_get_member(key)))
-    }
+            result ≡ unsigned_read 64 (found_scalar found) };
 
     /// Returns the member with this key as a `u64`, or `None` if the object has no such member.
     ///
@@ -303,23 +219,14 @@ pub trait ValueGetScalar: TypedValue {
     /// expected type is `Object` or `U64`.
     fn try_get_u64(&self, key: &str) -> Result<Option<u64>, TryTypeError>
         ensures { let found = looked_up (Self.kind self.now) (member self.now key.now) in
-            result ≡ try_found (unsigned_read 64) ValueType.U64 found }
-    {
-        let Some(member) = self.try_get_member(key)? else {
-            return Ok(None);
-        };
-        or_mismatch(read_u64(member.scalar), ValueType::U64, member.kind).map(Some)
-    }
+            result ≡ try_found (unsigned_read 64) ValueType.U64 found };
 
     /// Returns the member with this key as a `u128`.
     ///
     /// `None` if the value isn't an object, has no such member, or the member isn't an integer that fits a `u128`.
     fn get_u128(&self, key: &str) -> Option<u128>
         ensures { let found = looked_up (Self.kind self.now) (member self.now key.now) in
-            result ≡ unsigned_read 128 (found_scalar found) }
-    {
-        read_u128(found_scalar(self.try_get_member(key)))
-    }
+            result ≡ unsigned_read 128 (found_scalar found) };
 
     /// Returns the member with this key as a `u128`, or `None` if the object has no such member.
     ///
@@ -329,23 +236,14 @@ pub trait ValueGetScalar: TypedValue {
     /// expected type is `Object` or `U64`.
     fn try_get_u128(&self, key: &str) -> Result<Option<u128>, TryTypeError>
         ensures { let found = looked_up (Self.kind self.now) (member self.now key.now) in
-            result ≡ try_found (unsigned_read 128) ValueType.U64 found }
-    {
-        let Some(member) = self.try_get_member(key)? else {
-            return Ok(None);
-        };
-        or_mismatch(read_u128(member.scalar), ValueType::U64, member.kind).map(Some)
-    }
+            result ≡ try_found (unsigned_read 128) ValueType.U64 found };
 
     /// Returns the member with this key as a `usize`.
     ///
     /// `None` if the value isn't an object, has no such member, or the member isn't an integer that fits a `usize`.
     fn get_usize(&self, key: &str) -> Option<usize>
         ensures { let found = looked_up (Self.kind self.now) (member self.now key.now) in
-            result ≡ unsigned_read 64 (found_scalar found) }
-    {
-        read_usize(found_scalar(self.try_get_member(key)))
-    }
+            result ≡ unsigned_read 64 (found_scalar found) };
 
     /// Returns the member with this key as a `usize`, or `None` if the object has no such member.
     ///
@@ -355,23 +253,14 @@ pub trait ValueGetScalar: TypedValue {
     /// expected type is `Object` or `U64`.
     fn try_get_usize(&self, key: &str) -> Result<Option<usize>, TryTypeError>
         ensures { let found = looked_up (Self.kind self.now) (member self.now key.now) in
-            result ≡ try_found (unsigned_read 64) ValueType.U64 found }
-    {
-        let Some(member) = self.try_get_member(key)? else {
-            return Ok(None);
-        };
-        or_mismatch(read_usize(member.scalar), ValueType::U64, member.kind).map(Some)
-    }
+            result ≡ try_found (unsigned_read 64) ValueType.U64 found };
 
     /// Returns the member with this key as a string.
     ///
     /// `None` if the value isn't an object, has no such member, or the member isn't a string.
     fn get_str(&self, key: &str) -> Option<&str>
         ensures { let found = looked_up (Self.kind self.now) (member self.now key.now) in
-            option_map (λ s. s.now) result ≡ str_read (found_scalar found) }
-    {
-        read_str(found_scalar(self.try_get_member(key)))
-    }
+            option_map (λ s. s.now) result ≡ str_read (found_scalar found) };
 
     /// Returns the member with this key as a string, or `None` if the object has no such member.
     ///
@@ -381,23 +270,14 @@ pub trait ValueGetScalar: TypedValue {
     /// `Object` or `String`.
     fn try_get_str(&self, key: &str) -> Result<Option<&str>, TryTypeError>
         ensures { let found = looked_up (Self.kind self.now) (member self.now key.now) in
-            found_text result ≡ try_found str_read ValueType.String found }
-    {
-        let Some(member) = self.try_get_member(key)? else {
-            return Ok(None);
-        };
-        or_mismatch(read_str(member.scalar), ValueType::String, member.kind).map(Some)
-    }
+            found_text result ≡ try_found str_read ValueType.String found };
 
     /// Returns the member with this key as a decimal literal.
     ///
     /// `None` if the value isn't an object, has no such member, or the member isn't a decimal literal.
     fn get_decimal(&self, key: &str) -> Option<Decimal<'_>>
         ensures { let found = looked_up (Self.kind self.now) (member self.now key.now) in
-            option_map decimal_text result ≡ decimal_read (found_scalar found) }
-    {
-        read_decimal(found_scalar(self.try_get_member(key)))
-    }
+            option_map decimal_text result ≡ decimal_read (found_scalar found) };
 
     /// Returns the member with this key as a decimal literal, or `None` if the object has no such member.
     ///
@@ -407,13 +287,7 @@ pub trait ValueGetScalar: TypedValue {
     /// is `Object` or `Decimal`.
     fn try_get_decimal(&self, key: &str) -> Result<Option<Decimal<'_>>, TryTypeError>
         ensures { let found = looked_up (Self.kind self.now) (member self.now key.now) in
-            found_literal result ≡ try_found decimal_read ValueType.Decimal found }
-    {
-        let Some(member) = self.try_get_member(key)? else {
-            return Ok(None);
-        };
-        or_mismatch(read_decimal(member.scalar), ValueType::Decimal, member.kind).map(Some)
-    }
+            found_literal result ≡ try_found decimal_read ValueType.Decimal found };
 }
 
 impl<T: HasMembers> ValueGetScalar for T {
@@ -421,5 +295,159 @@ impl<T: HasMembers> ValueGetScalar for T {
 
     fn try_get_member(&self, key: &str) -> Result<Option<Member<'_>>, TryTypeError> {
         self.try_member(key)
+    }
+
+    fn get_bool(&self, key: &str) -> Option<bool> {
+        read_bool(found_scalar(self.try_get_member(key)))
+    }
+
+    fn try_get_bool(&self, key: &str) -> Result<Option<bool>, TryTypeError> {
+        let Some(member) = self.try_get_member(key)? else {
+            return Ok(None);
+        };
+        or_mismatch(read_bool(member.scalar), ValueType::Bool, member.kind).map(Some)
+    }
+
+    fn get_i8(&self, key: &str) -> Option<i8> {
+        read_i8(found_scalar(self.try_get_member(key)))
+    }
+
+    fn try_get_i8(&self, key: &str) -> Result<Option<i8>, TryTypeError> {
+        let Some(member) = self.try_get_member(key)? else {
+            return Ok(None);
+        };
+        or_mismatch(read_i8(member.scalar), ValueType::I64, member.kind).map(Some)
+    }
+
+    fn get_i16(&self, key: &str) -> Option<i16> {
+        read_i16(found_scalar(self.try_get_member(key)))
+    }
+
+    fn try_get_i16(&self, key: &str) -> Result<Option<i16>, TryTypeError> {
+        let Some(member) = self.try_get_member(key)? else {
+            return Ok(None);
+        };
+        or_mismatch(read_i16(member.scalar), ValueType::I64, member.kind).map(Some)
+    }
+
+    fn get_i32(&self, key: &str) -> Option<i32> {
+        read_i32(found_scalar(self.try_get_member(key)))
+    }
+
+    fn try_get_i32(&self, key: &str) -> Result<Option<i32>, TryTypeError> {
+        let Some(member) = self.try_get_member(key)? else {
+            return Ok(None);
+        };
+        or_mismatch(read_i32(member.scalar), ValueType::I64, member.kind).map(Some)
+    }
+
+    fn get_i64(&self, key: &str) -> Option<i64> {
+        read_i64(found_scalar(self.try_get_member(key)))
+    }
+
+    fn try_get_i64(&self, key: &str) -> Result<Option<i64>, TryTypeError> {
+        let Some(member) = self.try_get_member(key)? else {
+            return Ok(None);
+        };
+        or_mismatch(read_i64(member.scalar), ValueType::I64, member.kind).map(Some)
+    }
+
+    fn get_i128(&self, key: &str) -> Option<i128> {
+        read_i128(found_scalar(self.try_get_member(key)))
+    }
+
+    fn try_get_i128(&self, key: &str) -> Result<Option<i128>, TryTypeError> {
+        let Some(member) = self.try_get_member(key)? else {
+            return Ok(None);
+        };
+        or_mismatch(read_i128(member.scalar), ValueType::I64, member.kind).map(Some)
+    }
+
+    fn get_u8(&self, key: &str) -> Option<u8> {
+        read_u8(found_scalar(self.try_get_member(key)))
+    }
+
+    fn try_get_u8(&self, key: &str) -> Result<Option<u8>, TryTypeError> {
+        let Some(member) = self.try_get_member(key)? else {
+            return Ok(None);
+        };
+        or_mismatch(read_u8(member.scalar), ValueType::U64, member.kind).map(Some)
+    }
+
+    fn get_u16(&self, key: &str) -> Option<u16> {
+        read_u16(found_scalar(self.try_get_member(key)))
+    }
+
+    fn try_get_u16(&self, key: &str) -> Result<Option<u16>, TryTypeError> {
+        let Some(member) = self.try_get_member(key)? else {
+            return Ok(None);
+        };
+        or_mismatch(read_u16(member.scalar), ValueType::U64, member.kind).map(Some)
+    }
+
+    fn get_u32(&self, key: &str) -> Option<u32> {
+        read_u32(found_scalar(self.try_get_member(key)))
+    }
+
+    fn try_get_u32(&self, key: &str) -> Result<Option<u32>, TryTypeError> {
+        let Some(member) = self.try_get_member(key)? else {
+            return Ok(None);
+        };
+        or_mismatch(read_u32(member.scalar), ValueType::U64, member.kind).map(Some)
+    }
+
+    fn get_u64(&self, key: &str) -> Option<u64> {
+        read_u64(found_scalar(self.try_get_member(key)))
+    }
+
+    fn try_get_u64(&self, key: &str) -> Result<Option<u64>, TryTypeError> {
+        let Some(member) = self.try_get_member(key)? else {
+            return Ok(None);
+        };
+        or_mismatch(read_u64(member.scalar), ValueType::U64, member.kind).map(Some)
+    }
+
+    fn get_u128(&self, key: &str) -> Option<u128> {
+        read_u128(found_scalar(self.try_get_member(key)))
+    }
+
+    fn try_get_u128(&self, key: &str) -> Result<Option<u128>, TryTypeError> {
+        let Some(member) = self.try_get_member(key)? else {
+            return Ok(None);
+        };
+        or_mismatch(read_u128(member.scalar), ValueType::U64, member.kind).map(Some)
+    }
+
+    fn get_usize(&self, key: &str) -> Option<usize> {
+        read_usize(found_scalar(self.try_get_member(key)))
+    }
+
+    fn try_get_usize(&self, key: &str) -> Result<Option<usize>, TryTypeError> {
+        let Some(member) = self.try_get_member(key)? else {
+            return Ok(None);
+        };
+        or_mismatch(read_usize(member.scalar), ValueType::U64, member.kind).map(Some)
+    }
+
+    fn get_str(&self, key: &str) -> Option<&str> {
+        read_str(found_scalar(self.try_get_member(key)))
+    }
+
+    fn try_get_str(&self, key: &str) -> Result<Option<&str>, TryTypeError> {
+        let Some(member) = self.try_get_member(key)? else {
+            return Ok(None);
+        };
+        or_mismatch(read_str(member.scalar), ValueType::String, member.kind).map(Some)
+    }
+
+    fn get_decimal(&self, key: &str) -> Option<Decimal<'_>> {
+        read_decimal(found_scalar(self.try_get_member(key)))
+    }
+
+    fn try_get_decimal(&self, key: &str) -> Result<Option<Decimal<'_>>, TryTypeError> {
+        let Some(member) = self.try_get_member(key)? else {
+            return Ok(None);
+        };
+        or_mismatch(read_decimal(member.scalar), ValueType::Decimal, member.kind).map(Some)
     }
 }

@@ -1,5 +1,5 @@
 use Rattle.std.proofs.Common.{rules}
-use Rattle.sj_reads.proofs.scalar.ValueAsScalar.as_bool.Goals as goal
+use Rattle.sj_reads.proofs.member.AnyValueGetScalar.try_get_bool.Goals as goal
 
 pub returns : goal.returns
 returns c = search rules

@@ -1,5 +1,5 @@
 use Rattle.std.proofs.Common.{rules}
-use Rattle.sj_reads.proofs.scalar.ValueAsScalar.is_bool.Goals as goal
+use Rattle.sj_reads.proofs.scalar.AnyValueAsScalar.is_bool.Goals as goal
 
 pub returns : goal.returns
 returns c = search rules
