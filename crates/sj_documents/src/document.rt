@@ -1,5 +1,5 @@
 //! Documents of lines: their reads and writes by paths, and the replies that show them.
-ghost use Rattle.std.specs.Prelude.{◌≡◌, option_map, IfOk};
+ghost use Rattle.std.specs.Prelude.{◌≡◌, ◌++◌, option_map, IfOk, OnErr};
 ghost use Rattle.sj_base.specs.Tree.{Tree};
 ghost use Rattle.sj_base.specs.Path.{at};
 ghost use Rattle.sj_base.specs.Text.{text, pretty};
@@ -7,7 +7,7 @@ ghost use Rattle.sj_owned.specs.Views.{value_tree};
 ghost use Rattle.sj_documents.specs.Step.{Keeping, from_start, base, reply_of, contains_reply, type_reply, len_reply, keys_reply};
 ghost use Rattle.sj_documents.specs.Step.{fits, fits_below, insertion, removal, pushing, popping, setting};
 ghost use Rattle.sj_scripts.specs.Values.{owned_tree};
-ghost use Rattle.sj_documents.specs.Inverse.{drop_item, place_at, insertion_back, removal_back, popping_back, setting_back};
+ghost use Rattle.sj_documents.specs.Inverse.{found_of, drop_item, place_at, insertion_back, removal_back, popping_back, setting_back};
 ghost use Rattle.sj_documents.specs.Inverses.{change_view, Settles, TakesBack};
 ghost use Rattle.sj_documents.specs.inside.Documents.{rewrite_of, back_of};
 ghost use Rattle.sj_scripts.specs.Script.{path_view};
@@ -15,7 +15,6 @@ ghost use Rattle.sj_base.specs.Output.{AppendsOrLeaves};
 
 use crate::edit::{Edit, ScriptText, Write, edit_at, is_within, is_within_below};
 use crate::inverse::Inverse;
-use crate::path::copy_path;
 use crate::reads::{contains_at, find, len_at, put_answer, put_found, put_keys_at, type_at};
 use sj_base::put_string;
 use sj_object::ObjectKey;
@@ -293,10 +292,9 @@ fn make_write<K: ScriptText<D> + Drop, D: Literal + Drop>(
     let alloc = *out.allocator();
     match edit_at(alloc, document, path, Edit::Write(write)) {
         Ok(found) => {
-            let path = copy_path(alloc, path)?;
-            let change = write.inverse(alloc, own_found(alloc, found)?)?;
-            put_found(change.found(), out)?;
-            Ok(Some(Inverse { path, change }))
+            let found = own_found(alloc, found)?;
+            let inverse = put_write_reply(path, write, found, out)?;
+            Ok(Some(inverse))
         }
         Err(MemoryOr::Refused(refusal)) => {
             put_string(out, refusal.name())?;
@@ -304,6 +302,25 @@ fn make_write<K: ScriptText<D> + Drop, D: Literal + Drop>(
         }
         Err(MemoryOr::Memory) => Err(AllocError),
     }
+}
+
+/// Appends the reply to a write that was made, and returns what takes it back. `found` is the value that it replaced or took out.
+fn put_write_reply(
+    path: &[PathPart],
+    write: Write<'_>,
+    found: Option<OwnedValue>,
+    out: &mut Vec<u8>,
+) -> Result<Inverse, AllocError>
+    ensures path { IfOk result (λ inverse. path_view inverse.path.items ≡ path_view path.now) }
+    ensures change { IfOk result (λ inverse. change_view inverse.change ≡ back_of write.entry (option_map owned_tree found)) }
+    ensures reply { IfOk result (λ inverse. out.new.items ≡ out.old.items ++ text (reply_of (found_of (change_view inverse.change)))) }
+    ensures left { OnErr result (out.new.items ≡ out.old.items) }
+{
+    let alloc = *out.allocator();
+    let change = write.inverse(alloc, found)?;
+    let inverse = Inverse::new(alloc, path, change)?;
+    put_found(inverse.change.found(), out)?;
+    Ok(inverse)
 }
 
 fn own_found<K: ScriptText<D> + Drop, D: Literal + Drop>(

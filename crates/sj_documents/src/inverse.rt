@@ -1,13 +1,15 @@
 //! What takes writes back.
-ghost use Rattle.std.specs.Prelude.{◌≡◌, option_map, OnOk};
+ghost use Rattle.std.specs.Prelude.{◌≡◌, option_map, IfOk, OnOk};
 ghost use Rattle.sj_documents.specs.Inverse.{found_of};
 ghost use Rattle.sj_documents.specs.Inverses.{change_view};
+ghost use Rattle.sj_scripts.specs.Script.{path_view};
 ghost use Rattle.sj_scripts.specs.Values.{owned_tree};
 ghost use Rattle.sj_documents.specs.inside.KeptChanges.{IsKeptChange};
 
+use crate::path::copy_path;
 use sj_owned::OwnedValue;
 use sj_scripts::PathPart;
-use std::alloc::AllocError;
+use std::alloc::{AllocError, Global};
 
 /// What takes a write back: a change of the part that the path of the write selects.
 #[derive(Debug, Drop)]
@@ -16,6 +18,21 @@ pub struct Inverse {
     pub path: Vec<PathPart>,
     /// The change of the part.
     pub change: Change,
+}
+
+impl Inverse {
+    /// Puts a change together with a copy of the path of its write.
+    pub(crate) fn new(
+        alloc: Global,
+        path: &[PathPart],
+        change: Change,
+    ) -> Result<Inverse, AllocError>
+        ensures path { IfOk result (λ inverse. path_view inverse.path.items ≡ path_view path.now) }
+        ensures change { IfOk result (λ inverse. inverse.change ≡ change) }
+    {
+        let path = copy_path(alloc, path)?;
+        Ok(Inverse { path, change })
+    }
 }
 
 /// A change of a part of a document.
