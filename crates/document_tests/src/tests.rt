@@ -10,6 +10,7 @@ mod values;
 use sj_base::AccessError;
 use sj_object::ObjectKey;
 use sj_owned::{Literal, OwnedValue, Value, to_owned_value};
+use sj_reads::ValueAsScalar;
 use sj_values::{BorrowedValue, to_borrowed_value};
 use std::alloc::{AllocError, Global};
 use std::fmt::Debug;
@@ -21,14 +22,42 @@ fn expect_eq<T: PartialEq + Debug + Drop>(rt: &impl Abort, found: T, expected: T
     assert_eq!(rt; found, expected);
 }
 
+// The same of a row of a table, which it names.
+fn expect_at<T: PartialEq + Debug + Drop>(rt: &impl Abort, row: &str, found: T, expected: T) {
+    assert_eq!(rt; found, expected, "at {row}");
+}
+
+// Whether a call hands out nothing.
+fn is_nothing<T: Drop>(found: Option<T>) -> bool {
+    found.is_none()
+}
+
+// The number that a call hands out.
+fn number_in<T: ValueAsScalar + Drop>(value: Option<T>) -> Option<u64> {
+    value?.as_u64()
+}
+
+// Whether a value equals another one, which is let go.
+fn is_equal<T: PartialEq + Drop>(value: &T, other: T) -> bool {
+    *value == other
+}
+
 // The owned document of a text.
 fn owned_of(alloc: Global, json: &str) -> Result<OwnedValue, Fail> {
     let mut text = json.as_bytes().to_vec(alloc)?;
     Ok(to_owned_value(alloc, &mut text)?)
 }
 
+// Looks at a value, and lets it go. It is proved once, for values of any type: code that lets a document go has to be proved for
+// each kind of document, at each place where it returns.
+fn seen<T: Drop, R, F: FnOnce(&mut T) -> R + Drop>(mut value: T, look: F) -> R
+    requires { F.IsAlwaysCallable look }
+{
+    look(&mut value)
+}
+
 // Makes a check on the borrowed document of a text. The check holds nothing that has to be dropped.
-fn on_borrowed<F: FnOnce(&BorrowedValue<'_>) -> Result<(), Fail> + Drop>(
+fn on_borrowed<F: FnOnce(&mut BorrowedValue<'_>) -> Result<(), Fail> + Drop>(
     alloc: Global,
     json: &str,
     check: F,
@@ -36,8 +65,8 @@ fn on_borrowed<F: FnOnce(&BorrowedValue<'_>) -> Result<(), Fail> + Drop>(
     requires { F.IsAlwaysCallable check }
 {
     let mut text = json.as_bytes().to_vec(alloc)?;
-    let value = to_borrowed_value(alloc, &mut text)?;
-    check(&value)
+    let mut value = to_borrowed_value(alloc, &mut text)?;
+    check(&mut value)
 }
 
 // Fails unless this is the compact text of the document.
@@ -51,6 +80,16 @@ fn expect_text<K: ObjectKey, D: Literal>(
     value.encode(&mut out)?;
     assert_eq!(rt; out.as_slice(), text.as_bytes());
     Ok(())
+}
+
+// The same of a document that was made for this check.
+fn expect_made<K: ObjectKey + Drop, D: Literal + Drop>(
+    rt: &impl Abort,
+    alloc: Global,
+    value: Value<K, D>,
+    text: &str,
+) -> Result<(), AllocError> {
+    seen(value, |value| expect_text(rt, alloc, value, text))
 }
 
 // The array with one more item.

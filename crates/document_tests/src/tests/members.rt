@@ -1,7 +1,9 @@
 //! Of `sj_owned`: an object of so many members that their keys are looked up in a set while it is built.
-use super::{expect_eq, expect_text, on_borrowed, owned_of};
+use super::{expect_eq, expect_text, on_borrowed, owned_of, seen};
+use sj_owned::OwnedValue;
 use sj_reads::ValueGetScalar;
 use std::alloc::{AllocError, Global};
+use std::process::Abort;
 use std::test::Fail;
 
 // An object of the members `k0` to `k1099`, and of two of them once more, if that is said.
@@ -17,17 +19,28 @@ fn members(alloc: Global, repeats: &str) -> Result<String, AllocError> {
     Ok(text)
 }
 
+// Looks for these members in a document, and for its text.
+fn expect_members(
+    rt: &impl Abort,
+    alloc: Global,
+    document: &OwnedValue,
+    kept: &str,
+) -> Result<(), Fail> {
+    expect_text(rt, alloc, document, kept)?;
+    for (key, number) in [("k0", 0), ("k700", 700), ("k1099", 1099)] {
+        expect_eq(rt, document.get_u32(key), Some(number));
+    }
+    Ok(())
+}
+
 #[test]
 fn first_of_each_key(rt: HostRuntime) -> Result<(), Fail> {
     let alloc = rt.alloc();
     let line = members(alloc, r#","k1099":-1,"k0":-1"#)?;
     let kept = members(alloc, "")?;
-    let document = owned_of(alloc, &line)?;
-    expect_text(&rt, alloc, &document, &kept)?;
-    for number in [0, 700, 1099u32] {
-        let key = format!(in alloc; "k{number}")?;
-        expect_eq(&rt, document.get_u32(&key), Some(number));
-    }
+    seen(owned_of(alloc, &line)?, |document| {
+        expect_members(&rt, alloc, document, &kept)
+    })?;
     on_borrowed(alloc, &line, |value| {
         expect_text(&rt, alloc, value, &kept)?;
         Ok(())

@@ -5,7 +5,10 @@ ghost use Rattle.sj_owned.specs.Lends.{item_set, member_set};
 ghost use Rattle.sj_owned.specs.Parts.{item_of, member_of};
 ghost use Rattle.sj_owned.specs.Views.{value_tree};
 
-use super::{expect_eq, expect_text, owned_of, with_item, with_member};
+use super::{
+    expect_at, expect_eq, expect_made, expect_text, is_equal, is_nothing, number_in, owned_of,
+    seen, with_item, with_member,
+};
 use sj_base::{AccessError, Decimal, DecimalBuf, DecimalCow, StaticNode};
 use sj_object::ObjectKey;
 use sj_owned::{
@@ -26,16 +29,11 @@ fn number(n: u64) -> Value {
     Value::Static(StaticNode::U64(n))
 }
 
-// The object with one more member of this name.
-fn named(alloc: Global, object: Value, name: &str, value: Value) -> Result<Value, Fail> {
-    Ok(with_member(object, String::from_str(alloc, name)?, value)?)
-}
-
 const SAMPLE: &str = r#"{"n":1,"s":"x","a":[1],"o":{}}"#;
 
-// The number that a call hands out.
-fn number_in(value: Option<Value>) -> Option<u64> {
-    value?.as_u64()
+// Whether a value, which is let go, is the same as one of another type.
+fn is_same<T: SameAs<U> + Drop, U>(value: T, other: &U) -> bool {
+    value.same_as(other)
 }
 
 // A write to a member of any value. Its clause says what is left.
@@ -119,18 +117,11 @@ fn edit_by_index(alloc: Global, o: &mut Value) -> Result<(), Fail> {
 #[test]
 fn owned_edit_by_index(rt: HostRuntime) -> Result<(), Fail> {
     let alloc = rt.alloc();
-    let mut o = Value::object(alloc);
-    edit_by_index(alloc, &mut o)?;
-    expect_text(&rt, alloc, &o, r#"{"key":[{"other":"value"}]}"#)?;
-    Ok(())
-}
-
-#[test]
-fn replaced_item(rt: HostRuntime) -> Result<(), Fail> {
-    let mut items = with_item(Value::array(rt.alloc()), Value::null())?;
-    *items.get_idx_mut(0).ok_or("no item")? = number(1);
-    expect_text(&rt, rt.alloc(), &items, "[1]")?;
-    Ok(())
+    seen(Value::object(alloc), |o| {
+        edit_by_index(alloc, o)?;
+        expect_text(&rt, alloc, o, r#"{"key":[{"other":"value"}]}"#)?;
+        Ok(())
+    })
 }
 
 // Looks in the sample for parts that it doesn't have.
@@ -143,44 +134,59 @@ fn lends_nothing(v: &mut Value) -> Result<bool, Fail> {
 // A document that has nothing to lend stays as it is.
 #[test]
 fn nothing_to_lend(rt: HostRuntime) -> Result<(), Fail> {
-    let mut v = owned_of(rt.alloc(), SAMPLE)?;
-    assert!(rt; lends_nothing(&mut v)?);
-    expect_text(&rt, rt.alloc(), &v, SAMPLE)?;
-    Ok(())
+    seen(owned_of(rt.alloc(), SAMPLE)?, |v| {
+        assert!(rt; lends_nothing(v)?);
+        expect_text(&rt, rt.alloc(), v, SAMPLE)?;
+        Ok(())
+    })
 }
 
 // Puts a member into the empty object, replaces it twice, and removes it.
 fn insert_and_remove(rt: &impl Abort, alloc: Global, v: &mut Value) -> Result<(), Fail> {
-    assert!(rt;
-        v.insert(String::from_str(alloc, "key")?, number(1))?
-            .is_none()
-    );
+    let old = v.insert(String::from_str(alloc, "key")?, number(1))?;
+    assert!(rt; is_nothing(old));
     let old = v.insert(String::from_str(alloc, "key")?, number(2))?;
     expect_eq(rt, number_in(old), Some(1));
     v.get("key").ok_or("no key")?;
     v["key"] = number(3);
     expect_eq(rt, number_in(v.remove("key")?), Some(3));
-    assert!(rt; v.remove("key")?.is_none());
+    assert!(rt; is_nothing(v.remove("key")?));
     Ok(())
 }
 
 #[test]
 fn owned_insert_remove(rt: HostRuntime) -> Result<(), Fail> {
-    let mut v = Value::object(rt.alloc());
-    insert_and_remove(&rt, rt.alloc(), &mut v)
+    seen(Value::object(rt.alloc()), |v| {
+        insert_and_remove(&rt, rt.alloc(), v)
+    })
 }
 
 #[test]
 fn refused_writes(rt: HostRuntime) -> Result<(), Fail> {
-    let alloc = rt.alloc();
-    let mut null = Value::null();
-    let refused = null.insert(String::from_str(alloc, "key")?, number(1));
-    expect_eq(&rt, refused.err(), Some(AccessError::NotAnObject));
-    expect_eq(
-        &rt,
-        null.push(number(1)).err(),
-        Some(AccessError::NotAnArray),
-    );
+    seen(Value::null(), |null| {
+        let refused = null.insert(String::from_str(rt.alloc(), "key")?, number(1));
+        expect_eq(&rt, refused.err(), Some(AccessError::NotAnObject));
+        let refused = null.push(number(1));
+        expect_eq(&rt, refused.err(), Some(AccessError::NotAnArray));
+        Ok(())
+    })
+}
+
+// Writes to the number of the sample.
+fn write_to_member(rt: &impl Abort, v: &mut Value) -> Result<(), Fail> {
+    v.get("n").ok_or("no member")?;
+    write_by_key(v, "n", number(4));
+    expect_eq(rt, v.get_u64("n"), Some(4));
+    Ok(())
+}
+
+// Writes to the item of [null].
+fn write_to_item(rt: &impl Abort, alloc: Global, items: &mut Value) -> Result<(), Fail> {
+    *items.get_idx_mut(0).ok_or("no item")? = number(1);
+    expect_text(rt, alloc, items, "[1]")?;
+    items.get_idx(0).ok_or("no item")?;
+    write_by_index(items, 0, number(5));
+    expect_text(rt, alloc, items, "[5]")?;
     Ok(())
 }
 
@@ -188,62 +194,63 @@ fn refused_writes(rt: HostRuntime) -> Result<(), Fail> {
 #[test]
 fn written_parts(rt: HostRuntime) -> Result<(), Fail> {
     let alloc = rt.alloc();
-    let mut v = owned_of(alloc, SAMPLE)?;
-    v.get("n").ok_or("no member")?;
-    write_by_key(&mut v, "n", number(4));
-    expect_eq(&rt, v.get_u64("n"), Some(4));
-    let mut items = with_item(Value::array(alloc), Value::null())?;
-    items.get_idx(0).ok_or("no item")?;
-    write_by_index(&mut items, 0, number(5));
-    expect_text(&rt, alloc, &items, "[5]")?;
-    Ok(())
+    seen(owned_of(alloc, SAMPLE)?, |v| write_to_member(&rt, v))?;
+    let items = with_item(Value::array(alloc), Value::null())?;
+    seen(items, |items| write_to_item(&rt, alloc, items))
 }
 
 // {"a":[1]}, in containers that were made with room.
 fn with_room(alloc: Global) -> Result<Value, Fail> {
+    let key = String::from_str(alloc, "a")?;
     let items = with_item(Value::array_with_capacity(alloc, 1)?, number(1))?;
-    named(alloc, Value::object_with_capacity(alloc, 1)?, "a", items)
+    let object = Value::object_with_capacity(alloc, 1)?;
+    Ok(with_member(object, key, items)?)
 }
 
 #[test]
 fn room_and_lines(rt: HostRuntime) -> Result<(), Fail> {
-    let v = with_room(rt.alloc())?;
-    let mut out = b"> ".to_vec(rt.alloc())?;
-    v.encode_pp(&mut out)?;
-    expect_eq(
-        &rt,
-        out.as_slice(),
-        b"> {\n  \"a\": [\n    1\n  ]\n}".as_slice(),
-    );
-    Ok(())
+    seen(with_room(rt.alloc())?, |v| {
+        let mut out = b"> ".to_vec(rt.alloc())?;
+        v.encode_pp(&mut out)?;
+        let lines = b"> {\n  \"a\": [\n    1\n  ]\n}";
+        expect_eq(&rt, out.as_slice(), lines.as_slice());
+        Ok(())
+    })
 }
 
 // Takes back what an array holds.
 fn pop_all(rt: &impl Abort, v: &mut Value) -> Result<(), Fail> {
     expect_eq(rt, v.get_idx(1).ok_or("no item")?.as_u64(), Some(1));
     expect_eq(rt, number_in(v.pop()?), Some(1));
-    expect_eq(rt, v.pop()?.ok_or("no item")?.as_str(), Some("zero"));
-    assert!(rt; v.pop()?.is_none());
+    let is_zero = seen(v.pop()?.ok_or("no item")?, |item| {
+        item.as_str() == Some("zero")
+    });
+    assert!(rt; is_zero);
+    assert!(rt; is_nothing(v.pop()?));
     Ok(())
 }
 
 #[test]
 fn owned_push_pop(rt: HostRuntime) -> Result<(), Fail> {
-    let alloc = rt.alloc();
-    let v = with_item(Value::array(alloc), text(alloc, "zero")?)?;
-    let mut v = with_item(v, number(1))?;
-    pop_all(&rt, &mut v)
+    seen(Value::array(rt.alloc()), |v| {
+        v.push(text(rt.alloc(), "zero")?)?;
+        v.push(number(1))?;
+        pop_all(&rt, v)
+    })
 }
 
-// {"a":1,"b":2}, or with its members in the other order
-fn two_members(alloc: Global, is_turned: bool) -> Result<Value, Fail> {
-    let object = Value::object(alloc);
-    if is_turned {
-        let object = named(alloc, object, "b", number(2))?;
-        return named(alloc, object, "a", number(1));
+fn put_numbers(alloc: Global, object: &mut Value, members: &[(&str, u64)]) -> Result<(), Fail> {
+    for (name, value) in members {
+        object.insert(String::from_str(alloc, name)?, number(*value))?;
     }
-    let object = named(alloc, object, "a", number(1))?;
-    named(alloc, object, "b", number(2))
+    Ok(())
+}
+
+// An object of these members.
+fn numbers(alloc: Global, members: &[(&str, u64)]) -> Result<Value, Fail> {
+    let mut object = Value::object(alloc);
+    put_numbers(alloc, &mut object, members)?;
+    Ok(object)
 }
 
 fn decimal(alloc: Global, text: &str) -> Result<Value, Fail> {
@@ -254,32 +261,45 @@ fn decimal(alloc: Global, text: &str) -> Result<Value, Fail> {
 #[test]
 fn equal_in_any_order(rt: HostRuntime) -> Result<(), Fail> {
     let alloc = rt.alloc();
-    let there = two_members(alloc, false)?;
-    let back = two_members(alloc, true)?;
-    assert!(rt; there == back);
-    expect_text(&rt, alloc, &there, r#"{"a":1,"b":2}"#)?;
-    expect_text(&rt, alloc, &back, r#"{"b":2,"a":1}"#)?;
+    let back = [("b", 2), ("a", 1)];
+    seen(
+        numbers(alloc, &[("a", 1), ("b", 2)])?,
+        |there| -> Result<(), Fail> {
+            assert!(rt; is_equal(there, numbers(alloc, &back)?));
+            expect_text(&rt, alloc, there, r#"{"a":1,"b":2}"#)?;
+            Ok(())
+        },
+    )?;
+    expect_made(&rt, alloc, numbers(alloc, &back)?, r#"{"b":2,"a":1}"#)?;
     Ok(())
+}
+
+// [1.50]
+fn long_decimal(alloc: Global) -> Result<Value, Fail> {
+    Ok(with_item(Value::array(alloc), decimal(alloc, "1.50")?)?)
+}
+
+// [1.5]
+fn short_decimal(alloc: Global) -> Result<Value, Fail> {
+    Ok(with_item(Value::array(alloc), decimal(alloc, "1.5")?)?)
 }
 
 #[test]
 fn unequal_decimals(rt: HostRuntime) -> Result<(), Fail> {
     let alloc = rt.alloc();
-    let long = with_item(Value::array(alloc), decimal(alloc, "1.50")?)?;
-    let short = with_item(Value::array(alloc), decimal(alloc, "1.5")?)?;
-    assert!(rt; long != short);
-    Ok(())
-}
-
-fn is_same_borrowed(value: &Value, borrowed: &Document<CowStr<'_>, DecimalCow<'_>>) -> bool {
-    value.same_as(borrowed)
+    seen(long_decimal(alloc)?, |long| {
+        assert!(rt; !is_equal(long, short_decimal(alloc)?));
+        Ok(())
+    })
 }
 
 #[test]
 fn same_as_others(rt: HostRuntime) -> Result<(), Fail> {
     let value = text(rt.alloc(), "x")?;
-    assert!(rt; is_same_borrowed(&value, &Document::from("x")));
-    assert!(rt; Value::from(1u8).same_as(&1i128));
+    let borrowed: Document<CowStr<'_>, DecimalCow<'_>> = Document::from("x");
+    assert!(rt; is_same(value, &borrowed));
+    assert!(rt; is_same(Value::from_text(rt.alloc(), "x")?, &"x"));
+    assert!(rt; is_same(Value::from(1u8), &1i128));
     Ok(())
 }
 
@@ -304,12 +324,29 @@ fn sample_map(alloc: Global) -> Result<HashMap<String, Value>, Fail> {
     Ok(map)
 }
 
+// Of pairs and of a map.
 #[test]
 fn made_of_pairs(rt: HostRuntime) -> Result<(), Fail> {
     let alloc = rt.alloc();
-    let object = object_of_pairs(alloc)?;
-    expect_text(&rt, alloc, &object, r#"{"a":3,"b":2}"#)?;
-    assert!(rt; object.same_as(&sample_map(alloc)?));
+    expect_made(&rt, alloc, object_of_pairs(alloc)?, r#"{"a":3,"b":2}"#)?;
+    seen(sample_map(alloc)?, |map| -> Result<(), Fail> {
+        assert!(rt; is_same(object_of_pairs(alloc)?, map));
+        Ok(())
+    })?;
+    // The members of a map go by their keys.
+    let object = Value::from_map(alloc, sample_map(alloc)?)?;
+    expect_made(&rt, alloc, object, r#"{"a":3,"b":2}"#)?;
+    Ok(())
+}
+
+// Appends 404 pairs.
+fn put_pairs(alloc: Global, pairs: &mut Vec<(String, u32)>) -> Result<(), AllocError> {
+    for number in 0..400u32 {
+        pairs.push((format!(in alloc; "{number}")?, number))?;
+    }
+    for (key, number) in [("BB", 400), ("Aa", 401), ("399", 402), ("BB", 403)] {
+        pairs.push((String::from_str(alloc, key)?, number))?;
+    }
     Ok(())
 }
 
@@ -318,15 +355,16 @@ fn made_of_pairs(rt: HostRuntime) -> Result<(), Fail> {
 fn made_of_many_pairs(rt: HostRuntime) -> Result<(), Fail> {
     let alloc = rt.alloc();
     let mut pairs = Vec::new(alloc);
-    for number in 0..400u32 {
-        pairs.push((format!(in alloc; "{number}")?, number))?;
-    }
-    for (key, number) in [("BB", 400), ("Aa", 401), ("399", 402), ("BB", 403)] {
-        pairs.push((String::from_str(alloc, key)?, number))?;
-    }
-    let object = Value::from_pairs(alloc, pairs)?;
+    put_pairs(alloc, &mut pairs)?;
+    seen(Value::from_pairs(alloc, pairs)?, |object| {
+        expect_numbers(&rt, object)
+    })
+}
+
+// Looks up numbers of those pairs.
+fn expect_numbers(rt: &impl Abort, object: &Value) -> Result<(), Fail> {
     let members = object.as_object().ok_or("no object")?;
-    assert_eq!(rt; members.len(), 402);
+    expect_eq(rt, members.len(), 402);
     for (key, number) in [
         ("0", 0),
         ("398", 398),
@@ -334,34 +372,20 @@ fn made_of_many_pairs(rt: HostRuntime) -> Result<(), Fail> {
         ("Aa", 401),
         ("BB", 403),
     ] {
-        assert_eq!(rt; object.get_u32(key), Some(number), "{key}");
+        expect_at(rt, key, object.get_u32(key), Some(number));
     }
     Ok(())
 }
 
-// The members go by their keys.
-#[test]
-fn made_of_a_map(rt: HostRuntime) -> Result<(), Fail> {
-    let alloc = rt.alloc();
-    let object = Value::from_map(alloc, sample_map(alloc)?)?;
-    expect_text(&rt, alloc, &object, r#"{"a":3,"b":2}"#)?;
-    Ok(())
-}
-
+// Of a list and of values.
 #[test]
 fn made_of_lists(rt: HostRuntime) -> Result<(), Fail> {
     let alloc = rt.alloc();
     let list = Value::from_list(alloc, Vec::from_array(alloc, [Some(1u8), None])?)?;
-    expect_text(&rt, alloc, &list, "[1,null]")?;
-    Ok(())
-}
-
-#[test]
-fn made_of_values(rt: HostRuntime) -> Result<(), Fail> {
-    let alloc = rt.alloc();
+    expect_made(&rt, alloc, list, "[1,null]")?;
+    let list = Vec::from_array(alloc, [1u64])?;
     let values = Value::from_values(alloc, Vec::from_array(alloc, [1i64])?)?;
-    assert!(rt; values.same_as(&Vec::from_array(alloc, [1u64])?));
-    assert!(rt; Value::from_text(alloc, "x")?.same_as(&"x"));
+    assert!(rt; is_same(values, &list));
     Ok(())
 }
 
@@ -372,8 +396,10 @@ fn expect_shown(
     value: Value,
     shown: &str,
 ) -> Result<(), AllocError> {
-    expect_eq(rt, value.to_string(alloc)?.as_str(), shown);
-    Ok(())
+    seen(value, |value| {
+        expect_eq(rt, value.to_string(alloc)?.as_str(), shown);
+        Ok(())
+    })
 }
 
 #[test]

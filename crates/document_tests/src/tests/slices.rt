@@ -1,5 +1,5 @@
 //! Of `sj_values`: borrowed documents that are built of the nodes of a view.
-use super::expect_text;
+use super::expect_made;
 use sj_parse::to_tape;
 use sj_reads::ValueAsScalar;
 use sj_tape::{Node, Value};
@@ -9,7 +9,7 @@ use std::process::Abort;
 use std::test::Fail;
 
 // Takes the next value, which isn't the end, and looks at it.
-fn expect_next<F: FnOnce(&BorrowedValue<'_>) -> bool + Drop>(
+fn expect_next<F: FnOnce(&mut BorrowedValue<'_>) -> bool + Drop>(
     rt: &impl Abort,
     alloc: Global,
     values: &mut BorrowSliceDeserializer<'_, '_>,
@@ -18,8 +18,8 @@ fn expect_next<F: FnOnce(&BorrowedValue<'_>) -> bool + Drop>(
     requires { F.IsAlwaysCallable is_expected }
 {
     assert!(rt; !values.is_at_end());
-    let value = values.parse(alloc)?;
-    assert!(rt; is_expected(&value));
+    let mut value = values.parse(alloc)?;
+    assert!(rt; is_expected(&mut value));
     Ok(())
 }
 
@@ -31,7 +31,7 @@ fn expect_next_text(
     text: &str,
 ) -> Result<(), AllocError> {
     assert!(rt; !values.is_at_end());
-    expect_text(rt, alloc, &values.parse(alloc)?, text)
+    expect_made(rt, alloc, values.parse(alloc)?, text)
 }
 
 // Takes the next node, which isn't the end, and is an array of three items.

@@ -3,7 +3,7 @@ ghost use Rattle.std.specs.Prelude.{IfOk};
 ghost use Rattle.sj_base.specs.Spelling.{Spells};
 ghost use Rattle.sj_owned.specs.Views.{value_tree};
 
-use super::{expect_eq, owned_of};
+use super::{expect_eq, owned_of, seen};
 use sj_base::laws::printing_reads_back;
 use sj_object::ObjectKey;
 use sj_owned::{Literal, Value, to_owned_value};
@@ -31,12 +31,15 @@ fn text_of<K: ObjectKey, D: Literal>(
 }
 
 fn expect_read_back(rt: &impl Abort, alloc: Global, json: &str) -> Result<(), Fail> {
-    let value = owned_of(alloc, json)?;
-    for is_indented in [false, true] {
-        let mut text = text_of(alloc, &value, is_indented)?;
-        expect_eq(rt, &to_owned_value(alloc, &mut text)?, &value);
-    }
-    Ok(())
+    seen(owned_of(alloc, json)?, |value| {
+        for is_indented in [false, true] {
+            let mut text = text_of(alloc, value, is_indented)?;
+            seen(to_owned_value(alloc, &mut text)?, |read| {
+                expect_eq(rt, &*read, &*value);
+            });
+        }
+        Ok(())
+    })
 }
 
 #[test]

@@ -1,5 +1,5 @@
 //! Of `sj_owned` and `sj_values`: documents that are read from bytes, with ample memory.
-use super::{expect_eq, expect_text, on_borrowed, owned_of};
+use super::{expect_eq, expect_made, expect_text, on_borrowed, owned_of, seen};
 use sj_base::{DecimalCow, ErrorType, ValueType};
 use sj_owned::{
     OwnedDeserializer, OwnedValue, Value, deserialize, deserialize_with_buffers,
@@ -17,46 +17,34 @@ use std::test::Fail;
 fn read_by_their_own_buffers(rt: HostRuntime) -> Result<(), Fail> {
     let alloc = rt.alloc();
     let value = owned_of(alloc, r#"{"a":1,"a":2}"#)?;
-    expect_text(&rt, alloc, &value, r#"{"a":1}"#)?;
-    Ok(())
-}
-
-#[test]
-fn borrowed_by_their_own_buffers(rt: HostRuntime) -> Result<(), Fail> {
-    let alloc = rt.alloc();
+    expect_made(&rt, alloc, value, r#"{"a":1}"#)?;
+    let mut text = *b"[1.50]";
+    let value = deserialize::<OwnedValue, String>(alloc, &mut text)?;
+    expect_made(&rt, alloc, value, "[1.50]")?;
     on_borrowed(alloc, r#"{"some": ["key", "value", 2]}"#, |value| {
         expect_text(&rt, alloc, value, r#"{"some":["key","value",2]}"#)?;
         Ok(())
     })
 }
 
-#[test]
-fn built_by_their_own_buffers(rt: HostRuntime) -> Result<(), Fail> {
-    let alloc = rt.alloc();
-    let mut text = *b"[1.50]";
-    let value = deserialize::<OwnedValue, String>(alloc, &mut text)?;
-    expect_text(&rt, alloc, &value, "[1.50]")?;
-    Ok(())
-}
-
 fn expect_owned(rt: &impl Abort, alloc: Global, buffers: &mut Buffers) -> Result<(), Fail> {
     let mut text = *br#"["a"]"#;
     let value = to_owned_value_with_buffers(alloc, &mut text, buffers)?;
-    expect_text(rt, alloc, &value, r#"["a"]"#)?;
+    expect_made(rt, alloc, value, r#"["a"]"#)?;
     Ok(())
 }
 
 fn expect_borrowed(rt: &impl Abort, alloc: Global, buffers: &mut Buffers) -> Result<(), Fail> {
     let mut text = *br#"["\u0061"]"#;
     let value = to_borrowed_value_with_buffers(alloc, &mut text, buffers)?;
-    expect_text(rt, alloc, &value, r#"["a"]"#)?;
+    expect_made(rt, alloc, value, r#"["a"]"#)?;
     Ok(())
 }
 
 fn expect_built(rt: &impl Abort, alloc: Global, buffers: &mut Buffers) -> Result<(), Fail> {
     let mut text = *b"7";
     let value = deserialize_with_buffers::<OwnedValue, String>(alloc, &mut text, buffers)?;
-    expect_text(rt, alloc, &value, "7")?;
+    expect_made(rt, alloc, value, "7")?;
     Ok(())
 }
 
@@ -87,7 +75,7 @@ fn expect_parts(
 ) -> Result<(), Fail> {
     for part in parts {
         assert!(rt; !values.is_at_end());
-        expect_text(rt, alloc, &values.parse(alloc)?, part)?;
+        expect_made(rt, alloc, values.parse(alloc)?, part)?;
     }
     assert!(rt; values.is_at_end());
     Ok(())
@@ -115,7 +103,7 @@ fn expect_part(
     part: &str,
 ) -> Result<(), Fail> {
     assert!(rt; !values.is_at_end());
-    expect_text(rt, alloc, &values.parse(alloc)?, part)?;
+    expect_made(rt, alloc, values.parse(alloc)?, part)?;
     assert!(rt; values.is_at_end());
     Ok(())
 }
@@ -148,12 +136,13 @@ fn expect_as_they_stand(rt: &impl Abort, value: &BorrowedValue<'_>) -> Result<()
 // An integer that no carrier holds is a literal, and no integer read gives it.
 #[test]
 fn read_as_a_literal(rt: HostRuntime) -> Result<(), Fail> {
-    let value = owned_of(rt.alloc(), "18446744073709551616")?;
-    expect_eq(&rt, value.value_type(), ValueType::Decimal);
-    expect_eq(&rt, (value.as_i128(), value.as_u128()), (None, None));
-    let literal = value.as_decimal().ok_or("no literal")?;
-    expect_eq(&rt, literal.as_str(), "18446744073709551616");
-    Ok(())
+    seen(owned_of(rt.alloc(), "18446744073709551616")?, |value| {
+        expect_eq(&rt, value.value_type(), ValueType::Decimal);
+        expect_eq(&rt, (value.as_i128(), value.as_u128()), (None, None));
+        let literal = value.as_decimal().ok_or("no literal")?;
+        expect_eq(&rt, literal.as_str(), "18446744073709551616");
+        Ok(())
+    })
 }
 
 #[test]
