@@ -28,6 +28,14 @@ fn lazy<'t, 'i>(tape: &'t Tape<'i>) -> Result<Value<'t, 't, 'i>, Fail> {
     Ok(Value::from_tape(tape.as_value()))
 }
 
+// Looks at a value, and lets it go. It is proved once, for values of any type: code that lets a lazy value or a document go has to
+// be proved for each form of it, at each place where it returns.
+fn seen<T: Drop, R, F: FnOnce(&mut T) -> R + Drop>(mut value: T, look: F) -> R
+    requires { F.IsAlwaysCallable look }
+{
+    look(&mut value)
+}
+
 // Makes a check on the lazy value of a text. The check holds nothing that has to be dropped.
 fn on_text<F: FnOnce(&mut Value<'_, '_, '_>) -> Result<(), Fail> + Drop>(
     alloc: Global,
@@ -45,6 +53,11 @@ fn on_text<F: FnOnce(&mut Value<'_, '_, '_>) -> Result<(), Fail> + Drop>(
 // Fails unless both are equal. It is proved once, and an `assert_eq!` with all that its test holds.
 fn expect_eq<T: PartialEq + Debug + Drop>(rt: &impl Abort, found: T, expected: T) {
     assert_eq!(rt; found, expected);
+}
+
+// The same of a row of a table, which it names.
+fn expect_at<T: PartialEq + Debug + Drop>(rt: &impl Abort, row: &str, found: T, expected: T) {
+    assert_eq!(rt; found, expected, "at {row}");
 }
 
 // Fails unless this is the compact text of the value.
@@ -108,11 +121,7 @@ fn typed_reads(rt: HostRuntime) -> Result<(), Fail> {
         expect_eq(&rt, value.try_get_str("snot"), Err(number_met));
         expect_eq(&rt, value.try_get_bool("x"), Ok(None));
         Ok(())
-    })
-}
-
-#[test]
-fn typed_read_of_no_object(rt: HostRuntime) -> Result<(), Fail> {
+    })?;
     on_text(rt.alloc(), "[]", |value| {
         let array_met = TryTypeError {
             expected: ValueType::Object,
@@ -135,13 +144,8 @@ fn refused_writes(rt: HostRuntime) -> Result<(), Fail> {
         expect_eq(&rt, refused, Some(AccessError::NotAnObject));
         expect_eq(&rt, value.pop(alloc).err(), Some(AccessError::NotAnArray));
         Ok(())
-    })
-}
-
-// A write that is refused drops repeated members too.
-#[test]
-fn refused_push(rt: HostRuntime) -> Result<(), Fail> {
-    let alloc = rt.alloc();
+    })?;
+    // A write that is refused drops repeated members too.
     on_text(alloc, r#"{"a":1,"a":2}"#, |value| {
         expect_text(&rt, alloc, value, r#"{"a":1,"a":2}"#)?;
         let pushed = value.push(alloc, BorrowedValue::from(0u64));
@@ -182,6 +186,26 @@ impl Lending {
     }
 }
 
+// Makes one of these calls on the tape of {"a":1,"a":2}.
+fn expect_upgraded(
+    rt: &impl Abort,
+    alloc: Global,
+    call: Lending,
+    value: &mut Value<'_, '_, '_>,
+) -> Result<(), AllocError> {
+    let is_made = call.is_made(value, alloc);
+    assert!(rt;
+        value.is_value() == is_made && value.is_tape() != is_made,
+        "{call:?}"
+    );
+    let left = if is_made {
+        r#"{"a":1}"#
+    } else {
+        r#"{"a":1,"a":2}"#
+    };
+    expect_text(rt, alloc, value, left)
+}
+
 // Each of these calls as the first one on a tape, whatever it finds. If the upgrade lacks memory, as
 // `oracle/memory.sh` has it, the tape stays.
 #[test]
@@ -189,17 +213,7 @@ fn first_writes(rt: HostRuntime) -> Result<(), Fail> {
     let alloc = rt.alloc();
     for call in LENDINGS {
         on_text(alloc, r#"{"a":1,"a":2}"#, |value| {
-            let is_made = call.is_made(value, alloc);
-            assert!(rt;
-                value.is_value() == is_made && value.is_tape() != is_made,
-                "{call:?}"
-            );
-            let left = if is_made {
-                r#"{"a":1}"#
-            } else {
-                r#"{"a":1,"a":2}"#
-            };
-            expect_text(&rt, alloc, value, left)?;
+            expect_upgraded(&rt, alloc, call, value)?;
             Ok(())
         })?;
     }
@@ -230,12 +244,26 @@ fn expect_removed(
 
 // Whether `into_owned` gives a document of its own.
 fn owns_document(value: Value<'_, '_, '_>, alloc: Global) -> bool {
-    matches!(value.into_owned(alloc), Ok(Value::Value(Held::Owned(_))))
+    seen(value.into_owned(alloc), |owned| {
+        matches!(owned, Ok(Value::Value(Held::Owned(_))))
+    })
 }
 
 // A value that borrows the document.
 fn held<'b, 'i>(document: &'b BorrowedValue<'i>) -> Value<'b, 'b, 'i> {
     Value::Value(Held::Borrowed(document))
+}
+
+// Writes to a value that borrows the document {"a":[1,2],"s":"x"}, and makes others.
+fn expect_original(
+    rt: &impl Abort,
+    alloc: Global,
+    document: &BorrowedValue<'_>,
+) -> Result<(), Fail> {
+    seen(held(document), |value| expect_removed(rt, alloc, value))?;
+    expect_made(rt, alloc, held(document), r#"{"a":[1,2],"s":"x"}"#)?;
+    assert!(rt; owns_document(held(document), alloc));
+    Ok(())
 }
 
 // The original of a document that is only borrowed stays as it is.
@@ -244,9 +272,34 @@ fn borrowed_document(rt: HostRuntime) -> Result<(), Fail> {
     let alloc = rt.alloc();
     let mut text = *br#"{"a":[1,2],"s":"x"}"#;
     let document = to_borrowed_value(alloc, &mut text)?;
-    expect_removed(&rt, alloc, &mut held(&document))?;
-    expect_made(&rt, alloc, held(&document), r#"{"a":[1,2],"s":"x"}"#)?;
-    assert!(rt; owns_document(held(&document), alloc));
+    expect_original(&rt, alloc, &document)
+}
+
+// Makes one of these calls on a value that borrows a document.
+fn expect_copied(
+    rt: &impl Abort,
+    alloc: Global,
+    call: Lending,
+    value: &mut Value<'_, '_, '_>,
+) -> Result<(), AllocError> {
+    let is_made = call.is_made(value, alloc);
+    let is_owned = matches!(value, Value::Value(Held::Owned(_)));
+    assert!(rt; is_owned == is_made, "{call:?}");
+    expect_text(rt, alloc, value, r#"{"a":[1,2],"s":"x"}"#)
+}
+
+// The same for each call.
+fn expect_all_copied(
+    rt: &impl Abort,
+    alloc: Global,
+    document: &BorrowedValue<'_>,
+) -> Result<(), Fail> {
+    for call in LENDINGS {
+        seen(
+            held(document),
+            |value| expect_copied(rt, alloc, call, value),
+        )?;
+    }
     Ok(())
 }
 
@@ -257,14 +310,7 @@ fn first_writes_to_copies(rt: HostRuntime) -> Result<(), Fail> {
     let alloc = rt.alloc();
     let mut text = *br#"{"a":[1,2],"s":"x"}"#;
     let document = to_borrowed_value(alloc, &mut text)?;
-    for call in LENDINGS {
-        let mut value = held(&document);
-        let is_made = call.is_made(&mut value, alloc);
-        let is_owned = matches!(value, Value::Value(Held::Owned(_)));
-        assert!(rt; is_owned == is_made, "{call:?}");
-        expect_text(&rt, alloc, &value, r#"{"a":[1,2],"s":"x"}"#)?;
-    }
-    Ok(())
+    expect_all_copied(&rt, alloc, &document)
 }
 
 // Appends a null and takes the last item away again, and returns whether that was a null.
@@ -273,7 +319,7 @@ fn pops_null(alloc: Global, value: &mut Value<'_, '_, '_>) -> Result<bool, Fail>
     Ok(is_null_in(value.pop(alloc)?))
 }
 
-fn is_null_in(item: Option<BorrowedValue<'_>>) -> bool {
+fn is_null_in<T: ValueAsScalar + Drop>(item: Option<T>) -> bool {
     matches!(item, Some(item) if item.is_null())
 }
 
@@ -283,7 +329,7 @@ fn removed_number(alloc: Global, value: &mut Value<'_, '_, '_>) -> Result<Option
     Ok(number_in(item.remove("b")?))
 }
 
-fn number_in(member: Option<BorrowedValue<'_>>) -> Option<u64> {
+fn number_in<T: ValueAsScalar + Drop>(member: Option<T>) -> Option<u64> {
     member?.as_u64()
 }
 
@@ -322,7 +368,11 @@ fn put_document<'i>(
 fn inserts_null(alloc: Global, value: &mut Value<'_, '_, '_>) -> Result<bool, Fail> {
     let members = value.as_object_mut(alloc)?.ok_or("no object")?;
     let inserted = members.insert(CowStr::Borrowed("k"), BorrowedValue::null());
-    Ok(matches!(inserted, Ok(None)))
+    Ok(is_nothing(inserted))
+}
+
+fn is_nothing<T: Drop, E: Drop>(answer: Result<Option<T>, E>) -> bool {
+    matches!(answer, Ok(None))
 }
 
 fn write_true(alloc: Global, value: &mut Value<'_, '_, '_>) -> Result<(), Fail> {
@@ -338,7 +388,27 @@ fn write_members(
 ) -> Result<(), Fail> {
     put_document(alloc, value, BorrowedValue::object(alloc))?;
     assert!(rt; inserts_null(alloc, value)?);
-    write_true(alloc, value)
+    write_true(alloc, value)?;
+    expect_text(rt, alloc, value, r#"{"k":true}"#)?;
+    Ok(())
+}
+
+// That value, made of null.
+fn members(rt: &impl Abort, alloc: Global) -> Result<Value<'static, 'static, 'static>, Fail> {
+    let mut value = Value::null();
+    write_members(rt, alloc, &mut value)?;
+    Ok(value)
+}
+
+// Looks for the tape of {"a":1,"a":2}, which is no document.
+fn expect_left(
+    rt: &impl Abort,
+    alloc: Global,
+    value: &Value<'_, '_, '_>,
+) -> Result<bool, AllocError> {
+    assert!(rt; value.is_tape());
+    expect_text(rt, alloc, value, r#"{"a":1,"a":2}"#)?;
+    Ok(false)
 }
 
 // Whether the value becomes a document of its own. Where that lacks memory, it comes back as it was.
@@ -346,14 +416,10 @@ fn becomes_document(
     rt: &impl Abort,
     alloc: Global,
     value: Value<'_, '_, '_>,
-) -> Result<bool, Fail> {
+) -> Result<bool, AllocError> {
     match value.into_value(alloc) {
         Ok(_) => Ok(true),
-        Err(value) => {
-            assert!(rt; value.is_tape());
-            expect_text(rt, alloc, &value, r#"{"a":1,"a":2}"#)?;
-            Ok(false)
-        }
+        Err(value) => expect_left(rt, alloc, &value),
     }
 }
 
@@ -372,21 +438,24 @@ fn value_of_a_tape(rt: HostRuntime) -> Result<(), Fail> {
 
 // The boolean of a member of the document that the value becomes, or nothing where there is no memory for it.
 fn bool_of(alloc: Global, value: Value<'_, '_, '_>, name: &str) -> Option<bool> {
-    value.into_value(alloc).ok()?.get_bool(name)
+    bool_in(value.into_value(alloc), name)
+}
+
+fn bool_in<T: ValueGetScalar + Drop, E: Drop>(document: Result<T, E>, name: &str) -> Option<bool> {
+    document.ok()?.get_bool(name)
 }
 
 #[test]
 fn writes_to_members(rt: HostRuntime) -> Result<(), Fail> {
     let alloc = rt.alloc();
-    let mut value = Value::null();
-    write_members(&rt, alloc, &mut value)?;
-    expect_text(&rt, alloc, &value, r#"{"k":true}"#)?;
+    let value = members(&rt, alloc)?;
     expect_eq(&rt, bool_of(alloc, value, "k"), Some(true));
     Ok(())
 }
 
-// Looks for the indented text of the member of {"o":{"k":null}}.
+// Looks for a tape, and for the indented text of the member of {"o":{"k":null}}.
 fn expect_indented(rt: &impl Abort, alloc: Global, value: &Value<'_, '_, '_>) -> Result<(), Fail> {
+    assert!(rt; value.is_tape());
     let mut out = Vec::new(alloc);
     value.get("o").ok_or("no member")?.encode_pp(&mut out)?;
     expect_eq(rt, out.as_slice(), b"{\n  \"k\": null\n}".as_slice());
@@ -395,11 +464,10 @@ fn expect_indented(rt: &impl Abort, alloc: Global, value: &Value<'_, '_, '_>) ->
 
 // Looks for a tape of that text.
 fn expect_kept_tape(rt: &impl Abort, alloc: Global, value: Value<'_, '_, '_>) -> Result<(), Fail> {
-    let Ok(kept) = value.into_owned(alloc) else {
-        return Err(Fail::new("no value"));
-    };
-    assert!(rt; kept.is_tape());
-    expect_indented(rt, alloc, &kept)
+    match value.into_owned(alloc) {
+        Ok(kept) => expect_indented(rt, alloc, &kept),
+        Err(_) => Err(Fail::new("no value")),
+    }
 }
 
 // A copy of a tape is that tape.
@@ -408,8 +476,9 @@ fn copies(rt: HostRuntime) -> Result<(), Fail> {
     let alloc = rt.alloc();
     on_text(alloc, r#"{"o":{"k":null}}"#, |value| {
         let copy = value.try_clone()?;
-        value.value_mut(alloc)?;
+        let is_upgraded = value.value_mut(alloc).is_ok();
         expect_kept_tape(&rt, alloc, copy)?;
+        assert!(rt; is_upgraded);
         expect_made(&rt, alloc, value.try_clone()?, r#"{"o":{"k":null}}"#)?;
         Ok(())
     })
@@ -473,56 +542,52 @@ fn same_as<T: LazyComparand>(
     alloc: Global,
     json: &str,
     other: &T,
-    is_same: bool,
+    is_same: (bool, bool),
 ) -> Result<(), Fail> {
     on_text(alloc, json, |value| {
-        assert!(rt; value.same_as(other) == is_same, "{json}");
+        let of_tape = value.same_as(other);
         assert!(rt; value.is_tape());
         value.value_mut(alloc)?;
-        assert!(rt; value.same_as(other) == is_same, "{json}");
+        expect_at(rt, json, (of_tape, value.same_as(other)), is_same);
         Ok(())
     })
 }
 
-// Each key of the map is sought in the object.
+// Each key of the map is sought in the object. A repeated key of a tape counts as a member, and is none of the document.
 #[test]
 fn same_as_maps(rt: HostRuntime) -> Result<(), Fail> {
     let alloc = rt.alloc();
-    let map = map_of(alloc, "a", 1i32)?;
-    for (json, is_same) in [
-        (r#"{"a":1}"#, true),
-        (r#"{"a":2}"#, false),
-        (r#"{"b":1}"#, false),
-        (r#"{"a":1,"b":1}"#, false),
-        ("[1]", false),
+    let one = map_of(alloc, "a", 1i32)?;
+    for (json, of_tape, of_document) in [
+        (r#"{"a":1}"#, true, true),
+        (r#"{"a":2}"#, false, false),
+        (r#"{"b":1}"#, false, false),
+        (r#"{"a":1,"b":1}"#, false, false),
+        (r#"{"a":1,"a":1}"#, false, true),
+        ("[1]", false, false),
     ] {
-        same_as(&rt, alloc, json, &map, is_same)?;
+        same_as(&rt, alloc, json, &one, (of_tape, of_document))?;
     }
-    Ok(())
+    let mut two = one;
+    two.insert(String::from_str(alloc, "b")?, 2)?;
+    same_as(&rt, alloc, r#"{"b":2,"a":1}"#, &two, (true, true))?;
+    same_as(&rt, alloc, r#"{"a":1,"a":1}"#, &two, (false, false))
 }
 
-// A repeated key of a tape counts as a member, and is none of the document.
-#[test]
-fn same_as_upgraded(rt: HostRuntime) -> Result<(), Fail> {
-    let alloc = rt.alloc();
-    let map = map_of(alloc, "a", 1i32)?;
-    on_text(alloc, r#"{"a":1,"a":1}"#, |value| {
-        assert!(rt; !value.same_as(&map));
+// Fails unless the value of a text is displayed like this, as a tape and as a document.
+fn expect_both_shown(
+    rt: &impl Abort,
+    alloc: Global,
+    json: &str,
+    of_tape: &str,
+    of_document: &str,
+) -> Result<(), Fail> {
+    on_text(alloc, json, |value| {
+        expect_shown(rt, alloc, value, of_tape)?;
         value.value_mut(alloc)?;
-        assert!(rt; value.same_as(&map));
+        expect_shown(rt, alloc, value, of_document)?;
         Ok(())
     })
-}
-
-#[test]
-fn same_as_larger_maps(rt: HostRuntime) -> Result<(), Fail> {
-    let alloc = rt.alloc();
-    let mut map = map_of(alloc, "a", 1i32)?;
-    map.insert(String::from_str(alloc, "b")?, 2)?;
-    for (json, is_same) in [(r#"{"b":2,"a":1}"#, true), (r#"{"a":1,"a":1}"#, false)] {
-        same_as(&rt, alloc, json, &map, is_same)?;
-    }
-    Ok(())
 }
 
 #[test]
@@ -536,25 +601,15 @@ fn shown_values(rt: HostRuntime) -> Result<(), Fail> {
         ("[ ]", "[]"),
         (r#"[1, "x\n", {"k": null}]"#, r#"[1,"x\n",{"k":null}]"#),
     ] {
-        on_text(alloc, json, |value| {
-            expect_shown(&rt, alloc, value, shown)?;
-            value.value_mut(alloc)?;
-            expect_shown(&rt, alloc, value, shown)?;
-            Ok(())
-        })?;
+        expect_both_shown(&rt, alloc, json, shown, shown)?;
     }
-    Ok(())
-}
-
-#[test]
-fn shown_repeats(rt: HostRuntime) -> Result<(), Fail> {
-    let alloc = rt.alloc();
-    on_text(alloc, r#"{"a": 1, "a": 2}"#, |value| {
-        expect_shown(&rt, alloc, value, r#"{"a":1,"a":2}"#)?;
-        value.value_mut(alloc)?;
-        expect_shown(&rt, alloc, value, r#"{"a":1}"#)?;
-        Ok(())
-    })?;
+    expect_both_shown(
+        &rt,
+        alloc,
+        r#"{"a": 1, "a": 2}"#,
+        r#"{"a":1,"a":2}"#,
+        r#"{"a":1}"#,
+    )?;
     expect_shown(&rt, alloc, &Value::null(), "null")?;
     Ok(())
 }
