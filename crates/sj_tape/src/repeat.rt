@@ -1,8 +1,8 @@
 //! The first repeated key of a value.
-ghost use Rattle.std.specs.Prelude.{◌≡◌, [], ◌∷◌, ◌++◌, None, IfOk, OnOk, option_map};
+ghost use Rattle.std.specs.Prelude.{◌≡◌, ◌≤◌, [], ◌∷◌, ◌++◌, true, length, drop, None, Some, MatchOption, IfOk, OnOk, option_map};
 ghost use Rattle.sj_tape.specs.Repeats.{repeated, repeated_in_items, repeated_in_members, is_among, part_view, repeat_view};
 ghost use Rattle.sj_tape.specs.Views.{value_tree, array_items, object_members};
-ghost use Rattle.sj_tape.specs.inside.Earlier.{growing, texts, Lists};
+ghost use Rattle.sj_tape.specs.inside.Earlier.{growing, texts, Lists, IsAdded};
 
 use crate::array::Array;
 use crate::object::Object;
@@ -29,12 +29,12 @@ pub struct Repeat<'i> {
 }
 
 impl<'i> Repeat<'i> {
-    // Returns the same, seen from one level further out, where the path grows from the innermost part on.
-    fn inside(mut self, part: RepeatPart<'i>) -> Result<Repeat<'i>, AllocError>
-        ensures { IfOk result (λ repeat. growing repeat ≡ (part_view part.entry ∷ (growing self.entry).0, (growing self.entry).1)) }
+    // Returns what is found, seen from one level further out, where the path grows from the innermost part on.
+    fn inside(mut self, part: RepeatPart<'i>) -> Result<Option<Repeat<'i>>, AllocError>
+        ensures { IfOk result (λ found. option_map growing found ≡ Some (part_view part.entry ∷ (growing self.entry).0, (growing self.entry).1)) }
     {
         self.path.push(part)?;
-        Ok(self)
+        Ok(Some(self))
     }
 }
 
@@ -89,7 +89,7 @@ fn first_in_items<'i>(
     let mut place = 0;
     while let Some((item, behind)) = rest.split_first() {
         if let Some(found) = first_in(keys, &item)? {
-            return Ok(Some(found.inside(RepeatPart::Item(place))?));
+            return found.inside(RepeatPart::Item(place));
         }
         rest = behind;
         place += 1;
@@ -105,21 +105,15 @@ fn first_in_members<'i>(
     ensures found { IfOk result (λ found. option_map growing found ≡ repeated_in_members [] (object_members members.entry)) }
     ensures keys { IfOk result (λ found. found ≡ None → keys.new.items ≡ keys.old.items) }
 {
-    let alloc = *keys.allocator();
     let start = keys.len();
-    keys.reserve(members.len())?;
-    let mut listed = no_keys(alloc, members.len());
+    let mut listed = make_room(keys, members.len())?;
     let mut rest = members;
     while let Some((key, value, behind)) = rest.split_first() {
-        if is_met(key, &keys[start..], &mut listed)? {
-            return Ok(Some(Repeat {
-                path: Vec::new(alloc),
-                key,
-            }));
+        if let Some(repeat) = add_key(keys, start, &mut listed, key)? {
+            return Ok(Some(repeat));
         }
-        keys.push(key)?;
         if let Some(found) = first_in(keys, &value)? {
-            return Ok(Some(found.inside(RepeatPart::Key(key))?));
+            return found.inside(RepeatPart::Key(key));
         }
         rest = behind;
     }
@@ -133,16 +127,38 @@ const FEW_MEMBERS: usize = 48;
 // The keys of the members before one of an object, where a set lists them.
 type Listed<'i> = Option<BTreeSet<&'i str>>;
 
-// No keys yet. An object of more than `FEW_MEMBERS` members has them in a set, since to compare each with all others takes time
-// that grows with the square of their number.
-fn no_keys<'i>(alloc: Global, len: usize) -> Listed<'i>
-    ensures { Lists result [] }
+// Makes room for the keys of an object of this many members, and lists none yet. An object of more than `FEW_MEMBERS` members has
+// them in a set, since to compare each with all others takes time that grows with the square of their number.
+fn make_room<'i>(keys: &mut Vec<&'i str>, len: usize) -> Result<Listed<'i>, AllocError>
+    ensures keys { OnOk result (keys.new.items ≡ keys.old.items) }
+    ensures lists { IfOk result (λ listed. Lists listed []) }
 {
+    keys.reserve(len)?;
     if len > FEW_MEMBERS {
-        Some(BTreeSet::new(alloc))
+        Ok(Some(BTreeSet::new(*keys.allocator())))
     } else {
-        None
+        Ok(None)
     }
+}
+
+// Returns the key, if it stands earlier in the object whose keys begin at `start`. Else it stands there from now on.
+fn add_key<'i>(
+    keys: &mut Vec<&'i str>,
+    start: usize,
+    listed: &mut Listed<'i>,
+    key: &'i str,
+) -> Result<Option<Repeat<'i>>, AllocError>
+    requires within { start ≤ length keys.old.items }
+    requires lists { Lists listed.old (texts (drop start keys.old.items)) }
+    ensures { IfOk result (λ found. MatchOption found (IsAdded start keys.old.items keys.new.items listed.new key.now)
+        (λ repeat. (growing repeat ≡ ([], key.now)) × (is_among key.now (texts (drop start keys.old.items)) ≡ true))) }
+{
+    if is_met(key, &keys[start..], listed)? {
+        let path = Vec::new(*keys.allocator());
+        return Ok(Some(Repeat { path, key }));
+    }
+    keys.push(key)?;
+    Ok(None)
 }
 
 // Whether the key is one of those that stand earlier. It is listed from now on, where keys are.
