@@ -8,6 +8,7 @@ pub mod Comparing
 pub mod Printing
 pub mod Children
 pub mod Finding
+pub mod MemberReads
 pub mod ChildTrees
 pub mod Beginnings
 pub mod Repeating

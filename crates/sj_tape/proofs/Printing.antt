@@ -1,5 +1,10 @@
--- The entries of a container that are left to go over grow fewer, and a child has no more than its container.
-use Rattle.std.proofs.Common.{◌≡◌, ◌<◌, ◌≤◌, List, ℕ, length, ap, arith, length-append}
+-- Going over a container: the entries that are left grow fewer, a child has no more than its container, and what is printed.
+use Rattle.std.proofs.Common.{◌≡◌, ◌+◌, ◌<◌, ◌≤◌, List, ℕ, Result, Ok, Err, length, ap, arith, length-append}
+use Rattle.sj_base.specs.declared.layout.Layout.{Layout}
+use Rattle.sj_base.specs.declared.layout.Layout.TheVariants.{Compact, Indented}
+use Rattle.sj_base.specs.Layout.{inside, level_of}
+use Rattle.sj_base.specs.Output.{Prints}
+use Rattle.sj_base.proofs.Towards.{Toward}
 use Rattle.sj_base.specs.Tree.{Tree, Items, item, Members, member}
 use Rattle.sj_tape.specs.Listing.{listing, items_listing, members_listing}
 use Rattle.sj_tape.proofs.Cutting.{listing_long}
@@ -15,3 +20,13 @@ nested_item us t ts is = omega (arith, ap (λ (vs : Items). length (items_listin
 
 pub nested_member : (us : Members) (k : List ℕ) (t : Tree) (ms : Members) → us ≡ member k t ms → length (listing t) < length (members_listing us)
 nested_member us k t ms is = omega (arith, ap (λ (vs : Members). length (members_listing vs)) is, length-append (listing t) (members_listing ms))
+
+-- a level further in
+pub level_inside : (x y : Layout) → x ≡ inside y → level_of x ≤ level_of y + 1
+level_inside x Compact is = omega (arith, ap level_of is)
+level_inside x (Indented level) is = omega (arith, ap level_of is)
+
+-- what is left is printed, or its printing fails
+pub finishes : {S X E : Type 0} {A B : S → S → List ℕ → Type 0} {start now : S} {left whole : List ℕ} (r : Result X E) (end : S) → Toward A B start now left whole → Prints A B r now end left → Prints A B r start end whole
+finishes (Ok done) end h printed = h.appended end printed
+finishes (Err fault) end h begun = h.begun end begun

@@ -63,3 +63,18 @@ tree_end-returns-in_ok-end-in-Object-clause-passes t c =
     let front : drop c.args.start es ≡ object_entry c.in-Object.len c.in-Object.count ∷ drop (c.args.start + 1) es = search rules in
     let b : (c.args.start + 1 ≤ c.in_ok-end-in-Object.end) × (c.in_ok-end-in-Object.end ≤ length c.args.nodes.now) = c.in_ok-end-in-Object.ensures.bounds in
     container_counted true es c.args.start c.in_ok-end-in-Object.end c.in-Object.len c.in-Object.count c.counted-in-Object.result front (omega arith) (omega arith) c.in_ok-end-in-Object.ensures.passes c.counted-in-Object.ensures
+
+pub contents_end-part_end-requires : goal.contents_end-part_end-requires
+contents_end-part_end-requires t c = (omega arith, tt)
+
+pub part_end-tree_end-requires-else-has_keys : goal.part_end-tree_end-requires-else-has_keys
+part_end-tree_end-requires-else-has_keys t c = (omega arith, tt)
+
+pub contents_end-returns-clause-bounds : goal.contents_end-returns-clause-bounds
+contents_end-returns-clause-bounds t c = (c.loop-i.invariant.0, c.loop-i.invariant.1)
+
+pub part_end-returns-else-has_keys-clause-passes : goal.part_end-returns-else-has_keys-clause-passes
+part_end-returns-else-has_keys-clause-passes t c = rw c.if-has_keys.false c.tree_end-else-has_keys.ensures.passes
+
+pub part_end-returns-else-has_keys-clause-bounds : goal.part_end-returns-else-has_keys-clause-bounds
+part_end-returns-else-has_keys-clause-bounds t c = c.tree_end-else-has_keys.ensures.bounds

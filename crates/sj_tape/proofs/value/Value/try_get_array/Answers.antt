@@ -1,0 +1,29 @@
+use Rattle.std.proofs.Common.{List, Option, ◌∙◌, ap}
+use Rattle.std.specs.Prelude.{option_and_then}
+use Rattle.std.proofs.lemmas.Result.{err_from_is_err_and}
+use Rattle.sj_base.specs.Containers.{items_in}
+use Rattle.sj_base.specs.Path.{key}
+use Rattle.sj_base.specs.declared.static_node.ValueType.TheVariants.{Array}
+use Rattle.sj_tape.specs.declared.node.Node.{Node}
+use Rattle.sj_tape.specs.Children.{array_part, child_nodes}
+use Rattle.sj_tape.specs.Views.{value_kind, value_nodes}
+use Rattle.sj_tape.proofs.MemberReads.{read_in_member}
+use Rattle.sj_tape.proofs.value.Value.try_get_array.Goals as goal
+
+pub returns-in_err-try_as_array-in-Some : goal.returns-in_err-try_as_array-in-Some
+returns-in_err-try_as_array-in-Some c =
+    let value = c.args.self.now in
+    let met = rw c.in-Some.is at c.in_ok-member.ensures.nodes in
+    let read = read_in_member items_in Array (value_kind value) (value_nodes c.in-Some.member) (child_nodes (value_nodes value) (key c.args.name.now)) _ met c.in_err-try_as_array-in-Some.ensures.tree in
+    let p = err_from_is_err_and c.from_residual-in_err-try_as_array-in-Some.result c.from_residual-in_err-try_as_array-in-Some.ensures.1 in
+    rw (p.1, p.2) record { tree = read.1; nodes = tt }
+
+pub returns-in_ok-try_as_array-in-Some : goal.returns-in_ok-try_as_array-in-Some
+returns-in_ok-try_as_array-in-Some c =
+    let value = c.args.self.now in
+    let met = rw c.in-Some.is at c.in_ok-member.ensures.nodes in
+    let read = read_in_member items_in Array (value_kind value) (value_nodes c.in-Some.member) (child_nodes (value_nodes value) (key c.args.name.now)) _ met c.in_ok-try_as_array-in-Some.ensures.tree in
+    record {
+      tree = read.1;
+      nodes = c.in_ok-try_as_array-in-Some.ensures.nodes ∙ ap (λ (found : Option (List Node)). option_and_then array_part found) read.0;
+    }
