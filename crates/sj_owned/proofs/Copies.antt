@@ -162,14 +162,14 @@ module _ {K V J W T C : Type 0} (text : K → List ℕ) (key : K → T) (value :
       rw apart (ap₂ (λ p ps. p ∷ ps) first (next_copied copies done left e k v distinct.1 rest name now))
 
   -- The next key is not there yet.
-  pub next_is_new : (copies : List (Entry J W)) (done left : List (Entry K V)) (e : Entry K V) (k : J) → AreDistinct (keys_of text (done ++ e ∷ left))
+  pub next_is_new : (copies : List (Entry J W)) (done left : List (Entry K V)) (e : Entry K V) (name : List ℕ) → AreDistinct (keys_of text (done ++ e ∷ left))
       → copied_pairs (kept_key text' key') value' copies ≡ copied_pairs (kept_key text key) value done
-      → text' k ≡ text e.key → value_at text' copies (text' k) ≡ None
-  next_is_new [] done left e k distinct same name = refl
-  next_is_new (c ∷ copies) [] left e k distinct same name = cc
-  next_is_new (c ∷ copies) (d ∷ done) left e k distinct same name =
+      → name ≡ text e.key → value_at text' copies name ≡ None
+  next_is_new [] done left e name distinct same is = refl
+  next_is_new (c ∷ copies) [] left e name distinct same is = cc
+  next_is_new (c ∷ copies) (d ∷ done) left e name distinct same is =
       let first = same_first (kept_key text' key' c.key, value' c.value) (kept_key text key d.key, value d.value) (copied_pairs (kept_key text' key') value' copies) (copied_pairs (kept_key text key) value done) same in
       let rest = same_rest (kept_key text' key' c.key, value' c.value) (kept_key text key d.key, value d.value) (copied_pairs (kept_key text' key') value' copies) (copied_pairs (kept_key text key) value done) same in
-      let apart : bytes_eq (text' c.key) (text' k) ≡ false =
-      ap₂ bytes_eq (ap (λ p. p.0.0) first) name ∙ nat_list_eq_equiv.symm (text d.key) (text e.key) ∙ other_key done left e (text d.key) distinct.0 in
-      rw apart (next_is_new copies done left e k distinct.1 rest name)
+      let apart : bytes_eq (text' c.key) name ≡ false =
+      ap₂ bytes_eq (ap (λ p. p.0.0) first) is ∙ nat_list_eq_equiv.symm (text d.key) (text e.key) ∙ other_key done left e (text d.key) distinct.0 in
+      rw apart (next_is_new copies done left e name distinct.1 rest is)

@@ -1,5 +1,5 @@
 //! Reads of the parts of a document, with the names of the traits of `value_trait`.
-ghost use Rattle.std.specs.Prelude.{◌≡◌, is_some, IfSome, option_map, option_and_then, option_copied, ok_or};
+ghost use Rattle.std.specs.Prelude.{◌≡◌, None, is_some, IfSome, option_map, option_and_then, option_copied, ok_or};
 ghost use Rattle.sj_base.specs.Containers.{scalar_in};
 ghost use Rattle.sj_base.specs.Path.{key, place, child};
 ghost use Rattle.sj_base.specs.Scalar.{scalar_tree, scalar_type};
@@ -187,7 +187,7 @@ impl<K: ObjectKey, D: Literal> Value<K, D> {
     {
         match self {
             Value::String(text) => Some(text),
-            _ => None,
+            other => nothing_of(other),
         }
     }
 
@@ -200,7 +200,7 @@ impl<K: ObjectKey, D: Literal> Value<K, D> {
     {
         match self {
             Value::Array(list) => Some(list),
-            _ => None,
+            other => nothing_of(other),
         }
     }
 
@@ -213,7 +213,7 @@ impl<K: ObjectKey, D: Literal> Value<K, D> {
     {
         match self {
             Value::Object(object) => Some(object),
-            _ => None,
+            other => nothing_of(other),
         }
     }
 
@@ -225,6 +225,13 @@ impl<K: ObjectKey, D: Literal> Value<K, D> {
             got: self.value_type(),
         }
     }
+}
+
+// No part of a value, which is let go.
+fn nothing_of<T: Drop, P>(_value: T) -> Option<P>
+    ensures { result ≡ None }
+{
+    None
 }
 
 impl<K: ObjectKey, D: Literal> TypedValue for Value<K, D> {

@@ -1,13 +1,14 @@
 //! Conversions between borrowed and owned documents.
-ghost use Rattle.std.specs.Prelude.{◌≡◌, ℕ, Bool, List, map, IfOk, string_bytes};
+ghost use Rattle.std.specs.Prelude.{◌≡◌, ℕ, Bool, List, None, Ok, map, IfOk, OnOk, string_bytes};
 ghost use Rattle.std.specs.Cow.{cow_str_bytes};
 ghost use Rattle.sj_base.specs.Scalar.{decimal_buf_text, decimal_cow_text};
 ghost use Rattle.sj_object.specs.Copies.{copied_pairs};
+ghost use Rattle.sj_object.specs.Pairs.{value_at, put_key};
 ghost use Rattle.sj_owned.specs.Copies.{leaves, on_leaf, held_text, held_literal, owned_text, made_owned};
 ghost use Rattle.sj_owned.specs.Views.{value_tree};
 ghost use Rattle.sj_owned.specs.inside.Copying.{kept_key, kept_value, converted};
 
-use crate::copy::append;
+use crate::copy::{append, push_made};
 use crate::literal::Literal;
 use crate::owned::Value as OwnedValue;
 use crate::value::Value;
@@ -190,7 +191,7 @@ fn convert_items<
 {
     let mut converted = Vec::with_capacity(alloc, items.len())?;
     for item in items {
-        converted.push(convert(alloc, item)?)?;
+        push_made(&mut converted, convert(alloc, item))?;
     }
     Ok(converted)
 }
@@ -207,11 +208,25 @@ fn convert_members<
 {
     let mut converted = Object::with_capacity(alloc, members.len())?;
     for (key, member) in members {
-        let name = key.into_key(alloc)?;
-        let value = convert(alloc, member)?;
-        append(&mut converted, name, value)?;
+        append_converted(alloc, &mut converted, key, convert(alloc, member))?;
     }
     Ok(converted)
+}
+
+// Adds a member under the converted key, if its value was made.
+fn append_converted<K: IntoKey<L> + Drop, L: ObjectKey + Drop, V: Drop>(
+    alloc: Global,
+    members: &mut Object<L, V>,
+    key: K,
+    made: Result<V, AllocError>,
+) -> Result<(), AllocError>
+    requires { value_at L.text members.old (K.text key) ≡ None }
+    ensures { OnOk result ((name : L) × (value : V) × (made ≡ Ok value) × (L.text name ≡ K.text key)
+        × (K.after name ≡ K.change (K.before key)) × (members.new ≡ put_key L.text members.old name value)) }
+{
+    let value = made?;
+    let name = key.into_key(alloc)?;
+    append(members, name, value)
 }
 
 impl<'v> Value<CowStr<'v>, DecimalCow<'v>> {

@@ -1,5 +1,5 @@
 //! Copies of documents.
-ghost use Rattle.std.specs.Prelude.{◌≡◌, List, None, map, IfOk, OnOk};
+ghost use Rattle.std.specs.Prelude.{◌≡◌, [], ◌∷◌, ◌++◌, List, None, Ok, map, IfOk, OnOk};
 ghost use Rattle.std.proofs.Common.{ap};
 ghost use Rattle.sj_base.specs.Tree.{Tree};
 ghost use Rattle.sj_object.specs.Copies.{copied_pairs};
@@ -65,7 +65,7 @@ fn copy_items<K: CopyKey + Drop, D: CopyLiteral + Drop>(
 {
     let mut copies = Vec::with_capacity(*items.allocator(), items.len())?;
     for item in items {
-        copies.push(copy(item)?)?;
+        push_made(&mut copies, copy(item))?;
     }
     Ok(copies)
 }
@@ -79,11 +79,35 @@ fn copy_members<K: CopyKey + Drop, D: CopyLiteral + Drop>(
 {
     let mut copies = members.emptied()?;
     for (key, member) in members.iter() {
-        let name = key.try_clone()?;
-        let value = copy(member)?;
-        append(&mut copies, name, value)?;
+        append_copy(&mut copies, key, copy(member))?;
     }
     Ok(copies)
+}
+
+// Adds an item, if it was made.
+pub(crate) fn push_made<T: Drop>(
+    items: &mut Vec<T>,
+    made: Result<T, AllocError>,
+) -> Result<(), AllocError>
+    ensures { OnOk result ((item : T) × (made ≡ Ok item) × (items.new.items ≡ items.old.items ++ item ∷ [])) }
+{
+    items.push(made?)?;
+    Ok(())
+}
+
+// Adds a member under a copy of the key, if its value was made.
+fn append_copy<K: CopyKey + Drop, V: Drop>(
+    members: &mut Object<K, V>,
+    key: &K,
+    made: Result<V, AllocError>,
+) -> Result<(), AllocError>
+    requires { value_at K.text members.old (K.text key.now) ≡ None }
+    ensures { OnOk result ((name : K) × (value : V) × (made ≡ Ok value) × (K.copied name ≡ K.copied key.now)
+        × (members.new ≡ put_key K.text members.old name value)) }
+{
+    let value = made?;
+    let name = key.try_clone()?;
+    append(members, name, value)
 }
 
 // Adds a member whose key is new. For lack of memory it is dropped.

@@ -1,11 +1,18 @@
 //! Edits of a document, with the names of the traits of `value_trait`.
-ghost use Rattle.std.specs.Prelude.{◌≡◌, [], ◌∷◌, ◌++◌, Some, IsSome, IsNone, IsOk, is_ok, if◌then◌else◌, IfOk, IfErr, OnOk, OnErr, option_map, ok_or};
+ghost use Rattle.std.specs.Prelude.{◌≡◌, [], ◌∷◌, ◌++◌, Some, Err, IsSome, IsNone, IsOk, is_ok, if◌then◌else◌, IfOk, IfErr, OnOk, OnErr, option_map, ok_or};
 ghost use Rattle.sj_object.specs.Pairs.{value_at, put_key, drop_key};
 
 use crate::literal::Literal;
 use crate::value::Value;
 use sj_base::AccessError;
 use sj_object::{Object, ObjectKey};
+
+// An edit's error. What was handed in is let go.
+fn refuse<T: Drop, U>(_handed_in: T, error: AccessError) -> Result<U, AccessError>
+    ensures { result ≡ Err error }
+{
+    Err(error)
+}
 
 impl<K: ObjectKey, D: Literal> Value<K, D> {
     ghost use Rattle.sj_owned.specs.Views.{value_tree, items_inside, members_inside};
@@ -36,9 +43,9 @@ impl<K: ObjectKey, D: Literal> Value<K, D> {
         match self {
             Value::Object(members) => match members.insert(key, value) {
                 Ok(old) => Ok(old),
-                Err(_) => Err(AccessError::Memory),
+                Err(pair) => refuse(pair, AccessError::Memory),
             },
-            _ => Err(AccessError::NotAnObject),
+            _ => refuse((key, value), AccessError::NotAnObject),
         }
     }
 
@@ -87,7 +94,7 @@ impl<K: ObjectKey, D: Literal> Value<K, D> {
                 Ok(()) => Ok(()),
                 Err(_) => Err(AccessError::Memory),
             },
-            _ => Err(AccessError::NotAnArray),
+            _ => refuse(value, AccessError::NotAnArray),
         }
     }
 

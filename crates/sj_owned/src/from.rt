@@ -205,10 +205,10 @@ impl<K: ObjectKey, D, T: Into<Value<K, D>>> From<Option<T>> for Value<K, D> {
 }
 
 // The entries, with their keys converted.
-fn entry_pairs<K: FromString + Drop, D: Drop>(
+fn entry_pairs<K: FromString + Drop, V: Drop>(
     alloc: Global,
-    map: HashMap<String, Value<K, D>>,
-) -> Result<Vec<(K, Value<K, D>)>, AllocError>
+    map: HashMap<String, V>,
+) -> Result<Vec<(K, V)>, AllocError>
     ensures { IfOk result (λ ps. ps.items ≡ map_entries (λ e. (K.of_string e.0, e.1)) map.entries) }
 {
     let mut pairs = Vec::with_capacity(alloc, map.len())?;

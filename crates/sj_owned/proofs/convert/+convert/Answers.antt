@@ -1,4 +1,4 @@
-use Rattle.std.proofs.Common.{◌≡◌, ◌∷◌, [], ◌++◌, length, map, sym, ap, ap₂, subst, ◌∙◌, append_assoc, arith, rules}
+use Rattle.std.proofs.Common.{◌≡◌, ◌∷◌, [], ◌++◌, length, map, refl, sym, ap, ap₂, subst, ◌∙◌, append_assoc, arith, rules}
 use Rattle.std.proofs.lemmas.List.{map_push}
 use Rattle.std.specs.Vec.Iter.{into_iter_items}
 use Rattle.sj_object.specs.Copies.{copied_pairs}
@@ -36,15 +36,16 @@ convert_items-loop-item-preserved g t c =
     let done = at.invariant.2 in
     let item = c.in-Some.item in
     let left = into_iter_items c.next.new.self in
+    let made = c.in_ok-push_made.ensures in
     let steps = c.in-Some.ensures.steps in (
       tt,
       tt,
       done ++ item ∷ [],
       at.invariant.3 ∙ ap (λ vs. done ++ vs) steps.0 ∙ sym (append_assoc done (item ∷ []) left),
       omega (arith, at.invariant.4, steps.1, ap length steps.0),
-      ap (map new) c.in_ok-push.ensures.items
-          ∙ map_push new at.converted.items c.in_ok-convert.field-0
-          ∙ ap₂ (λ xs x. xs ++ x ∷ []) at.invariant.5 c.in_ok-convert.ensures
+      ap (map new) made.2
+          ∙ map_push new at.converted.items made.0
+          ∙ ap₂ (λ xs x. xs ++ x ∷ []) at.invariant.5 (rw made.1 at c.convert.ensures)
           ∙ sym (map_push old done item),
     )
 
@@ -66,20 +67,21 @@ convert_members-loop-key-preserved g t c =
     let done = at.invariant.2 in
     let e : Entry g.row.K.Denot (Value g.row.K.Denot g.row.D.Denot) = record { key = c.in-Some.key; value = c.in-Some.member } in
     let left = owned_left c.next.new.self in
-    let first : owned_left at.key-iterator ≡ e ∷ left = search rules in
+    let first : owned_left at.key-iterator ≡ e ∷ left = c.in-Some.ensures.steps in
     let all : c.args.members ≡ done ++ e ∷ left = at.invariant.3 ∙ ap (λ es. done ++ es) first in
     let distinct = subst (λ es. AreDistinct (keys_of text es)) all c.len.ensures.distinct in
-    let name = ap₂ (λ s k. (s, k)) c.in_ok-name.ensures.text c.in_ok-name.ensures.changed in (
+    let added = c.in_ok-append_converted.ensures in
+    let name = ap₂ (λ s k. (s, k)) added.3 added.4 in (
       tt,
       tt,
       done ++ e ∷ [],
       all ∙ sym (append_assoc done (e ∷ []) left),
-      ap (copied_pairs (kept_key new_text new_key) new) c.in_ok-append.ensures
-          ∙ next_copied text key old new_text new_key new at.converted done left e c.in_ok-name.name c.in_ok-value.value distinct at.invariant.4 name c.in_ok-value.ensures,
+      ap (copied_pairs (kept_key new_text new_key) new) added.5
+          ∙ next_copied text key old new_text new_key new at.converted done left e added.0 added.1 distinct at.invariant.4 name (rw added.2 at c.convert.ensures),
     )
 
-pub convert_members-append-requires : goal.convert_members-append-requires
-convert_members-append-requires g t c =
+pub convert_members-append_converted-requires : goal.convert_members-append_converted-requires
+convert_members-append_converted-requires g t c =
     let text = g.K.ObjectKey.text in
     let new_text = g.L.ObjectKey.text in
     let new_key = g.K.IntoKey.after in
@@ -91,7 +93,7 @@ convert_members-append-requires g t c =
     let done = at.invariant.2 in
     let e : Entry g.row.K.Denot (Value g.row.K.Denot g.row.D.Denot) = record { key = c.in-Some.key; value = c.in-Some.member } in
     let left = owned_left c.next.new.self in
-    let first : owned_left at.key-iterator ≡ e ∷ left = search rules in
+    let first : owned_left at.key-iterator ≡ e ∷ left = c.in-Some.ensures.steps in
     let all : c.args.members ≡ done ++ e ∷ left = at.invariant.3 ∙ ap (λ es. done ++ es) first in
     let distinct = subst (λ es. AreDistinct (keys_of text es)) all c.len.ensures.distinct in
-    next_is_new text key old new_text new_key new at.converted done left e c.in_ok-name.name distinct at.invariant.4 c.in_ok-name.ensures.text
+    next_is_new text key old new_text new_key new at.converted done left e (text e.key) distinct at.invariant.4 refl

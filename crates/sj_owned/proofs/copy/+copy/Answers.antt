@@ -1,4 +1,5 @@
-use Rattle.std.proofs.Common.{◌≡◌, ◌∷◌, [], ◌++◌, sym, ap, ap₂, subst, ◌∙◌, append_assoc, rules}
+use Rattle.std.proofs.Common.{◌≡◌, ◌+◌, ◌∷◌, [], ◌++◌, map, take, refl, sym, ap, ap₂, subst, ◌∙◌, append_assoc, rules}
+use Rattle.std.proofs.lemmas.List.{take_more, map_push}
 use Rattle.sj_object.specs.Copies.{copied_pairs}
 use Rattle.sj_object.specs.Iterators.{entries_left}
 use Rattle.sj_object.specs.Pairs.{keys_of, AreDistinct}
@@ -11,6 +12,19 @@ use Rattle.sj_owned.proofs.copy.+copy.Goals as goal
 pub copy-returns-in-Static : goal.copy-returns-in-Static
 copy-returns-in-Static g t c = search (rules, the_lemmas)
 
+pub copy_items-loop-item-preserved : goal.copy_items-loop-item-preserved
+copy_items-loop-item-preserved g t c =
+    let kept = kept_value g.K.ObjectKey.text g.D.Literal.literal g.K.TryCopy.copied g.D.TryCopy.copied in
+    let at = c.loop-item in
+    let i = at.item-index in
+    let items = c.deref-item-items.result.now in
+    let v : Value g.row.K.Denot g.row.D.Denot = c.item-item.result in
+    let made = c.in_ok-push_made.ensures in
+    let next : take (i + 1) items ≡ take i items ++ v ∷ [] = take_more items i v c.loop-item-test.true ∙ ap (λ w. take i items ++ w ∷ []) (sym c.item-item.is) in
+    ap (map kept) made.2 ∙ map_push kept at.copies.items made.0
+    ∙ ap₂ (λ l w. l ++ w ∷ []) at.invariant (rw made.1 at c.copy.ensures)
+    ∙ sym (map_push kept (take i items) v) ∙ ap (map kept) (sym next)
+
 pub copy_members-loop-key-preserved : goal.copy_members-loop-key-preserved
 copy_members-loop-key-preserved g t c =
     let text = g.K.ObjectKey.text in
@@ -20,21 +34,21 @@ copy_members-loop-key-preserved g t c =
     let done = at.invariant.2 in
     let e : Entry g.row.K.Denot (Value g.row.K.Denot g.row.D.Denot) = record { key = c.in-Some.key.now; value = c.in-Some.member.now } in
     let left = entries_left c.next.new.self in
-    let first : entries_left at.key-iterator ≡ e ∷ left = search rules in
+    let first : entries_left at.key-iterator ≡ e ∷ left = c.in-Some.ensures.steps in
     let all : c.args.members.now ≡ done ++ e ∷ left = at.invariant.3 ∙ ap (λ es. done ++ es) first in
     let distinct = subst (λ es. AreDistinct (keys_of text es)) all c.emptied.ensures.distinct in
-    let same = c.in_ok-name.ensures in
-    let name = ap₂ (λ s k. (s, k)) (g.met.K.CopyKey.keeps_text c.in_ok-name.name e.key same) same in (
+    let added = c.in_ok-append_copy.ensures in
+    let name = ap₂ (λ s k. (s, k)) (g.met.K.CopyKey.keeps_text added.0 e.key added.3) added.3 in (
       tt,
       tt,
       done ++ e ∷ [],
       all ∙ sym (append_assoc done (e ∷ []) left),
-      ap (copied_pairs (kept_key text key) value) c.in_ok-append.ensures
-          ∙ next_copied text key value text key value at.copies done left e c.in_ok-name.name c.in_ok-value.value distinct at.invariant.4 name c.in_ok-value.ensures,
+      ap (copied_pairs (kept_key text key) value) added.4
+          ∙ next_copied text key value text key value at.copies done left e added.0 added.1 distinct at.invariant.4 name (rw added.2 at c.copy.ensures),
     )
 
-pub copy_members-append-requires : goal.copy_members-append-requires
-copy_members-append-requires g t c =
+pub copy_members-append_copy-requires : goal.copy_members-append_copy-requires
+copy_members-append_copy-requires g t c =
     let text = g.K.ObjectKey.text in
     let key = g.K.TryCopy.copied in
     let value = kept_value text g.D.Literal.literal key g.D.TryCopy.copied in
@@ -42,10 +56,10 @@ copy_members-append-requires g t c =
     let done = at.invariant.2 in
     let e : Entry g.row.K.Denot (Value g.row.K.Denot g.row.D.Denot) = record { key = c.in-Some.key.now; value = c.in-Some.member.now } in
     let left = entries_left c.next.new.self in
-    let first : entries_left at.key-iterator ≡ e ∷ left = search rules in
+    let first : entries_left at.key-iterator ≡ e ∷ left = c.in-Some.ensures.steps in
     let all : c.args.members.now ≡ done ++ e ∷ left = at.invariant.3 ∙ ap (λ es. done ++ es) first in
     let distinct = subst (λ es. AreDistinct (keys_of text es)) all c.emptied.ensures.distinct in
-    next_is_new text key value text key value at.copies done left e c.in_ok-name.name distinct at.invariant.4 (g.met.K.CopyKey.keeps_text c.in_ok-name.name e.key c.in_ok-name.ensures)
+    next_is_new text key value text key value at.copies done left e (text e.key) distinct at.invariant.4 refl
 
 pub copy-returns-in_ok-copy_items-in-Array : goal.copy-returns-in_ok-copy_items-in-Array
 copy-returns-in_ok-copy_items-in-Array g t c =
