@@ -70,7 +70,7 @@ impl<'t, 'i> Value<'_, 't, 'i> {
     pub fn contains_key(&self, name: &str) -> bool
         ensures { result ≡ is_some (child (lazy_tree self.now) (key name.now)) }
     {
-        self.get(name).is_some()
+        is_there(self.get(name))
     }
 
     /// Returns the item at this index, or `None` if there is none or the value isn't an array.
@@ -190,7 +190,7 @@ impl<'t, 'i> Value<'_, 't, 'i> {
             return Ok(Some(array));
         }
         match self.try_get(name)? {
-            Some(member) => Err(member.mismatch(ValueType::Array)),
+            Some(member) => Err(member.into_mismatch(ValueType::Array)),
             None => Ok(None),
         }
     }
@@ -209,7 +209,7 @@ impl<'t, 'i> Value<'_, 't, 'i> {
             return Ok(Some(object));
         }
         match self.try_get(name)? {
-            Some(member) => Err(member.mismatch(ValueType::Object)),
+            Some(member) => Err(member.into_mismatch(ValueType::Object)),
             None => Ok(None),
         }
     }
@@ -222,6 +222,20 @@ impl<'t, 'i> Value<'_, 't, 'i> {
             got: self.value_type(),
         }
     }
+
+    // As `mismatch`, of a value that is let go.
+    fn into_mismatch(self, expected: ValueType) -> TryTypeError
+        ensures { result ≡ mismatch expected (lazy_kind self.entry) }
+    {
+        self.mismatch(expected)
+    }
+}
+
+// Whether there is a value, which is let go.
+fn is_there<T: Drop>(found: Option<T>) -> bool
+    ensures { result ≡ is_some found }
+{
+    found.is_some()
 }
 
 impl TypedValue for Value<'_, '_, '_> {

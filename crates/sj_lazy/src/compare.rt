@@ -34,12 +34,19 @@ pub(crate) fn document_of(scalar: Scalar<'_>) -> BorrowedValue<'_>
     }
 }
 
+// Compares two values, and lets them go.
+fn are_equal<T: PartialEq + Drop>(a: T, b: T) -> bool
+    ensures { result ≡ T.eq a b }
+{
+    a == b
+}
+
 // Returns `true` if the value is a scalar that is equal to this one.
 fn is_scalar(value: &Value<'_, '_, '_>, scalar: Scalar<'_>) -> bool
     ensures { result ≡ kept_alike (scalar_tree scalar.entry) (lazy_tree value.now) }
 {
     match value.as_scalar() {
-        Some(other) => document_of(scalar) == document_of(other),
+        Some(other) => are_equal(document_of(scalar), document_of(other)),
         None => false,
     }
 }
@@ -75,8 +82,9 @@ fn are_found(keys: Keys<'_, '_, '_>, members: &TapeObject<'_, '_>) -> bool
     true
 }
 
-fn is_end(next: Option<Value<'_, '_, '_>>) -> bool
-    ensures { result ≡ is_none next.entry }
+// Returns `true` if there is no next value. One that there is is let go.
+pub(crate) fn is_end<T: Drop>(next: Option<T>) -> bool
+    ensures { result ≡ is_none next }
 {
     next.is_none()
 }

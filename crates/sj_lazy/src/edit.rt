@@ -1,5 +1,5 @@
 //! Write calls. Each makes a document of a tape first, and copies a document that is only borrowed.
-ghost use Rattle.std.specs.Prelude.{◌≡◌, false, Some, IsNone, IfOk, IfErr, OnOk, OnErr, option_map};
+ghost use Rattle.std.specs.Prelude.{◌≡◌, false, Some, Err, IsNone, IfOk, IfErr, OnOk, OnErr, option_map};
 ghost use Rattle.std.specs.Cow.{cow_str_bytes};
 ghost use Rattle.std.specs.Borrow.{sem};
 ghost use Rattle.std.specs.Option.{option_copied_mut};
@@ -119,6 +119,13 @@ impl<T: ToDocument<D> + Drop, B: ToDocument<D> + Drop, D: Drop> TapeOrDocument<T
     }
 }
 
+// An edit's error. What was handed in is let go.
+fn refuse<T: Drop, U>(_handed_in: T, error: AccessError) -> Result<U, AccessError>
+    ensures { result ≡ Err error }
+{
+    Err(error)
+}
+
 impl<'i> Value<'_, '_, 'i> {
     ghost use Rattle.sj_lazy.specs.Contents.{Document};
     ghost use Rattle.sj_lazy.specs.Upgrade.{OwnsSuch, Upgrades, Refuses, upgraded};
@@ -144,7 +151,7 @@ impl<'i> Value<'_, '_, 'i> {
         ensures err { IfErr result (Refuses (λ e. e ≡ refusal AccessError.NotAnObject (members_in (upgraded self.old))) self.old self.new) }
     {
         let Ok(document) = self.value_mut(alloc) else {
-            return Err(AccessError::Memory);
+            return refuse((key, value), AccessError::Memory);
         };
         document.insert(key, value)
     }
@@ -184,7 +191,7 @@ impl<'i> Value<'_, '_, 'i> {
         ensures err { IfErr result (Refuses (λ e. e ≡ refusal AccessError.NotAnArray (items_in (upgraded self.old))) self.old self.new) }
     {
         let Ok(document) = self.value_mut(alloc) else {
-            return Err(AccessError::Memory);
+            return refuse(value, AccessError::Memory);
         };
         document.push(value)
     }

@@ -9,7 +9,7 @@ ghost use Rattle.sj_lazy.specs.inside.Scalars.{alone};
 ghost use Rattle.sj_owned.specs.SameAs.{EqualsAll};
 
 use crate::array::Array;
-use crate::compare::document_of;
+use crate::compare::{document_of, is_end};
 use crate::object::Object;
 use crate::value::Value;
 use sj_owned::{Comparand, SameAs};
@@ -148,7 +148,7 @@ fn equals_items<U: LazyComparand>(values: &[U], items: Array<'_, '_, '_>) -> boo
             return false;
         }
     }
-    left.next().is_none()
+    is_end(left.next())
 }
 
 fn equals_members<U: LazyComparand>(map: &HashMap<String, U>, members: Object<'_, '_, '_>) -> bool

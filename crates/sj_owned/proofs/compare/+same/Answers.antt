@@ -67,7 +67,7 @@ same_members-returns-in_default g t c =
     let at = entries_left c.loop-key.key-iterator in
     let more = entries_left c.next.new.self in
     let e : Entry g.row.K.Denot (Value g.row.K.Denot g.row.D.Denot) = record { key = c.in-Some.key.now; value = c.in-Some.value.now } in
-    let first : at ≡ e ∷ more = search rules in
+    let first : at ≡ e ∷ more = c.in-Some.ensures.steps in
     let none = sym (rw c.as_text.ensures at c.in_default.ensures) in
     objects_of_other_keys g.K.ObjectKey.text g.L.ObjectKey.text (value_tree g.K.ObjectKey.text g.D.Literal.literal) (value_tree g.L.ObjectKey.text g.E.Literal.literal) c.args.members.now c.args.others.now
     c.len.ensures.distinct c.len-2.ensures.distinct at more e c.loop-key.invariant.3 first none
@@ -77,7 +77,7 @@ same_members-returns-then-not-same_values g t c =
     let at = entries_left c.loop-key.key-iterator in
     let more = entries_left c.next.new.self in
     let e : Entry g.row.K.Denot (Value g.row.K.Denot g.row.D.Denot) = record { key = c.in-Some.key.now; value = c.in-Some.value.now } in
-    let first : at ≡ e ∷ more = search rules in
+    let first : at ≡ e ∷ more = c.in-Some.ensures.steps in
     let found = sym (rw c.as_text.ensures at c.in-Some-get.ensures) in
     objects_differ g.K.ObjectKey.text g.L.ObjectKey.text (value_tree g.K.ObjectKey.text g.D.Literal.literal) (value_tree g.L.ObjectKey.text g.E.Literal.literal) c.args.members.now c.args.others.now
     c.len.ensures.distinct c.len-2.ensures.distinct at more e c.in-Some-get.other.now c.loop-key.invariant.3 first found c.if-not-same_values.ensures
@@ -87,7 +87,7 @@ same_members-loop-key-preserved g t c =
     let at = entries_left c.loop-key.key-iterator in
     let more = entries_left c.next.new.self in
     let e : Entry g.row.K.Denot (Value g.row.K.Denot g.row.D.Denot) = record { key = c.in-Some.key.now; value = c.in-Some.value.now } in
-    let first : at ≡ e ∷ more = search rules in
+    let first : at ≡ e ∷ more = c.in-Some.ensures.steps in
     let found = sym (rw c.as_text.ensures at c.in-Some-get.ensures) in
     let done = c.loop-key.invariant.2.0 in (
       tt,
@@ -99,6 +99,6 @@ same_members-loop-key-preserved g t c =
 pub same_members-returns : goal.same_members-returns
 same_members-returns g t c =
     let at = entries_left c.loop-key.key-iterator in
-    let none : at ≡ [] = search rules in
+    let none : at ≡ [] = c.in-None.ensures.steps.0 in
     objects_equal g.K.ObjectKey.text g.L.ObjectKey.text (value_tree g.K.ObjectKey.text g.D.Literal.literal) (value_tree g.L.ObjectKey.text g.E.Literal.literal) c.args.members.now c.args.others.now
     c.len.ensures.distinct c.len-2.ensures.distinct at c.loop-key.invariant.3 none (sym c.len.ensures.len ∙ c.if-len.false ∙ c.len-2.ensures.len)

@@ -41,7 +41,7 @@ count_member_levels-loop-key-preserved g t c =
     let done = at.invariant.2 in
     let e : Entry g.row.K.Denot (Value g.row.K.Denot g.row.D.Denot) = record { key = c.in-Some.key.now; value = c.in-Some.member.now } in
     let left = entries_left c.next.new.self in
-    let first : entries_left at.key-iterator ≡ e ∷ left = search rules in
+    let first : entries_left at.key-iterator ≡ e ∷ left = c.in-Some.ensures.steps in
     let all : c.args.members.now ≡ done ++ e ∷ left = at.invariant.3 ∙ ap (λ es. done ++ es) first in
     let deeper : max at.deepest (max (depth (value_tree text literal c.in-Some.member.now)) (members_depth (members_view text literal left))) ≡ members_depth (members_view text literal c.args.members.now) = ap (λ es. max at.deepest (members_depth (members_view text literal es))) (sym first) ∙ at.invariant.4 in
     let now : max c.max-deepest.result (members_depth (members_view text literal left)) ≡ members_depth (members_view text literal c.args.members.now) = search rules in

@@ -89,7 +89,7 @@ print_members-returns-in_err-key g t c =
     let key = c.as_text.result.now in
     let value = value_tree text literal c.in-Some.value.now in
     let more = view (entries_left c.next.new.self) in
-    let first : entries_left c.loop-key.key-iterator ≡ record { key = c.in-Some.key.now; value = c.in-Some.value.now } ∷ entries_left c.next.new.self = search rules in
+    let first : entries_left c.loop-key.key-iterator ≡ record { key = c.in-Some.key.now; value = c.in-Some.value.now } ∷ entries_left c.next.new.self = c.in-Some.ensures.steps in
     let cut : view (entries_left c.loop-key.key-iterator) ≡ member key value more = ap view first ∙ ap (λ k. member k value more) (sym c.as_text.ensures) in
     let left = next_member object (view (entries_left c.loop-key.key-iterator)) key value more c.loop-key.invariant.4 cut in
     rw (err_from_is_err_and c.from_residual-in_err-key.result c.from_residual-in_err-key.ensures.1).1 (fault g.met.O.Output.laws (before_next object ++ (quoted key ++ colon object.inside)) (laid_out object.inside value ++ rest_text (filled object) (member_texts object.inside more)) left c.in_err-key.ensures.printed)
@@ -103,7 +103,7 @@ print_members-returns-in_err-print_value g t c =
     let key = c.as_text.result.now in
     let value = value_tree text literal c.in-Some.value.now in
     let more = view (entries_left c.next.new.self) in
-    let first : entries_left c.loop-key.key-iterator ≡ record { key = c.in-Some.key.now; value = c.in-Some.value.now } ∷ entries_left c.next.new.self = search rules in
+    let first : entries_left c.loop-key.key-iterator ≡ record { key = c.in-Some.key.now; value = c.in-Some.value.now } ∷ entries_left c.next.new.self = c.in-Some.ensures.steps in
     let cut : view (entries_left c.loop-key.key-iterator) ≡ member key value more = ap view first ∙ ap (λ k. member k value more) (sym c.as_text.ensures) in
     let left = next_member object (view (entries_left c.loop-key.key-iterator)) key value more c.loop-key.invariant.4 cut in
     let inside = c.inside.ensures ∙ ap (λ (x : Container). x.inside) c.in_ok-key.ensures.container in
@@ -119,7 +119,7 @@ print_members-loop-key-preserved g t c =
     let key = c.as_text.result.now in
     let value = value_tree text literal c.in-Some.value.now in
     let more = view (entries_left c.next.new.self) in
-    let first : entries_left c.loop-key.key-iterator ≡ record { key = c.in-Some.key.now; value = c.in-Some.value.now } ∷ entries_left c.next.new.self = search rules in
+    let first : entries_left c.loop-key.key-iterator ≡ record { key = c.in-Some.key.now; value = c.in-Some.value.now } ∷ entries_left c.next.new.self = c.in-Some.ensures.steps in
     let cut : view (entries_left c.loop-key.key-iterator) ≡ member key value more = ap view first ∙ ap (λ k. member k value more) (sym c.as_text.ensures) in
     let left = next_member object (view (entries_left c.loop-key.key-iterator)) key value more c.loop-key.invariant.4 cut in
     let fewer = fewer_members (view (entries_left c.loop-key.key-iterator)) key value more cut in
