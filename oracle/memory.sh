@@ -102,8 +102,8 @@ refuse_to_tests() {
     done << 'END'
 tape_tests tests::objects::refused_pairs
 tape_tests tests::tapes::second_text_of_a_kind
-key_tests tests::made_for_new_keys
-key_tests tests::made_for_new_members
+document_tests tests::keys::made_for_new_keys
+document_tests tests::keys::made_for_new_members
 lazy_tests tests::first_writes
 lazy_tests tests::first_writes_to_copies
 lazy_tests tests::value_of_a_tape

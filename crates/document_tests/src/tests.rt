@@ -1,6 +1,7 @@
-//! Documents: read, edited, copied, converted, compared and shown.
+//! Documents: read, edited, copied, converted, compared and shown; and known keys.
 mod copies;
 mod depths;
+mod keys;
 mod members;
 mod owned;
 mod slices;

@@ -83,5 +83,8 @@ fn conversions(rt: HostRuntime) -> Result<(), Fail> {
     let owned = from_borrowed(alloc, borrowed(alloc)?)?;
     expect_made(&rt, alloc, Value::from_owned(alloc, owned)?, TEXT)?;
     expect_made(&rt, alloc, borrowed(alloc)?.into_static(alloc)?, TEXT)?;
+    let owned = from_borrowed(alloc, borrowed(alloc)?)?;
+    let back = Value::from_owned(alloc, owned)?;
+    expect_made(&rt, alloc, back.into_static(alloc)?, TEXT)?;
     Ok(())
 }

@@ -9,7 +9,7 @@ use std::process::Abort;
 use std::test::Fail;
 
 // Takes the next value, which isn't the end, and looks at it.
-fn expect_next<F: FnOnce(&mut BorrowedValue<'_>) -> bool + Drop>(
+fn expect_next<F: FnOnce(&BorrowedValue<'_>) -> bool + Drop>(
     rt: &impl Abort,
     alloc: Global,
     values: &mut BorrowSliceDeserializer<'_, '_>,
@@ -18,8 +18,8 @@ fn expect_next<F: FnOnce(&mut BorrowedValue<'_>) -> bool + Drop>(
     requires { F.IsAlwaysCallable is_expected }
 {
     assert!(rt; !values.is_at_end());
-    let mut value = values.parse(alloc)?;
-    assert!(rt; is_expected(&mut value));
+    let value = values.parse(alloc)?;
+    assert!(rt; is_expected(&value));
     Ok(())
 }
 

@@ -6,22 +6,17 @@ ghost use Rattle.sj_base.specs.Path.{key as name, put};
 ghost use Rattle.sj_owned.specs.Parts.{member_of};
 ghost use Rattle.sj_owned.specs.Views.{value_tree};
 
+use super::{expect_eq, expect_text, is_nothing, number_in, on_borrowed, seen};
 use sj_base::{TryCopy, ValueType};
 use sj_keys::{KnownKey, KnownKeyError, KnownKeyTarget, KnownKeyTargetMut};
-use sj_object::{Object, ObjectKey};
+use sj_object::Object;
 use sj_owned::{FromString, Literal, OwnedValue, Value as Document};
 use sj_reads::{ValueAsScalar, ValueGetScalar};
-use sj_values::{BorrowedValue, to_borrowed_value};
+use sj_values::BorrowedValue;
 use std::alloc::{AllocError, Global};
 use std::borrow::CowStr;
-use std::fmt::Debug;
 use std::process::Abort;
 use std::test::Fail;
-
-// Fails unless both are equal. It is proved once, and an `assert_eq!` with all that its test holds.
-fn expect_eq<T: PartialEq + Debug + Drop>(rt: &impl Abort, found: T, expected: T) {
-    assert_eq!(rt; found, expected);
-}
 
 // A write to a member, of which a caller knows what it leaves of any target.
 fn write<T: KnownKeyTargetMut>(target: &mut T, key: &KnownKey<'_>, value: T::Output)
@@ -59,19 +54,6 @@ fn number_at<'v>(
     Ok(found.as_u64())
 }
 
-// Fails unless this is the compact text of the document.
-fn expect_text<K: ObjectKey, D: Literal>(
-    rt: &impl Abort,
-    alloc: Global,
-    document: &Document<K, D>,
-    text: &str,
-) -> Result<(), AllocError> {
-    let mut out = Vec::new(alloc);
-    document.encode(&mut out)?;
-    assert_eq!(rt; out.as_slice(), text.as_bytes());
-    Ok(())
-}
-
 // Looks up a key of {"key":1}, and one that is new.
 fn expect_numbers(
     rt: &impl Abort,
@@ -88,23 +70,19 @@ fn expect_numbers(
 
 #[test]
 fn lookup_or_insert(rt: HostRuntime) -> Result<(), Fail> {
-    let mut text = *br#"{"key":1}"#;
-    expect_numbers(
-        &rt,
-        rt.alloc(),
-        &mut to_borrowed_value(rt.alloc(), &mut text)?,
-    )
+    on_borrowed(rt.alloc(), r#"{"key":1}"#, |document| {
+        expect_numbers(&rt, rt.alloc(), document)
+    })
 }
 
 #[test]
-fn lookup_of_no_object(rt: HostRuntime) {
+fn look_up_in_no_object(rt: HostRuntime) {
+    let key = KnownKey::from("b");
+    assert!(rt; key.lookup_mut(&mut BorrowedValue::from(true)).is_none());
     let mut null = BorrowedValue::null();
     let refused = number_at(rt.alloc(), &mut null, "key", BorrowedValue::from(true));
-    expect_eq(
-        &rt,
-        refused.err(),
-        Some(KnownKeyError::NotAnObject(ValueType::Null)),
-    );
+    let null_met = KnownKeyError::NotAnObject(ValueType::Null);
+    expect_eq(&rt, refused.err(), Some(null_met));
 }
 
 // Whether a copy of the one key equals the other.
@@ -112,19 +90,30 @@ fn is_copy_equal(key: &KnownKey<'_>, other: &KnownKey<'_>) -> Result<bool, Alloc
     Ok(key.try_clone()? == *other)
 }
 
-#[test]
-fn keys(rt: HostRuntime) -> Result<(), Fail> {
-    let key = KnownKey::from("Aa");
-    let owned = KnownKey::from(String::from_str(rt.alloc(), "Aa")?);
-    assert!(rt; key == owned && KnownKey::from(CowStr::Borrowed("Aa")) == owned);
-    assert!(rt; is_copy_equal(&key, &key)? && is_copy_equal(&owned, &key)?);
+// Whether a key equals another one, which is let go.
+fn is_key(key: &KnownKey<'_>, other: KnownKey<'_>) -> bool {
+    *key == other
+}
+
+// Compares keys of the text "Aa" with each other, and with others.
+fn expect_keys(rt: &impl Abort, key: &KnownKey<'_>, owned: &KnownKey<'_>) -> Result<(), Fail> {
+    assert!(rt; *key == *owned && is_key(owned, KnownKey::from(CowStr::Borrowed("Aa"))));
+    assert!(rt; is_copy_equal(key, key)? && is_copy_equal(owned, key)?);
     // "Aa" and "BB" have the same hash.
-    assert!(rt; key != KnownKey::from("BB") && key != KnownKey::from(""));
+    assert!(rt; !is_key(key, KnownKey::from("BB")) && !is_key(key, KnownKey::from("")));
     let (CowStr::Borrowed("Aa"), CowStr::Owned(text)) = (key.key(), owned.key()) else {
         return Err(Fail::new("another text"));
     };
-    expect_eq(&rt, text.as_str(), "Aa");
+    expect_eq(rt, text.as_str(), "Aa");
     Ok(())
+}
+
+#[test]
+fn keys(rt: HostRuntime) -> Result<(), Fail> {
+    let owned = KnownKey::from(String::from_str(rt.alloc(), "Aa")?);
+    seen(owned, |owned| {
+        expect_keys(&rt, &KnownKey::from("Aa"), owned)
+    })
 }
 
 // Writes to the member "b" of {"a":1,"b":2}.
@@ -147,20 +136,9 @@ fn expect_written(
 
 #[test]
 fn written_members(rt: HostRuntime) -> Result<(), Fail> {
-    let mut text = *br#"{"a":1,"b":2}"#;
-    let mut document = to_borrowed_value(rt.alloc(), &mut text)?;
-    expect_written(&rt, &mut document, &KnownKey::from("b"))
-}
-
-#[test]
-fn look_up_in_no_object(rt: HostRuntime) {
-    let key = KnownKey::from("b");
-    assert!(rt; key.lookup_mut(&mut BorrowedValue::from(true)).is_none());
-}
-
-// The number that a call hands out.
-fn number_in(old: Option<OwnedValue>) -> Option<u64> {
-    old?.as_u64()
+    on_borrowed(rt.alloc(), r#"{"a":1,"b":2}"#, |document| {
+        expect_written(&rt, document, &KnownKey::from("b"))
+    })
 }
 
 // Inserts the members "b" and "a" into an empty object, and replaces the first twice.
@@ -170,12 +148,10 @@ fn expect_inserted(
     document: &mut OwnedValue,
     key: &KnownKey<'_>,
 ) -> Result<(), Fail> {
-    assert!(rt;
-        key.insert(alloc, document, OwnedValue::from(1u8))?
-            .is_none()
-    );
-    let first = KnownKey::from("a");
-    assert!(rt; first.insert(alloc, document, OwnedValue::null())?.is_none());
+    let old = key.insert(alloc, document, OwnedValue::from(1u8))?;
+    assert!(rt; is_nothing(old));
+    let old = KnownKey::from("a").insert(alloc, document, OwnedValue::null())?;
+    assert!(rt; is_nothing(old));
     let old = key.insert(alloc, document, OwnedValue::from(2u8))?;
     expect_eq(rt, number_in(old), Some(1));
     let members = document.as_object_mut().ok_or("no object")?;
@@ -187,79 +163,104 @@ fn expect_inserted(
 
 #[test]
 fn inserted_members(rt: HostRuntime) -> Result<(), Fail> {
-    let mut document = OwnedValue::object(rt.alloc());
-    expect_inserted(&rt, rt.alloc(), &mut document, &KnownKey::from("b"))
+    seen(OwnedValue::object(rt.alloc()), |document| {
+        expect_inserted(&rt, rt.alloc(), document, &KnownKey::from("b"))
+    })
 }
 
 #[test]
 fn insert_into_no_object(rt: HostRuntime) {
-    let mut number = OwnedValue::from(7u8);
     let key = KnownKey::from("b");
-    let refused = key.insert(rt.alloc(), &mut number, OwnedValue::null());
-    expect_eq(
-        &rt,
-        refused.err(),
-        Some(KnownKeyError::NotAnObject(ValueType::U64)),
-    );
-    expect_eq(&rt, number.as_u64(), Some(7));
+    seen(OwnedValue::from(7u8), |number| {
+        let refused = key.insert(rt.alloc(), number, OwnedValue::null());
+        let number_met = KnownKeyError::NotAnObject(ValueType::U64);
+        expect_eq(&rt, refused.err(), Some(number_met));
+        expect_eq(&rt, number.as_u64(), Some(7));
+    })
 }
 
-// A closure is called for a new key alone, and not where there is no memory.
-#[test]
-fn made_for_new_keys(rt: HostRuntime) -> Result<(), Fail> {
-    let alloc = rt.alloc();
-    let mut object: Object<String, u64> = Object::new(alloc);
+// Looks up keys of the empty object, each of which is put there with the number of its call if it is new.
+fn put_new_keys(
+    rt: &impl Abort,
+    alloc: Global,
+    object: &mut Object<String, u64>,
+) -> Result<(), Fail> {
     let mut calls = 0u64;
-    for text in ["key", "cake", "key"] {
+    for (text, wanted) in [("key", 1), ("cake", 2), ("key", 1)] {
         let before = (calls, object.len());
         let with = || {
             calls = calls.wrapping_add(1);
             calls
         };
-        match KnownKey::from(text).map_lookup_or_insert_mut(alloc, &mut object, with) {
-            Ok(found) => {
-                let wanted = if text == "key" { 1 } else { 2 };
-                expect_eq(&rt, *found, wanted);
-            }
+        match KnownKey::from(text).map_lookup_or_insert_mut(alloc, object, with) {
+            Ok(found) => expect_eq(rt, *found, wanted),
             Err(error) => {
-                expect_eq(&rt, error, KnownKeyError::Memory);
-                expect_eq(&rt, (calls, object.len()), before);
+                expect_eq(rt, error, KnownKeyError::Memory);
+                expect_eq(rt, (calls, object.len()), before);
                 return Err(Fail::new("no memory"));
             }
         }
     }
-    expect_eq(&rt, (calls, object.len()), (2, 2));
+    expect_eq(rt, (calls, object.len()), (2, 2));
     Ok(())
 }
 
-// The same of the members of a document.
+// A closure is called for a new key alone, and not where there is no memory.
 #[test]
-fn made_for_new_members(rt: HostRuntime) -> Result<(), Fail> {
-    let alloc = rt.alloc();
-    let mut document = OwnedValue::object(alloc);
-    let mut calls = 0u64;
-    for text in ["key", "cake", "key"] {
-        let calls_before = calls;
-        let before = document.try_clone()?;
-        let with = || {
-            calls = calls.wrapping_add(1);
-            OwnedValue::from(calls)
-        };
-        match KnownKey::from(text).lookup_or_insert_mut(alloc, &mut document, with) {
-            Ok(found) => {
-                let wanted = if text == "key" { 1 } else { 2 };
-                expect_eq(&rt, found.as_u64(), Some(wanted));
-            }
-            Err(error) => {
-                expect_eq(&rt, error, KnownKeyError::Memory);
-                expect_eq(&rt, calls, calls_before);
-                expect_eq(&rt, &document, &before);
-                return Err(Fail::new("no memory"));
-            }
+fn made_for_new_keys(rt: HostRuntime) -> Result<(), Fail> {
+    seen(Object::new(rt.alloc()), |object| {
+        put_new_keys(&rt, rt.alloc(), object)
+    })
+}
+
+// Looks up the member, and returns its number and how often the closure was called then. Where there is no memory, it wasn't
+// called again, and the document is the same as before.
+fn number_of_call(
+    rt: &impl Abort,
+    alloc: Global,
+    document: &mut OwnedValue,
+    before: &OwnedValue,
+    text: &str,
+    calls: u64,
+) -> Result<(Option<u64>, u64), Fail> {
+    let mut calls_now = calls;
+    let with = || {
+        calls_now = calls_now.wrapping_add(1);
+        OwnedValue::from(calls_now)
+    };
+    match KnownKey::from(text).lookup_or_insert_mut(alloc, document, with) {
+        Ok(found) => {
+            let number = found.as_u64();
+            Ok((number, calls_now))
+        }
+        Err(error) => {
+            expect_eq(rt, error, KnownKeyError::Memory);
+            expect_eq(rt, calls_now, calls);
+            expect_eq(rt, &*document, before);
+            Err(Fail::new("no memory"))
         }
     }
-    expect_eq(&rt, calls, 2);
+}
+
+// The same of the members of a document.
+fn put_new_members(rt: &impl Abort, alloc: Global, document: &mut OwnedValue) -> Result<(), Fail> {
+    let mut calls = 0u64;
+    for (text, wanted) in [("key", 1), ("cake", 2), ("key", 1)] {
+        let (number, calls_now) = seen(document.try_clone()?, |before| {
+            number_of_call(rt, alloc, document, before, text, calls)
+        })?;
+        expect_eq(rt, number, Some(wanted));
+        calls = calls_now;
+    }
+    expect_eq(rt, calls, 2);
     Ok(())
+}
+
+#[test]
+fn made_for_new_members(rt: HostRuntime) -> Result<(), Fail> {
+    seen(OwnedValue::object(rt.alloc()), |document| {
+        put_new_members(&rt, rt.alloc(), document)
+    })
 }
 
 // Six blocks, one for each binary digit of `number`, highest first. All of them have one hash.
@@ -272,26 +273,33 @@ fn colliding_key(alloc: Global, number: u64) -> Result<String, AllocError> {
     Ok(key)
 }
 
-#[test]
-fn forty_equal_hashes(rt: HostRuntime) -> Result<(), Fail> {
-    let alloc = rt.alloc();
-    let mut object: Object<String, u64> = Object::new(alloc);
+// Puts forty keys into the empty object, each with its number.
+fn put_forty(alloc: Global, object: &mut Object<String, u64>) -> Result<(), Fail> {
     for number in 0..40u64 {
         object.insert(colliding_key(alloc, number)?, number)?;
     }
-    for number in 0..40u64 {
-        let key = colliding_key(alloc, number)?;
-        let known = KnownKey::from(key.as_str());
-        expect_eq(&rt, known.lookup(&object), Some(&number));
-        expect_eq(&rt, known.map_lookup(&object), object.get(key.as_str()));
-    }
-    let other = colliding_key(alloc, 40)?;
-    expect_eq(
-        &rt,
-        KnownKey::from(other.as_str()).map_lookup(&object),
-        None,
-    );
     Ok(())
+}
+
+// Looks up one of these keys, or one that isn't there.
+fn expect_number(rt: &impl Abort, object: &Object<String, u64>, key: &str, expected: Option<&u64>) {
+    let known = KnownKey::from(key);
+    expect_eq(rt, known.lookup(object), expected);
+    expect_eq(rt, known.map_lookup(object), expected);
+    expect_eq(rt, object.get(key), expected);
+}
+
+#[test]
+fn forty_equal_hashes(rt: HostRuntime) -> Result<(), Fail> {
+    seen(Object::new(rt.alloc()), |object| {
+        put_forty(rt.alloc(), object)?;
+        for number in 0..40u64 {
+            let key = colliding_key(rt.alloc(), number)?;
+            expect_number(&rt, object, &key, Some(&number));
+        }
+        expect_number(&rt, object, &colliding_key(rt.alloc(), 40)?, None);
+        Ok(())
+    })
 }
 
 #[test]

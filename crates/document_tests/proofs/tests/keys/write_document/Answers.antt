@@ -2,7 +2,7 @@ use Rattle.std.proofs.Common.{ap, ◌∙◌}
 use Rattle.std.specs.Cow.{cow_str_bytes}
 use Rattle.sj_owned.specs.Views.{value_tree}
 use Rattle.sj_owned.proofs.Writes.{member_set_tree}
-use Rattle.key_tests.proofs.tests.write_document.Goals as goal
+use Rattle.document_tests.proofs.tests.keys.write_document.Goals as goal
 
 pub returns : goal.returns
 returns g c =
