@@ -19,3 +19,22 @@ invariant_of-result g c =
 
 pub loop-entry-preserved : goal.loop-entry-preserved
 loop-entry-preserved c = grind (arith, common_steps)
+
+pub loop-entry-init : goal.loop-entry-init
+loop-entry-init g c = (
+  ap (copied_pairs g.K.TryCopy.copied g.V.TryCopy.copied) c.in_ok-entries.ensures.items,
+  c.in_ok-entries.ensures.len,
+  omega (arith, c.in_ok-entries.ensures.capacity, c.len.ensures.len),
+)
+
+pub push_reserved-requires : goal.push_reserved-requires
+push_reserved-requires g c =
+    omega (arith, c.loop-entry.invariant.1, c.loop-entry.invariant.2, c.loop-entry-test.true, ap length (c.deref-entry-items.ensures.value ∙ c.entries-2.ensures))
+
+pub returns : goal.returns
+returns g c =
+    let es = c.args.self.now in
+    let i = c.loop-entry.entry-index in
+    let copied = copied_pairs g.K.TryCopy.copied g.V.TryCopy.copied in
+    let past : length es ≤ i = omega (arith, c.loop-entry-test.false, ap length (c.deref-entry-items.ensures.value ∙ c.entries-2.ensures)) in
+    ap copied c.in_ok-of.ensures.pairs ∙ c.loop-entry.invariant.0 ∙ ap copied (take_all i es past)

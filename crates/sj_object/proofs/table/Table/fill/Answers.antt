@@ -1,11 +1,18 @@
-use Rattle.std.proofs.Common.{◌++◌, ◌∷◌, [], length, take, add-one, sym, ap, ◌∙◌, arith}
-use Rattle.std.proofs.lemmas.Bool.{ltb-true}
-use Rattle.std.proofs.lemmas.List.{length-take}
+use Rattle.std.proofs.Common.{◌<◌, ◌++◌, ◌∷◌, [], List, length, take, add-one, sym, subst, ap, ◌∙◌, arith}
+use Rattle.std.proofs.lemmas.Bool.{lt-ltb, ltb-true}
+use Rattle.std.proofs.lemmas.List.{length-take, take_all}
 use Rattle.sj_object.specs.Hash.{text_hash}
 use Rattle.sj_object.specs.Pairs.{keys_of}
+use Rattle.sj_object.specs.inside.Chains.{IsTable}
 use Rattle.sj_object.specs.declared.entry.Entry.{Entry}
 use Rattle.sj_object.proofs.Chains.{table_put, length-keys_of, keys_of-take_more}
 use Rattle.sj_object.proofs.table.Table.fill.Goals as goal
+
+pub loop-place-init : goal.loop-place-init
+loop-place-init g c =
+    let heads = c.fill.new.self in
+    let some : 0 < length heads.items = omega (arith, c.fill.ensures.len, c.requires.0) in
+    ((lt-ltb 0 (length heads.items) some, ap length c.clear.ensures.items, λ p k none. absurd cc), c.clear.ensures.capacity)
 
 pub put-requires-clause-room : goal.put-requires-clause-room
 put-requires-clause-room g c =
@@ -33,3 +40,12 @@ loop-place-preserved g c =
       rw (add-one, more) (table_put c.loop-place.self c.put.new.self (keys_of text (take i es)) (text e.key) c.hash_key.result hash c.put.ensures.heads c.put.ensures.links c.loop-place.invariant.0),
       c.put.ensures.room ∙ c.loop-place.invariant.1,
     )
+
+pub returns : goal.returns
+returns g c =
+    let es = c.args.entries.now in
+    let all = take_all c.loop-place.place es c.loop-place-test.false in
+    record {
+      table = subst (λ (l : List (Entry g.row.K.Denot g.row.V.Denot)). IsTable c.loop-place.self (keys_of g.K.ObjectKey.text l)) all c.loop-place.invariant.0;
+      room = c.loop-place.invariant.1;
+    }
