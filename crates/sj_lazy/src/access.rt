@@ -61,8 +61,8 @@ impl<'t, 'i> Value<'_, 't, 'i> {
         ensures held { IfSome result (λ v. owns v ≡ false) }
     {
         match self {
-            Value::Tape(view) => Some(Value::Tape(view.get(name)?)),
-            Value::Value(held) => Some(Value::borrowed(held.as_document().get(name)?)),
+            Value::Tape(view) => Value::of_tape(view.get(name)),
+            Value::Value(held) => Value::of_document(held.as_document().get(name)),
         }
     }
 
@@ -80,8 +80,8 @@ impl<'t, 'i> Value<'_, 't, 'i> {
         ensures held { IfSome result (λ v. owns v ≡ false) }
     {
         match self {
-            Value::Tape(view) => Some(Value::Tape(view.get_idx(index)?)),
-            Value::Value(held) => Some(Value::borrowed(held.as_document().get_idx(index)?)),
+            Value::Tape(view) => Value::of_tape(view.get_idx(index)),
+            Value::Value(held) => Value::of_document(held.as_document().get_idx(index)),
         }
     }
 

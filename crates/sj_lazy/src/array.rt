@@ -55,8 +55,8 @@ impl<'b, 't, 'i> Array<'b, 't, 'i> {
         ensures held { IfSome result (λ v. owns v ≡ false) }
     {
         match self {
-            Array::Tape(items) => Some(Value::Tape(items.get(index)?)),
-            Array::Value(items) => Some(Value::borrowed(item(items, index)?)),
+            Array::Tape(items) => Value::of_tape(items.get(index)),
+            Array::Value(items) => Value::of_document(item(items, index)),
         }
     }
 

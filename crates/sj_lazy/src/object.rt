@@ -60,8 +60,8 @@ impl<'b, 't, 'i: 'b> Object<'b, 't, 'i> {
         ensures held { IfSome result (λ v. owns v ≡ false) }
     {
         match self {
-            Object::Tape(members) => Some(Value::Tape(members.get(name)?)),
-            Object::Value(members) => Some(Value::borrowed(member(members, name)?)),
+            Object::Tape(members) => Value::of_tape(members.get(name)),
+            Object::Value(members) => Value::of_document(member(members, name)),
         }
     }
 

@@ -1,7 +1,9 @@
 //! The type of lazy values, and how new ones are made.
-ghost use Rattle.std.specs.Prelude.{◌≡◌, [], Some, IfOk, true, false};
+ghost use Rattle.std.specs.Prelude.{◌≡◌, [], Some, IfSome, IfOk, true, false, option_map};
+ghost use Rattle.std.specs.Option.{option_copied};
 ghost use Rattle.sj_base.specs.Tree.{null};
 ghost use Rattle.sj_owned.specs.Views.{items_inside, members_inside};
+ghost use Rattle.sj_tape.specs.Views.{value_tree, value_nodes};
 
 use crate::held::Held;
 use sj_base::ValueType;
@@ -31,8 +33,8 @@ pub enum TapeOrDocument<T, B, D> {
 }
 
 impl<'b, 't, 'i> Value<'b, 't, 'i> {
-    ghost use Rattle.sj_lazy.specs.Contents.{contents, document as of_document, is_tape, is_document};
-    ghost use Rattle.sj_lazy.specs.Views.{lazy_tree, lazy_kind};
+    ghost use Rattle.sj_lazy.specs.Contents.{contents, nodes as of_nodes, document as of_document, is_tape, is_document};
+    ghost use Rattle.sj_lazy.specs.Views.{lazy_tree, lazy_kind, document_tree};
     ghost use Rattle.sj_lazy.specs.Upgrade.{OwnsSuch, owns};
 
     /// Creates a lazy value of a value of a tape. Builds nothing.
@@ -48,6 +50,24 @@ impl<'b, 't, 'i> Value<'b, 't, 'i> {
         ensures held { owns result ≡ false }
     {
         Value::Value(Held::Borrowed(document))
+    }
+
+    // A part of a tape, if one was found, as a lazy value.
+    pub(crate) fn of_tape(found: Option<TapeValue<'t, 'i>>) -> Option<Self>
+        ensures tree { option_map lazy_tree result ≡ option_map value_tree found.entry }
+        ensures part { option_map contents result ≡ option_map of_nodes (option_map value_nodes found.entry) }
+        ensures held { IfSome result (λ v. owns v ≡ false) }
+    {
+        Some(Value::Tape(found?))
+    }
+
+    // A part of a document, if one was found, as a lazy value.
+    pub(crate) fn of_document(found: Option<&'b BorrowedValue<'i>>) -> Option<Self>
+        ensures tree { option_map lazy_tree result ≡ option_map (λ d. document_tree d.now) found.entry }
+        ensures part { option_map contents result ≡ option_map of_document (option_copied found.entry) }
+        ensures held { IfSome result (λ v. owns v ≡ false) }
+    {
+        Some(Value::borrowed(found?))
     }
 
     // A lazy value with this document of its own.

@@ -1,5 +1,5 @@
 use Rattle.std.proofs.Common.{rules}
 use Rattle.sj_lazy.proofs.object.Object.get.Goals as goal
 
-pub returns-in_ok-get-in-Tape-clause-tree : goal.returns-in_ok-get-in-Tape-clause-tree
-returns-in_ok-get-in-Tape-clause-tree c = search rules
+pub returns-in-Tape-clause-tree : goal.returns-in-Tape-clause-tree
+returns-in-Tape-clause-tree c = search rules
