@@ -8,15 +8,14 @@ mod slices;
 mod texts;
 mod values;
 
-use sj_base::AccessError;
 use sj_object::ObjectKey;
 use sj_owned::{Literal, OwnedValue, Value, to_owned_value};
 use sj_reads::ValueAsScalar;
 use sj_values::{BorrowedValue, to_borrowed_value};
-use std::alloc::{AllocError, Global};
+use std::alloc::Global;
+use std::borrow::CowStr;
 use std::fmt::Debug;
 use std::process::Abort;
-use std::test::Fail;
 
 // Fails unless both are equal. It is proved once, and an `assert_eq!` with all that its test holds.
 fn expect_eq<T: PartialEq + Debug + Drop>(rt: &impl Abort, found: T, expected: T) {
@@ -26,6 +25,11 @@ fn expect_eq<T: PartialEq + Debug + Drop>(rt: &impl Abort, found: T, expected: T
 // The same of a row of a table, which it names.
 fn expect_at<T: PartialEq + Debug + Drop>(rt: &impl Abort, row: &str, found: T, expected: T) {
     assert_eq!(rt; found, expected, "at {row}");
+}
+
+// Fails, and says what was wanted, unless it holds.
+fn expect_that(rt: &impl Abort, wanted: &str, holds: bool) {
+    assert!(rt; holds, "{wanted}");
 }
 
 // Whether a call hands out nothing.
@@ -43,10 +47,20 @@ fn is_equal<T: PartialEq + Drop>(value: &T, other: T) -> bool {
     *value == other
 }
 
+// Puts a value in the place of another one, which is let go.
+fn overwrite<T: Drop>(old: &mut T, value: T) {
+    *old = value;
+}
+
+// Whether a value is this text, as a part of the input.
+fn is_borrowed_text(value: Option<&BorrowedValue<'_>>, text: &str) -> bool {
+    matches!(value, Some(Value::String(CowStr::Borrowed(found))) if *found == text)
+}
+
 // The owned document of a text.
-fn owned_of(alloc: Global, json: &str) -> Result<OwnedValue, Fail> {
-    let mut text = json.as_bytes().to_vec(alloc)?;
-    Ok(to_owned_value(alloc, &mut text)?)
+fn owned_of(rt: &impl Abort, alloc: Global, json: &str) -> OwnedValue {
+    let mut text = json.as_bytes().to_vec(alloc).expect(rt, "memory");
+    to_owned_value(alloc, &mut text).expect(rt, "a document")
 }
 
 // Looks at a value, and lets it go. It is proved once, for values of any type: code that lets a document go has to be proved for
@@ -58,16 +72,17 @@ fn seen<T: Drop, R, F: FnOnce(&mut T) -> R + Drop>(mut value: T, look: F) -> R
 }
 
 // Makes a check on the borrowed document of a text. The check holds nothing that has to be dropped.
-fn on_borrowed<F: FnOnce(&mut BorrowedValue<'_>) -> Result<(), Fail> + Drop>(
+fn on_borrowed<F: FnOnce(&mut BorrowedValue<'_>) + Drop>(
+    rt: &impl Abort,
     alloc: Global,
     json: &str,
     check: F,
-) -> Result<(), Fail>
+)
     requires { F.IsAlwaysCallable check }
 {
-    let mut text = json.as_bytes().to_vec(alloc)?;
-    let mut value = to_borrowed_value(alloc, &mut text)?;
-    check(&mut value)
+    let mut text = json.as_bytes().to_vec(alloc).expect(rt, "memory");
+    let mut value = to_borrowed_value(alloc, &mut text).expect(rt, "a document");
+    check(&mut value);
 }
 
 // Fails unless this is the compact text of the document.
@@ -76,11 +91,10 @@ fn expect_text<K: ObjectKey, D: Literal>(
     alloc: Global,
     value: &Value<K, D>,
     text: &str,
-) -> Result<(), AllocError> {
+) {
     let mut out = Vec::new(alloc);
-    value.encode(&mut out)?;
-    assert_eq!(rt; out.as_slice(), text.as_bytes());
-    Ok(())
+    value.encode(&mut out).expect(rt, "memory");
+    expect_eq(rt, out.as_slice(), text.as_bytes());
 }
 
 // The same of a document that was made for this check.
@@ -89,25 +103,27 @@ fn expect_made<K: ObjectKey + Drop, D: Literal + Drop>(
     alloc: Global,
     value: Value<K, D>,
     text: &str,
-) -> Result<(), AllocError> {
-    seen(value, |value| expect_text(rt, alloc, value, text))
+) {
+    seen(value, |value| expect_text(rt, alloc, value, text));
 }
 
 // The array with one more item.
 fn with_item<K: ObjectKey + Drop, D: Literal + Drop>(
+    rt: &impl Abort,
     mut items: Value<K, D>,
     item: Value<K, D>,
-) -> Result<Value<K, D>, AccessError> {
-    items.push(item)?;
-    Ok(items)
+) -> Value<K, D> {
+    items.push(item).expect(rt, "memory");
+    items
 }
 
 // The object with one more member.
 fn with_member<K: ObjectKey + Drop, D: Literal + Drop>(
+    rt: &impl Abort,
     mut object: Value<K, D>,
     key: K,
     value: Value<K, D>,
-) -> Result<Value<K, D>, AccessError> {
-    object.insert(key, value)?;
-    Ok(object)
+) -> Value<K, D> {
+    object.insert(key, value).expect(rt, "memory");
+    object
 }

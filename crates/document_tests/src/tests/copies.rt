@@ -1,90 +1,96 @@
 //! Of `sj_owned`: copies and conversions, with ample memory.
-use super::{expect_made, expect_text, with_item, with_member};
+use super::{
+    expect_made, expect_text, expect_that, is_borrowed_text, is_nothing, with_item, with_member,
+};
 use sj_base::{Decimal, DecimalCow, StaticNode, TryCopy};
-use sj_owned::{Value, from_borrowed};
+use sj_owned::{OwnedValue, Value, from_borrowed};
 use std::alloc::Global;
 use std::borrow::CowStr;
 use std::process::Abort;
-use std::test::Fail;
 
 type Borrowed<'v> = Value<CowStr<'v>, DecimalCow<'v>>;
 
 const TEXT: &str = r#"{"s":"x","a":[1.50,-1,{}]}"#;
 
 // The document of that text.
-fn borrowed(alloc: Global) -> Result<Borrowed<'static>, Fail> {
-    let literal = Decimal::new("1.50").ok_or("no literal")?;
-    let items = with_item(
-        Value::array(alloc),
-        Value::Decimal(DecimalCow::Borrowed(literal)),
-    )?;
-    let items = with_item(items, Value::Static(StaticNode::I64(-1)))?;
-    let items = with_item(items, Value::object(alloc))?;
-    let value = with_member(
-        Value::object(alloc),
-        CowStr::Borrowed("s"),
-        Value::String(CowStr::Borrowed("x")),
-    )?;
-    Ok(with_member(value, CowStr::Borrowed("a"), items)?)
+fn borrowed(rt: &impl Abort, alloc: Global) -> Borrowed<'static> {
+    let literal = Decimal::new("1.50").expect(rt, "a literal");
+    let literal = Value::Decimal(DecimalCow::Borrowed(literal));
+    let items = with_item(rt, Value::array(alloc), literal);
+    let items = with_item(rt, items, Value::Static(StaticNode::I64(-1)));
+    let items = with_item(rt, items, Value::object(alloc));
+    let text = Value::String(CowStr::Borrowed("x"));
+    let value = with_member(rt, Value::object(alloc), CowStr::Borrowed("s"), text);
+    with_member(rt, value, CowStr::Borrowed("a"), items)
 }
 
 // Makes a check on a value and a copy of it. The check holds nothing that has to be dropped.
-fn on_copy<T: TryCopy + Drop, F: FnOnce(&T, &mut T) -> Result<(), Fail> + Drop>(
-    value: T,
-    check: F,
-) -> Result<(), Fail>
+fn on_copy<T: TryCopy + Drop, F: FnOnce(&T, &mut T) + Drop>(rt: &impl Abort, value: T, check: F)
     requires { F.IsAlwaysCallable check }
 {
-    let mut copy = value.try_clone()?;
-    check(&value, &mut copy)
+    let mut copy = value.try_clone().expect(rt, "memory");
+    check(&value, &mut copy);
 }
 
 // Looks for a document whose string is borrowed, and writes to it.
-fn expect_copy(rt: &impl Abort, alloc: Global, copy: &mut Borrowed<'_>) -> Result<(), Fail> {
-    expect_text(rt, alloc, copy, TEXT)?;
-    let Some(Value::String(CowStr::Borrowed("x"))) = copy.get("s") else {
-        return Err(Fail::new("not borrowed"));
-    };
-    copy.remove("s")?;
-    Ok(())
+fn expect_copy(rt: &impl Abort, alloc: Global, copy: &mut Borrowed<'_>) {
+    expect_text(rt, alloc, copy, TEXT);
+    expect_that(
+        rt,
+        "a borrowed string",
+        is_borrowed_text(copy.get("s"), "x"),
+    );
+    let old = copy.remove("s").expect(rt, "an object");
+    expect_that(rt, "the string", !is_nothing(old));
 }
 
 // A write to a copy leaves the document as it is.
 #[test]
-fn copies(rt: HostRuntime) -> Result<(), Fail> {
+fn copies(rt: HostRuntime) {
     let alloc = rt.alloc();
-    on_copy(borrowed(alloc)?, |value, copy| {
-        expect_copy(&rt, alloc, copy)?;
-        expect_text(&rt, alloc, value, TEXT)?;
-        Ok(())
-    })
+    on_copy(&rt, borrowed(&rt, alloc), |value, copy| {
+        expect_copy(&rt, alloc, copy);
+        expect_text(&rt, alloc, value, TEXT);
+    });
 }
 
-// Looks for a document whose string is its own.
-fn expect_static(rt: &impl Abort, alloc: Global, copy: &Borrowed<'_>) -> Result<(), Fail> {
-    expect_text(rt, alloc, copy, TEXT)?;
-    let Some(Value::String(CowStr::Owned(_))) = copy.get("s") else {
-        return Err(Fail::new("not owned"));
-    };
-    Ok(())
+fn is_owned_text(value: Option<&Borrowed<'_>>) -> bool {
+    matches!(value, Some(Value::String(CowStr::Owned(_))))
 }
 
+// The string of the copy is its own.
 #[test]
-fn static_copy(rt: HostRuntime) -> Result<(), Fail> {
-    let copy = borrowed(rt.alloc())?.clone_static(rt.alloc())?;
-    expect_static(&rt, rt.alloc(), &copy)
+fn static_copy(rt: HostRuntime) {
+    let alloc = rt.alloc();
+    let value = borrowed(&rt, alloc);
+    let copy = value.clone_static(alloc).expect(&rt, "memory");
+    expect_that(&rt, "an owned string", is_owned_text(copy.get("s")));
+    expect_made(&rt, alloc, copy, TEXT);
+    expect_made(&rt, alloc, value, TEXT);
+}
+
+// The document of that text, as an owned one.
+fn owned(rt: &impl Abort, alloc: Global) -> OwnedValue {
+    from_borrowed(alloc, borrowed(rt, alloc)).expect(rt, "memory")
+}
+
+// That one, as a borrowed one.
+fn converted_back(rt: &impl Abort, alloc: Global) -> Borrowed<'static> {
+    Value::from_owned(alloc, owned(rt, alloc)).expect(rt, "memory")
+}
+
+// Makes a document borrow nothing, and looks for its text.
+fn expect_into_static(rt: &impl Abort, alloc: Global, value: Borrowed<'_>) {
+    let value = value.into_static(alloc).expect(rt, "memory");
+    expect_made(rt, alloc, value, TEXT);
 }
 
 // To an owned document, back, and to one that borrows nothing.
 #[test]
-fn conversions(rt: HostRuntime) -> Result<(), Fail> {
+fn conversions(rt: HostRuntime) {
     let alloc = rt.alloc();
-    expect_made(&rt, alloc, from_borrowed(alloc, borrowed(alloc)?)?, TEXT)?;
-    let owned = from_borrowed(alloc, borrowed(alloc)?)?;
-    expect_made(&rt, alloc, Value::from_owned(alloc, owned)?, TEXT)?;
-    expect_made(&rt, alloc, borrowed(alloc)?.into_static(alloc)?, TEXT)?;
-    let owned = from_borrowed(alloc, borrowed(alloc)?)?;
-    let back = Value::from_owned(alloc, owned)?;
-    expect_made(&rt, alloc, back.into_static(alloc)?, TEXT)?;
-    Ok(())
+    expect_made(&rt, alloc, owned(&rt, alloc), TEXT);
+    expect_made(&rt, alloc, converted_back(&rt, alloc), TEXT);
+    expect_into_static(&rt, alloc, borrowed(&rt, alloc));
+    expect_into_static(&rt, alloc, converted_back(&rt, alloc));
 }

@@ -6,14 +6,16 @@ ghost use Rattle.sj_base.specs.Path.{key as name, put};
 ghost use Rattle.sj_owned.specs.Parts.{member_of};
 ghost use Rattle.sj_owned.specs.Views.{value_tree};
 
-use super::{expect_eq, expect_text, is_nothing, number_in, on_borrowed, seen};
+use super::{
+    expect_eq, expect_text, expect_that, is_nothing, number_in, on_borrowed, overwrite, seen,
+};
 use sj_base::{TryCopy, ValueType};
 use sj_keys::{KnownKey, KnownKeyError, KnownKeyTarget, KnownKeyTargetMut};
 use sj_object::Object;
 use sj_owned::{FromString, Literal, OwnedValue, Value as Document};
 use sj_reads::{ValueAsScalar, ValueGetScalar};
 use sj_values::BorrowedValue;
-use std::alloc::{AllocError, Global};
+use std::alloc::Global;
 use std::borrow::CowStr;
 use std::process::Abort;
 use std::test::Fail;
@@ -47,47 +49,47 @@ fn write_document<K: FromString + Drop, D: Literal + Drop>(
 fn number_at<'v>(
     alloc: Global,
     document: &mut BorrowedValue<'v>,
-    key: &str,
+    key: &KnownKey<'_>,
     value: BorrowedValue<'v>,
 ) -> Result<Option<u64>, KnownKeyError> {
-    let found = KnownKey::from(key).lookup_or_insert_mut(alloc, document, move || value)?;
+    let found = key.lookup_or_insert_mut(alloc, document, move || value)?;
     Ok(found.as_u64())
 }
 
 // Looks up a key of {"key":1}, and one that is new.
-fn expect_numbers(
-    rt: &impl Abort,
-    alloc: Global,
-    document: &mut BorrowedValue<'_>,
-) -> Result<(), Fail> {
-    for (key, value, wanted) in [("key", 2u64, 1), ("cake", 3, 3), ("cake", 4, 3)] {
-        let found = number_at(alloc, document, key, BorrowedValue::from(value))?;
-        expect_eq(rt, found, Some(wanted));
+fn expect_numbers(rt: &impl Abort, alloc: Global, document: &mut BorrowedValue<'_>) {
+    for &(key, value, wanted) in &[("key", 2u64, 1), ("cake", 3, 3), ("cake", 4, 3)] {
+        let key = KnownKey::from(key);
+        let found = number_at(alloc, document, &key, BorrowedValue::from(value));
+        expect_eq(rt, found, Ok(Some(wanted)));
     }
-    expect_text(rt, alloc, document, r#"{"key":1,"cake":3}"#)?;
-    Ok(())
+    expect_text(rt, alloc, document, r#"{"key":1,"cake":3}"#);
 }
 
 #[test]
-fn lookup_or_insert(rt: HostRuntime) -> Result<(), Fail> {
-    on_borrowed(rt.alloc(), r#"{"key":1}"#, |document| {
-        expect_numbers(&rt, rt.alloc(), document)
-    })
+fn lookup_or_insert(rt: HostRuntime) {
+    on_borrowed(&rt, rt.alloc(), r#"{"key":1}"#, |document| {
+        expect_numbers(&rt, rt.alloc(), document);
+    });
 }
 
 #[test]
 fn look_up_in_no_object(rt: HostRuntime) {
     let key = KnownKey::from("b");
-    assert!(rt; key.lookup_mut(&mut BorrowedValue::from(true)).is_none());
-    let mut null = BorrowedValue::null();
-    let refused = number_at(rt.alloc(), &mut null, "key", BorrowedValue::from(true));
-    let null_met = KnownKeyError::NotAnObject(ValueType::Null);
-    expect_eq(&rt, refused.err(), Some(null_met));
+    seen(BorrowedValue::from(true), |value| {
+        expect_that(&rt, "no member", key.lookup_mut(value).is_none());
+    });
+    let key = KnownKey::from("key");
+    seen(BorrowedValue::null(), |null| {
+        let refused = number_at(rt.alloc(), null, &key, BorrowedValue::from(true));
+        let null_met = KnownKeyError::NotAnObject(ValueType::Null);
+        expect_eq(&rt, refused.err(), Some(null_met));
+    });
 }
 
-// Whether a copy of the one key equals the other.
-fn is_copy_equal(key: &KnownKey<'_>, other: &KnownKey<'_>) -> Result<bool, AllocError> {
-    Ok(key.try_clone()? == *other)
+// Whether a copy of a key, which is let go, equals another one.
+fn is_copy(copy: KnownKey<'_>, key: &KnownKey<'_>) -> bool {
+    copy == *key
 }
 
 // Whether a key equals another one, which is let go.
@@ -95,77 +97,106 @@ fn is_key(key: &KnownKey<'_>, other: KnownKey<'_>) -> bool {
     *key == other
 }
 
-// Compares keys of the text "Aa" with each other, and with others.
-fn expect_keys(rt: &impl Abort, key: &KnownKey<'_>, owned: &KnownKey<'_>) -> Result<(), Fail> {
-    assert!(rt; *key == *owned && is_key(owned, KnownKey::from(CowStr::Borrowed("Aa"))));
-    assert!(rt; is_copy_equal(key, key)? && is_copy_equal(owned, key)?);
-    // "Aa" and "BB" have the same hash.
-    assert!(rt; !is_key(key, KnownKey::from("BB")) && !is_key(key, KnownKey::from("")));
+// Compares keys of the text "Aa" with each other.
+fn expect_equal_keys(rt: &impl Abort, key: &KnownKey<'_>, owned: &KnownKey<'_>) {
+    expect_that(rt, "equal keys", *key == *owned);
+    let same = KnownKey::from(CowStr::Borrowed("Aa"));
+    expect_that(rt, "an equal key", is_key(owned, same));
+    let copy = key.try_clone().expect(rt, "memory");
+    expect_that(rt, "an equal copy", is_copy(copy, key));
+    let copy = owned.try_clone().expect(rt, "memory");
+    expect_that(rt, "an equal copy of the other", is_copy(copy, key));
+}
+
+// Compares them with others, and looks for their texts. "Aa" and "BB" have the same hash.
+fn expect_texts(rt: &impl Abort, key: &KnownKey<'_>, owned: &KnownKey<'_>) {
+    expect_that(rt, "a key unlike BB", !is_key(key, KnownKey::from("BB")));
+    expect_that(rt, "a key of text", !is_key(key, KnownKey::from("")));
     let (CowStr::Borrowed("Aa"), CowStr::Owned(text)) = (key.key(), owned.key()) else {
-        return Err(Fail::new("another text"));
+        panic!(rt; "another text");
     };
     expect_eq(rt, text.as_str(), "Aa");
-    Ok(())
 }
 
 #[test]
-fn keys(rt: HostRuntime) -> Result<(), Fail> {
-    let owned = KnownKey::from(String::from_str(rt.alloc(), "Aa")?);
+fn keys(rt: HostRuntime) {
+    let text = String::from_str(rt.alloc(), "Aa").expect(&rt, "memory");
+    let owned = KnownKey::from(text);
     seen(owned, |owned| {
-        expect_keys(&rt, &KnownKey::from("Aa"), owned)
-    })
+        let key = KnownKey::from("Aa");
+        expect_equal_keys(&rt, &key, owned);
+        expect_texts(&rt, &key, owned);
+    });
 }
 
 // Writes to the member "b" of {"a":1,"b":2}.
-fn expect_written(
+fn expect_written(rt: &impl Abort, document: &mut BorrowedValue<'_>, key: &KnownKey<'_>) {
+    key.lookup(document).expect(rt, "a member");
+    write_document(document, key, BorrowedValue::from(3u8));
+    expect_eq(rt, document.get_u64("b"), Some(3));
+    let member = key.lookup_mut(document).expect(rt, "a member");
+    overwrite(member, BorrowedValue::from(4u8));
+    expect_eq(rt, document.get_u64("b"), Some(4));
+}
+
+// The same through its object, which doesn't have the other key.
+fn expect_written_in_object(
     rt: &impl Abort,
     document: &mut BorrowedValue<'_>,
     key: &KnownKey<'_>,
-) -> Result<(), Fail> {
-    key.lookup(document).ok_or("no member")?;
-    write_document(document, key, BorrowedValue::from(3u8));
-    expect_eq(rt, document.get_u64("b"), Some(3));
-    *key.lookup_mut(document).ok_or("no member")? = BorrowedValue::from(4u8);
-    expect_eq(rt, document.get_u64("b"), Some(4));
-    let members = document.as_object_mut().ok_or("no object")?;
-    *key.map_lookup_mut(members).ok_or("no member")? = BorrowedValue::from(5u8);
-    assert!(rt; KnownKey::from("c").map_lookup_mut(members).is_none());
+    other: &KnownKey<'_>,
+) {
+    let members = document.as_object_mut().expect(rt, "an object");
+    let member = key.map_lookup_mut(members).expect(rt, "a member");
+    overwrite(member, BorrowedValue::from(5u8));
+    expect_that(rt, "no member", other.map_lookup_mut(members).is_none());
     expect_eq(rt, document.get_u64("b"), Some(5));
-    Ok(())
 }
 
 #[test]
-fn written_members(rt: HostRuntime) -> Result<(), Fail> {
-    on_borrowed(rt.alloc(), r#"{"a":1,"b":2}"#, |document| {
-        expect_written(&rt, document, &KnownKey::from("b"))
-    })
+fn written_members(rt: HostRuntime) {
+    on_borrowed(&rt, rt.alloc(), r#"{"a":1,"b":2}"#, |document| {
+        let key = KnownKey::from("b");
+        expect_written(&rt, document, &key);
+        expect_written_in_object(&rt, document, &key, &KnownKey::from("c"));
+    });
 }
 
-// Inserts the members "b" and "a" into an empty object, and replaces the first twice.
-fn expect_inserted(
+// Inserts the members "b" and "a" into an empty object.
+fn expect_new(
     rt: &impl Abort,
     alloc: Global,
     document: &mut OwnedValue,
-    key: &KnownKey<'_>,
-) -> Result<(), Fail> {
-    let old = key.insert(alloc, document, OwnedValue::from(1u8))?;
-    assert!(rt; is_nothing(old));
-    let old = KnownKey::from("a").insert(alloc, document, OwnedValue::null())?;
-    assert!(rt; is_nothing(old));
-    let old = key.insert(alloc, document, OwnedValue::from(2u8))?;
-    expect_eq(rt, number_in(old), Some(1));
-    let members = document.as_object_mut().ok_or("no object")?;
-    let old = key.map_insert(alloc, members, OwnedValue::from(3u8))?;
-    expect_eq(rt, number_in(old), Some(2));
-    expect_text(rt, alloc, document, r#"{"b":3,"a":null}"#)?;
-    Ok(())
+    b: &KnownKey<'_>,
+    a: &KnownKey<'_>,
+) {
+    let old = b.insert(alloc, document, OwnedValue::from(1u8));
+    expect_that(rt, "a new member", is_nothing(old.expect(rt, "memory")));
+    let old = a.insert(alloc, document, OwnedValue::null());
+    expect_that(
+        rt,
+        "another new member",
+        is_nothing(old.expect(rt, "memory")),
+    );
+}
+
+// Replaces the first of them twice.
+fn expect_replaced(rt: &impl Abort, alloc: Global, document: &mut OwnedValue, key: &KnownKey<'_>) {
+    let old = key.insert(alloc, document, OwnedValue::from(2u8));
+    expect_eq(rt, number_in(old.expect(rt, "memory")), Some(1));
+    let members = document.as_object_mut().expect(rt, "an object");
+    let old = key.map_insert(alloc, members, OwnedValue::from(3u8));
+    expect_eq(rt, number_in(old.expect(rt, "memory")), Some(2));
+    expect_text(rt, alloc, document, r#"{"b":3,"a":null}"#);
 }
 
 #[test]
-fn inserted_members(rt: HostRuntime) -> Result<(), Fail> {
+fn inserted_members(rt: HostRuntime) {
     seen(OwnedValue::object(rt.alloc()), |document| {
-        expect_inserted(&rt, rt.alloc(), document, &KnownKey::from("b"))
-    })
+        let key = KnownKey::from("b");
+        expect_new(&rt, rt.alloc(), document, &key, &KnownKey::from("a"));
+        expect_replaced(&rt, rt.alloc(), document, &key);
+    });
 }
 
 #[test]
@@ -176,7 +207,7 @@ fn insert_into_no_object(rt: HostRuntime) {
         let number_met = KnownKeyError::NotAnObject(ValueType::U64);
         expect_eq(&rt, refused.err(), Some(number_met));
         expect_eq(&rt, number.as_u64(), Some(7));
-    })
+    });
 }
 
 // Looks up keys of the empty object, each of which is put there with the number of its call if it is new.
@@ -186,7 +217,7 @@ fn put_new_keys(
     object: &mut Object<String, u64>,
 ) -> Result<(), Fail> {
     let mut calls = 0u64;
-    for (text, wanted) in [("key", 1), ("cake", 2), ("key", 1)] {
+    for &(text, wanted) in &[("key", 1), ("cake", 2), ("key", 1)] {
         let before = (calls, object.len());
         let with = || {
             calls = calls.wrapping_add(1);
@@ -220,7 +251,7 @@ fn number_of_call(
     alloc: Global,
     document: &mut OwnedValue,
     before: &OwnedValue,
-    text: &str,
+    key: &KnownKey<'_>,
     calls: u64,
 ) -> Result<(Option<u64>, u64), Fail> {
     let mut calls_now = calls;
@@ -228,7 +259,7 @@ fn number_of_call(
         calls_now = calls_now.wrapping_add(1);
         OwnedValue::from(calls_now)
     };
-    match KnownKey::from(text).lookup_or_insert_mut(alloc, document, with) {
+    match key.lookup_or_insert_mut(alloc, document, with) {
         Ok(found) => {
             let number = found.as_u64();
             Ok((number, calls_now))
@@ -245,9 +276,10 @@ fn number_of_call(
 // The same of the members of a document.
 fn put_new_members(rt: &impl Abort, alloc: Global, document: &mut OwnedValue) -> Result<(), Fail> {
     let mut calls = 0u64;
-    for (text, wanted) in [("key", 1), ("cake", 2), ("key", 1)] {
+    for &(text, wanted) in &[("key", 1), ("cake", 2), ("key", 1)] {
+        let key = KnownKey::from(text);
         let (number, calls_now) = seen(document.try_clone()?, |before| {
-            number_of_call(rt, alloc, document, before, text, calls)
+            number_of_call(rt, alloc, document, before, &key, calls)
         })?;
         expect_eq(rt, number, Some(wanted));
         calls = calls_now;
@@ -264,21 +296,23 @@ fn made_for_new_members(rt: HostRuntime) -> Result<(), Fail> {
 }
 
 // Six blocks, one for each binary digit of `number`, highest first. All of them have one hash.
-fn colliding_key(alloc: Global, number: u64) -> Result<String, AllocError> {
+fn colliding_key(rt: &impl Abort, alloc: Global, number: u64) -> String {
     let mut key = String::new(alloc);
     for place in 0..6u32 {
         let digit = number >> (5 - place) & 1;
-        key.push_str(if digit == 0 { "Aa" } else { "BB" })?;
+        key.push_str(if digit == 0 { "Aa" } else { "BB" })
+            .expect(rt, "memory");
     }
-    Ok(key)
+    key
 }
 
 // Puts forty keys into the empty object, each with its number.
-fn put_forty(alloc: Global, object: &mut Object<String, u64>) -> Result<(), Fail> {
+fn put_forty(rt: &impl Abort, alloc: Global, object: &mut Object<String, u64>) {
     for number in 0..40u64 {
-        object.insert(colliding_key(alloc, number)?, number)?;
+        object
+            .insert(colliding_key(rt, alloc, number), number)
+            .expect(rt, "memory");
     }
-    Ok(())
 }
 
 // Looks up one of these keys, or one that isn't there.
@@ -290,25 +324,26 @@ fn expect_number(rt: &impl Abort, object: &Object<String, u64>, key: &str, expec
 }
 
 #[test]
-fn forty_equal_hashes(rt: HostRuntime) -> Result<(), Fail> {
-    seen(Object::new(rt.alloc()), |object| {
-        put_forty(rt.alloc(), object)?;
+fn forty_equal_hashes(rt: HostRuntime) {
+    let alloc = rt.alloc();
+    seen(Object::new(alloc), |object| {
+        put_forty(&rt, alloc, object);
         for number in 0..40u64 {
-            let key = colliding_key(rt.alloc(), number)?;
+            let key = colliding_key(&rt, alloc, number);
             expect_number(&rt, object, &key, Some(&number));
         }
-        expect_number(&rt, object, &colliding_key(rt.alloc(), 40)?, None);
-        Ok(())
-    })
+        expect_number(&rt, object, &colliding_key(&rt, alloc, 40), None);
+    });
 }
 
 #[test]
-fn shown_errors(rt: HostRuntime) -> Result<(), Fail> {
-    for (error, text) in [
+fn shown_errors(rt: HostRuntime) {
+    for &(error, text) in &[
         (KnownKeyError::NotAnObject(ValueType::Array), "NotAnObject"),
         (KnownKeyError::Memory, "Memory"),
     ] {
-        expect_eq(&rt, error.to_string(rt.alloc())?.as_str(), text);
+        seen(error.to_string(rt.alloc()).expect(&rt, "memory"), |shown| {
+            expect_eq(&rt, shown.as_str(), text);
+        });
     }
-    Ok(())
 }

@@ -6,8 +6,8 @@ ghost use Rattle.sj_owned.specs.Parts.{item_of, member_of};
 ghost use Rattle.sj_owned.specs.Views.{value_tree};
 
 use super::{
-    expect_at, expect_eq, expect_made, expect_text, is_equal, is_nothing, number_in, owned_of,
-    seen, with_item, with_member,
+    expect_at, expect_eq, expect_made, expect_text, expect_that, is_equal, is_nothing, number_in,
+    overwrite, owned_of, seen, with_item, with_member,
 };
 use sj_base::{AccessError, Decimal, DecimalBuf, DecimalCow, StaticNode};
 use sj_object::ObjectKey;
@@ -15,14 +15,18 @@ use sj_owned::{
     Literal, MutableValue, OwnedValue as Value, SameAs, Value as Document, to_owned_value,
 };
 use sj_reads::{ValueAsScalar, ValueGetScalar};
-use std::alloc::{AllocError, Global};
+use std::alloc::Global;
 use std::borrow::CowStr;
 use std::collections::HashMap;
 use std::process::Abort;
 use std::test::Fail;
 
-fn text(alloc: Global, text: &str) -> Result<Value, AllocError> {
-    Ok(Value::String(String::from_str(alloc, text)?))
+fn string(rt: &impl Abort, alloc: Global, text: &str) -> String {
+    String::from_str(alloc, text).expect(rt, "memory")
+}
+
+fn text(rt: &impl Abort, alloc: Global, text: &str) -> Value {
+    Value::String(string(rt, alloc, text))
 }
 
 fn number(n: u64) -> Value {
@@ -86,6 +90,7 @@ fn write_by_index<K: ObjectKey + Drop, D: Literal + Drop>(
     write_item(document, index, value);
 }
 
+// The README shows this test.
 #[test]
 fn read_and_edit(rt: HostRuntime) -> Result<(), Fail> {
     let alloc = rt.alloc();
@@ -104,268 +109,261 @@ fn read_and_edit(rt: HostRuntime) -> Result<(), Fail> {
     Ok(())
 }
 
+// Puts a member into an object that has no such key.
+fn put_new(rt: &impl Abort, alloc: Global, object: &mut Value, key: &str, value: Value) {
+    let old = object.insert(string(rt, alloc, key), value);
+    expect_that(rt, "a new member", is_nothing(old.expect(rt, "memory")));
+}
+
 // Makes the empty object {"key":[{"other":"value"}]}.
-fn edit_by_index(alloc: Global, o: &mut Value) -> Result<(), Fail> {
-    o.insert(String::from_str(alloc, "key")?, Value::array(alloc))?;
-    o.get("key").ok_or("no key")?;
-    o["key"].push(Value::object(alloc))?;
-    o.get("key").ok_or("no key")?.get_idx(0).ok_or("no item")?;
-    o["key"][0].insert(String::from_str(alloc, "other")?, text(alloc, "value")?)?;
-    Ok(())
+fn edit_by_index(rt: &impl Abort, alloc: Global, o: &mut Value) {
+    put_new(rt, alloc, o, "key", Value::array(alloc));
+    o.get("key").expect(rt, "a key");
+    o["key"].push(Value::object(alloc)).expect(rt, "memory");
+    let items = o.get("key").expect(rt, "a key");
+    items.get_idx(0).expect(rt, "an item");
+    put_new(
+        rt,
+        alloc,
+        &mut o["key"][0],
+        "other",
+        text(rt, alloc, "value"),
+    );
 }
 
 #[test]
-fn owned_edit_by_index(rt: HostRuntime) -> Result<(), Fail> {
+fn owned_edit_by_index(rt: HostRuntime) {
     let alloc = rt.alloc();
     seen(Value::object(alloc), |o| {
-        edit_by_index(alloc, o)?;
-        expect_text(&rt, alloc, o, r#"{"key":[{"other":"value"}]}"#)?;
-        Ok(())
-    })
+        edit_by_index(&rt, alloc, o);
+        expect_text(&rt, alloc, o, r#"{"key":[{"other":"value"}]}"#);
+    });
 }
 
 // Looks in the sample for parts that it doesn't have.
-fn lends_nothing(v: &mut Value) -> Result<bool, Fail> {
-    let is_whole = v.get_mut("x").is_none() && v.get_idx_mut(0).is_none();
-    let items = v.get_mut("a").ok_or("no items")?;
-    Ok(is_whole && items.get_mut("n").is_none() && items.get_idx_mut(1).is_none())
+fn expect_nothing_lent(rt: &impl Abort, v: &mut Value) {
+    expect_that(rt, "no member", v.get_mut("x").is_none());
+    expect_that(rt, "no item", v.get_idx_mut(0).is_none());
+    let items = v.get_mut("a").expect(rt, "items");
+    expect_that(rt, "no member of an array", items.get_mut("n").is_none());
+    expect_that(
+        rt,
+        "no item behind the last",
+        items.get_idx_mut(1).is_none(),
+    );
 }
 
 // A document that has nothing to lend stays as it is.
 #[test]
-fn nothing_to_lend(rt: HostRuntime) -> Result<(), Fail> {
-    seen(owned_of(rt.alloc(), SAMPLE)?, |v| {
-        assert!(rt; lends_nothing(v)?);
-        expect_text(&rt, rt.alloc(), v, SAMPLE)?;
-        Ok(())
-    })
+fn nothing_to_lend(rt: HostRuntime) {
+    let alloc = rt.alloc();
+    seen(owned_of(&rt, alloc, SAMPLE), |v| {
+        expect_nothing_lent(&rt, v);
+        expect_text(&rt, alloc, v, SAMPLE);
+    });
 }
 
 // Puts a member into the empty object, replaces it twice, and removes it.
-fn insert_and_remove(rt: &impl Abort, alloc: Global, v: &mut Value) -> Result<(), Fail> {
-    let old = v.insert(String::from_str(alloc, "key")?, number(1))?;
-    assert!(rt; is_nothing(old));
-    let old = v.insert(String::from_str(alloc, "key")?, number(2))?;
-    expect_eq(rt, number_in(old), Some(1));
-    v.get("key").ok_or("no key")?;
-    v["key"] = number(3);
-    expect_eq(rt, number_in(v.remove("key")?), Some(3));
-    assert!(rt; is_nothing(v.remove("key")?));
-    Ok(())
+fn insert_and_remove(rt: &impl Abort, alloc: Global, v: &mut Value) {
+    put_new(rt, alloc, v, "key", number(1));
+    let old = v.insert(string(rt, alloc, "key"), number(2));
+    expect_eq(rt, number_in(old.expect(rt, "memory")), Some(1));
+    v.get("key").expect(rt, "a key");
+    overwrite(&mut v["key"], number(3));
+    let old = v.remove("key").expect(rt, "an object");
+    expect_eq(rt, number_in(old), Some(3));
+    let old = v.remove("key").expect(rt, "an object");
+    expect_that(rt, "no member", is_nothing(old));
 }
 
 #[test]
-fn owned_insert_remove(rt: HostRuntime) -> Result<(), Fail> {
-    seen(Value::object(rt.alloc()), |v| {
-        insert_and_remove(&rt, rt.alloc(), v)
-    })
+fn owned_insert_remove(rt: HostRuntime) {
+    let alloc = rt.alloc();
+    seen(Value::object(alloc), |v| insert_and_remove(&rt, alloc, v));
 }
 
 #[test]
-fn refused_writes(rt: HostRuntime) -> Result<(), Fail> {
+fn refused_writes(rt: HostRuntime) {
     seen(Value::null(), |null| {
-        let refused = null.insert(String::from_str(rt.alloc(), "key")?, number(1));
+        let refused = null.insert(string(&rt, rt.alloc(), "key"), number(1));
         expect_eq(&rt, refused.err(), Some(AccessError::NotAnObject));
         let refused = null.push(number(1));
         expect_eq(&rt, refused.err(), Some(AccessError::NotAnArray));
-        Ok(())
-    })
+    });
 }
 
 // Writes to the number of the sample.
-fn write_to_member(rt: &impl Abort, v: &mut Value) -> Result<(), Fail> {
-    v.get("n").ok_or("no member")?;
+fn write_to_member(rt: &impl Abort, v: &mut Value) {
+    v.get("n").expect(rt, "a member");
     write_by_key(v, "n", number(4));
     expect_eq(rt, v.get_u64("n"), Some(4));
-    Ok(())
 }
 
 // Writes to the item of [null].
-fn write_to_item(rt: &impl Abort, alloc: Global, items: &mut Value) -> Result<(), Fail> {
-    *items.get_idx_mut(0).ok_or("no item")? = number(1);
-    expect_text(rt, alloc, items, "[1]")?;
-    items.get_idx(0).ok_or("no item")?;
+fn write_to_item(rt: &impl Abort, alloc: Global, items: &mut Value) {
+    overwrite(items.get_idx_mut(0).expect(rt, "an item"), number(1));
+    expect_text(rt, alloc, items, "[1]");
+    items.get_idx(0).expect(rt, "an item");
     write_by_index(items, 0, number(5));
-    expect_text(rt, alloc, items, "[5]")?;
-    Ok(())
+    expect_text(rt, alloc, items, "[5]");
 }
 
 // Writes through what `get_mut` and `get_idx_mut` lend.
 #[test]
-fn written_parts(rt: HostRuntime) -> Result<(), Fail> {
+fn written_parts(rt: HostRuntime) {
     let alloc = rt.alloc();
-    seen(owned_of(alloc, SAMPLE)?, |v| write_to_member(&rt, v))?;
-    let items = with_item(Value::array(alloc), Value::null())?;
-    seen(items, |items| write_to_item(&rt, alloc, items))
+    seen(owned_of(&rt, alloc, SAMPLE), |v| write_to_member(&rt, v));
+    let items = with_item(&rt, Value::array(alloc), Value::null());
+    seen(items, |items| write_to_item(&rt, alloc, items));
 }
 
 // {"a":[1]}, in containers that were made with room.
-fn with_room(alloc: Global) -> Result<Value, Fail> {
-    let key = String::from_str(alloc, "a")?;
-    let items = with_item(Value::array_with_capacity(alloc, 1)?, number(1))?;
-    let object = Value::object_with_capacity(alloc, 1)?;
-    Ok(with_member(object, key, items)?)
+fn with_room(rt: &impl Abort, alloc: Global) -> Value {
+    let items = Value::array_with_capacity(alloc, 1).expect(rt, "memory");
+    let items = with_item(rt, items, number(1));
+    let object = Value::object_with_capacity(alloc, 1).expect(rt, "memory");
+    with_member(rt, object, string(rt, alloc, "a"), items)
 }
 
 #[test]
-fn room_and_lines(rt: HostRuntime) -> Result<(), Fail> {
-    seen(with_room(rt.alloc())?, |v| {
-        let mut out = b"> ".to_vec(rt.alloc())?;
-        v.encode_pp(&mut out)?;
+fn room_and_lines(rt: HostRuntime) {
+    seen(with_room(&rt, rt.alloc()), |v| {
+        let mut out = b"> ".to_vec(rt.alloc()).expect(&rt, "memory");
+        v.encode_pp(&mut out).expect(&rt, "memory");
         let lines = b"> {\n  \"a\": [\n    1\n  ]\n}";
         expect_eq(&rt, out.as_slice(), lines.as_slice());
-        Ok(())
-    })
+    });
 }
 
 // Takes back what an array holds.
-fn pop_all(rt: &impl Abort, v: &mut Value) -> Result<(), Fail> {
-    expect_eq(rt, v.get_idx(1).ok_or("no item")?.as_u64(), Some(1));
-    expect_eq(rt, number_in(v.pop()?), Some(1));
-    let is_zero = seen(v.pop()?.ok_or("no item")?, |item| {
-        item.as_str() == Some("zero")
-    });
-    assert!(rt; is_zero);
-    assert!(rt; is_nothing(v.pop()?));
-    Ok(())
+fn pop_all(rt: &impl Abort, v: &mut Value) {
+    expect_eq(rt, v.get_idx(1).expect(rt, "an item").as_u64(), Some(1));
+    expect_eq(rt, number_in(v.pop().expect(rt, "an array")), Some(1));
+    let item = v.pop().expect(rt, "an array").expect(rt, "an item");
+    let is_zero = seen(item, |item| item.as_str() == Some("zero"));
+    expect_that(rt, "the text", is_zero);
+    expect_that(rt, "no item", is_nothing(v.pop().expect(rt, "an array")));
 }
 
 #[test]
-fn owned_push_pop(rt: HostRuntime) -> Result<(), Fail> {
-    seen(Value::array(rt.alloc()), |v| {
-        v.push(text(rt.alloc(), "zero")?)?;
-        v.push(number(1))?;
-        pop_all(&rt, v)
-    })
-}
-
-fn put_numbers(alloc: Global, object: &mut Value, members: &[(&str, u64)]) -> Result<(), Fail> {
-    for (name, value) in members {
-        object.insert(String::from_str(alloc, name)?, number(*value))?;
-    }
-    Ok(())
+fn owned_push_pop(rt: HostRuntime) {
+    let alloc = rt.alloc();
+    seen(Value::array(alloc), |v| {
+        v.push(text(&rt, alloc, "zero")).expect(&rt, "memory");
+        v.push(number(1)).expect(&rt, "memory");
+        pop_all(&rt, v);
+    });
 }
 
 // An object of these members.
-fn numbers(alloc: Global, members: &[(&str, u64)]) -> Result<Value, Fail> {
+fn numbers(rt: &impl Abort, alloc: Global, members: &[(&str, u64)]) -> Value {
     let mut object = Value::object(alloc);
-    put_numbers(alloc, &mut object, members)?;
-    Ok(object)
+    for (name, value) in members {
+        put_new(rt, alloc, &mut object, name, number(*value));
+    }
+    object
 }
 
-fn decimal(alloc: Global, text: &str) -> Result<Value, Fail> {
-    let literal = Decimal::new(text).ok_or("no decimal")?;
-    Ok(Value::Decimal(DecimalBuf::new(alloc, literal)?))
+fn decimal(rt: &impl Abort, alloc: Global, text: &str) -> Value {
+    let literal = Decimal::new(text).expect(rt, "a decimal");
+    Value::Decimal(DecimalBuf::new(alloc, literal).expect(rt, "memory"))
 }
 
 #[test]
-fn equal_in_any_order(rt: HostRuntime) -> Result<(), Fail> {
+fn equal_in_any_order(rt: HostRuntime) {
     let alloc = rt.alloc();
     let back = [("b", 2), ("a", 1)];
-    seen(
-        numbers(alloc, &[("a", 1), ("b", 2)])?,
-        |there| -> Result<(), Fail> {
-            assert!(rt; is_equal(there, numbers(alloc, &back)?));
-            expect_text(&rt, alloc, there, r#"{"a":1,"b":2}"#)?;
-            Ok(())
-        },
-    )?;
-    expect_made(&rt, alloc, numbers(alloc, &back)?, r#"{"b":2,"a":1}"#)?;
-    Ok(())
+    seen(numbers(&rt, alloc, &[("a", 1), ("b", 2)]), |there| {
+        let same = numbers(&rt, alloc, &back);
+        expect_that(&rt, "an equal object", is_equal(there, same));
+        expect_text(&rt, alloc, there, r#"{"a":1,"b":2}"#);
+    });
+    expect_made(&rt, alloc, numbers(&rt, alloc, &back), r#"{"b":2,"a":1}"#);
 }
 
-// [1.50]
-fn long_decimal(alloc: Global) -> Result<Value, Fail> {
-    Ok(with_item(Value::array(alloc), decimal(alloc, "1.50")?)?)
-}
-
-// [1.5]
-fn short_decimal(alloc: Global) -> Result<Value, Fail> {
-    Ok(with_item(Value::array(alloc), decimal(alloc, "1.5")?)?)
+// An array of this decimal.
+fn array_of_decimal(rt: &impl Abort, alloc: Global, text: &str) -> Value {
+    with_item(rt, Value::array(alloc), decimal(rt, alloc, text))
 }
 
 #[test]
-fn unequal_decimals(rt: HostRuntime) -> Result<(), Fail> {
+fn unequal_decimals(rt: HostRuntime) {
     let alloc = rt.alloc();
-    seen(long_decimal(alloc)?, |long| {
-        assert!(rt; !is_equal(long, short_decimal(alloc)?));
-        Ok(())
-    })
+    seen(array_of_decimal(&rt, alloc, "1.50"), |long| {
+        let short = array_of_decimal(&rt, alloc, "1.5");
+        expect_that(&rt, "another number", !is_equal(long, short));
+    });
 }
 
 #[test]
-fn same_as_others(rt: HostRuntime) -> Result<(), Fail> {
-    let value = text(rt.alloc(), "x")?;
+fn same_as_others(rt: HostRuntime) {
+    let alloc = rt.alloc();
     let borrowed: Document<CowStr<'_>, DecimalCow<'_>> = Document::from("x");
-    assert!(rt; is_same(value, &borrowed));
-    assert!(rt; is_same(Value::from_text(rt.alloc(), "x")?, &"x"));
-    assert!(rt; is_same(Value::from(1u8), &1i128));
-    Ok(())
+    seen(borrowed, |borrowed| {
+        let value = text(&rt, alloc, "x");
+        expect_that(&rt, "the same text", is_same(value, borrowed));
+    });
+    let value = Value::from_text(alloc, "x").expect(&rt, "memory");
+    expect_that(&rt, "the same str", is_same(value, &"x"));
+    expect_that(&rt, "the same number", is_same(Value::from(1u8), &1i128));
 }
 
 // The later value of a key takes the place of the first.
-fn object_of_pairs(alloc: Global) -> Result<Value, Fail> {
-    let pairs = Vec::from_array(
-        alloc,
-        [
-            (String::from_str(alloc, "a")?, 1u8),
-            (String::from_str(alloc, "b")?, 2),
-            (String::from_str(alloc, "a")?, 3),
-        ],
-    )?;
-    Ok(Value::from_pairs(alloc, pairs)?)
+fn object_of_pairs(rt: &impl Abort, alloc: Global) -> Value {
+    let pairs = [
+        (string(rt, alloc, "a"), 1u8),
+        (string(rt, alloc, "b"), 2),
+        (string(rt, alloc, "a"), 3),
+    ];
+    let pairs = Vec::from_array(alloc, pairs).expect(rt, "memory");
+    Value::from_pairs(alloc, pairs).expect(rt, "memory")
+}
+
+fn insert_into(rt: &impl Abort, map: &mut HashMap<String, Value>, key: String, value: Value) {
+    let old: Result<_, _> = map.insert(key, value);
+    old.expect(rt, "memory");
 }
 
 // {"b":2,"a":3}
-fn sample_map(alloc: Global) -> Result<HashMap<String, Value>, Fail> {
+fn sample_map(rt: &impl Abort, alloc: Global) -> HashMap<String, Value> {
     let mut map = HashMap::new(alloc);
-    map.insert(String::from_str(alloc, "b")?, Value::from(2i8))?;
-    map.insert(String::from_str(alloc, "a")?, Value::from(3usize))?;
-    Ok(map)
+    insert_into(rt, &mut map, string(rt, alloc, "b"), Value::from(2i8));
+    insert_into(rt, &mut map, string(rt, alloc, "a"), Value::from(3usize));
+    map
 }
 
 // Of pairs and of a map.
 #[test]
-fn made_of_pairs(rt: HostRuntime) -> Result<(), Fail> {
+fn made_of_pairs(rt: HostRuntime) {
     let alloc = rt.alloc();
-    expect_made(&rt, alloc, object_of_pairs(alloc)?, r#"{"a":3,"b":2}"#)?;
-    seen(sample_map(alloc)?, |map| -> Result<(), Fail> {
-        assert!(rt; is_same(object_of_pairs(alloc)?, map));
-        Ok(())
-    })?;
+    expect_made(&rt, alloc, object_of_pairs(&rt, alloc), r#"{"a":3,"b":2}"#);
+    seen(sample_map(&rt, alloc), |map| {
+        let object = object_of_pairs(&rt, alloc);
+        expect_that(&rt, "the same members", is_same(object, map));
+    });
     // The members of a map go by their keys.
-    let object = Value::from_map(alloc, sample_map(alloc)?)?;
-    expect_made(&rt, alloc, object, r#"{"a":3,"b":2}"#)?;
-    Ok(())
+    let object = Value::from_map(alloc, sample_map(&rt, alloc)).expect(&rt, "memory");
+    expect_made(&rt, alloc, object, r#"{"a":3,"b":2}"#);
 }
 
-// Appends 404 pairs.
-fn put_pairs(alloc: Global, pairs: &mut Vec<(String, u32)>) -> Result<(), AllocError> {
-    for number in 0..400u32 {
-        pairs.push((format!(in alloc; "{number}")?, number))?;
-    }
-    for (key, number) in [("BB", 400), ("Aa", 401), ("399", 402), ("BB", 403)] {
-        pairs.push((String::from_str(alloc, key)?, number))?;
-    }
-    Ok(())
-}
-
-// More pairs than are looked up one by one. Keys with the same hash, `Aa` and `BB`, are told apart.
-#[test]
-fn made_of_many_pairs(rt: HostRuntime) -> Result<(), Fail> {
-    let alloc = rt.alloc();
+// 404 pairs.
+fn many_pairs(rt: &impl Abort, alloc: Global) -> Vec<(String, u32)> {
     let mut pairs = Vec::new(alloc);
-    put_pairs(alloc, &mut pairs)?;
-    seen(Value::from_pairs(alloc, pairs)?, |object| {
-        expect_numbers(&rt, object)
-    })
+    for number in 0..400u32 {
+        let key = format!(in alloc; "{number}").expect(rt, "memory");
+        pairs.push((key, number)).expect(rt, "memory");
+    }
+    for &(key, number) in &[("BB", 400), ("Aa", 401), ("399", 402), ("BB", 403)] {
+        let key = string(rt, alloc, key);
+        pairs.push((key, number)).expect(rt, "memory");
+    }
+    pairs
 }
 
 // Looks up numbers of those pairs.
-fn expect_numbers(rt: &impl Abort, object: &Value) -> Result<(), Fail> {
-    let members = object.as_object().ok_or("no object")?;
-    expect_eq(rt, members.len(), 402);
-    for (key, number) in [
+fn expect_numbers(rt: &impl Abort, object: &Value) {
+    expect_eq(rt, object.as_object().expect(rt, "an object").len(), 402);
+    for &(key, number) in &[
         ("0", 0),
         ("398", 398),
         ("399", 402),
@@ -374,38 +372,42 @@ fn expect_numbers(rt: &impl Abort, object: &Value) -> Result<(), Fail> {
     ] {
         expect_at(rt, key, object.get_u32(key), Some(number));
     }
-    Ok(())
+}
+
+// More pairs than are looked up one by one. Keys with the same hash, `Aa` and `BB`, are told apart.
+#[test]
+fn made_of_many_pairs(rt: HostRuntime) {
+    let alloc = rt.alloc();
+    let object = Value::from_pairs(alloc, many_pairs(&rt, alloc)).expect(&rt, "memory");
+    seen(object, |object| expect_numbers(&rt, object));
 }
 
 // Of a list and of values.
 #[test]
-fn made_of_lists(rt: HostRuntime) -> Result<(), Fail> {
+fn made_of_lists(rt: HostRuntime) {
     let alloc = rt.alloc();
-    let list = Value::from_list(alloc, Vec::from_array(alloc, [Some(1u8), None])?)?;
-    expect_made(&rt, alloc, list, "[1,null]")?;
-    let list = Vec::from_array(alloc, [1u64])?;
-    let values = Value::from_values(alloc, Vec::from_array(alloc, [1i64])?)?;
-    assert!(rt; is_same(values, &list));
-    Ok(())
+    let list = Vec::from_array(alloc, [Some(1u8), None]).expect(&rt, "memory");
+    let list = Value::from_list(alloc, list).expect(&rt, "memory");
+    expect_made(&rt, alloc, list, "[1,null]");
+    let list = Vec::from_array(alloc, [1u64]).expect(&rt, "memory");
+    seen(list, |list| {
+        let values = Vec::from_array(alloc, [1i64]).expect(&rt, "memory");
+        let values = Value::from_values(alloc, values).expect(&rt, "memory");
+        expect_that(&rt, "the same list", is_same(values, list));
+    });
 }
 
 // Fails unless the document is displayed like this.
-fn expect_shown(
-    rt: &impl Abort,
-    alloc: Global,
-    value: Value,
-    shown: &str,
-) -> Result<(), AllocError> {
+fn expect_shown(rt: &impl Abort, alloc: Global, value: Value, shown: &str) {
     seen(value, |value| {
-        expect_eq(rt, value.to_string(alloc)?.as_str(), shown);
-        Ok(())
-    })
+        let found = value.to_string(alloc).expect(rt, "memory");
+        expect_eq(rt, found.as_str(), shown);
+    });
 }
 
 #[test]
-fn shown_documents(rt: HostRuntime) -> Result<(), Fail> {
+fn shown_documents(rt: HostRuntime) {
     let alloc = rt.alloc();
-    expect_shown(&rt, alloc, owned_of(alloc, SAMPLE)?, SAMPLE)?;
-    expect_shown(&rt, alloc, text(alloc, "x\n")?, "x\n")?;
-    Ok(())
+    expect_shown(&rt, alloc, owned_of(&rt, alloc, SAMPLE), SAMPLE);
+    expect_shown(&rt, alloc, text(&rt, alloc, "x\n"), "x\n");
 }

@@ -1,5 +1,7 @@
 //! Of `sj_owned` and `sj_values`: documents that are read from bytes, with ample memory.
-use super::{expect_eq, expect_made, expect_text, on_borrowed, owned_of, seen};
+use super::{
+    expect_eq, expect_made, expect_text, expect_that, is_borrowed_text, on_borrowed, owned_of, seen,
+};
 use sj_base::{DecimalCow, ErrorType, ValueType};
 use sj_owned::{
     OwnedDeserializer, OwnedValue, Value, deserialize, deserialize_with_buffers,
@@ -9,61 +11,56 @@ use sj_parse::{Buffers, Deserializer};
 use sj_reads::ValueAsScalar;
 use sj_values::{BorrowDeserializer, BorrowedValue, to_borrowed_value_with_buffers};
 use std::alloc::Global;
-use std::borrow::CowStr;
 use std::process::Abort;
-use std::test::Fail;
 
 #[test]
-fn read_by_their_own_buffers(rt: HostRuntime) -> Result<(), Fail> {
+fn read_by_their_own_buffers(rt: HostRuntime) {
     let alloc = rt.alloc();
-    let value = owned_of(alloc, r#"{"a":1,"a":2}"#)?;
-    expect_made(&rt, alloc, value, r#"{"a":1}"#)?;
+    let value = owned_of(&rt, alloc, r#"{"a":1,"a":2}"#);
+    expect_made(&rt, alloc, value, r#"{"a":1}"#);
     let mut text = *b"[1.50]";
-    let value = deserialize::<OwnedValue, String>(alloc, &mut text)?;
-    expect_made(&rt, alloc, value, "[1.50]")?;
-    on_borrowed(alloc, r#"{"some": ["key", "value", 2]}"#, |value| {
-        expect_text(&rt, alloc, value, r#"{"some":["key","value",2]}"#)?;
-        Ok(())
-    })
+    let value = deserialize::<OwnedValue, String>(alloc, &mut text).expect(&rt, "a document");
+    expect_made(&rt, alloc, value, "[1.50]");
+    on_borrowed(&rt, alloc, r#"{"some": ["key", "value", 2]}"#, |value| {
+        expect_text(&rt, alloc, value, r#"{"some":["key","value",2]}"#);
+    });
 }
 
-fn expect_owned(rt: &impl Abort, alloc: Global, buffers: &mut Buffers) -> Result<(), Fail> {
+fn expect_owned(rt: &impl Abort, alloc: Global, buffers: &mut Buffers) {
     let mut text = *br#"["a"]"#;
-    let value = to_owned_value_with_buffers(alloc, &mut text, buffers)?;
-    expect_made(rt, alloc, value, r#"["a"]"#)?;
-    Ok(())
+    let value = to_owned_value_with_buffers(alloc, &mut text, buffers).expect(rt, "a document");
+    expect_made(rt, alloc, value, r#"["a"]"#);
 }
 
-fn expect_borrowed(rt: &impl Abort, alloc: Global, buffers: &mut Buffers) -> Result<(), Fail> {
+fn expect_borrowed(rt: &impl Abort, alloc: Global, buffers: &mut Buffers) {
     let mut text = *br#"["\u0061"]"#;
-    let value = to_borrowed_value_with_buffers(alloc, &mut text, buffers)?;
-    expect_made(rt, alloc, value, r#"["a"]"#)?;
-    Ok(())
+    let value = to_borrowed_value_with_buffers(alloc, &mut text, buffers).expect(rt, "a document");
+    expect_made(rt, alloc, value, r#"["a"]"#);
 }
 
-fn expect_built(rt: &impl Abort, alloc: Global, buffers: &mut Buffers) -> Result<(), Fail> {
+fn expect_built(rt: &impl Abort, alloc: Global, buffers: &mut Buffers) {
     let mut text = *b"7";
-    let value = deserialize_with_buffers::<OwnedValue, String>(alloc, &mut text, buffers)?;
-    expect_made(rt, alloc, value, "7")?;
-    Ok(())
+    let value = deserialize_with_buffers::<OwnedValue, String>(alloc, &mut text, buffers);
+    expect_made(rt, alloc, value.expect(rt, "a document"), "7");
 }
 
-fn expect_refused(rt: &impl Abort, alloc: Global, buffers: &mut Buffers) -> Result<(), Fail> {
+fn expect_refused(rt: &impl Abort, alloc: Global, buffers: &mut Buffers) {
     let mut text = *b"[[]]";
     let error = to_owned_value_with_buffers(alloc, &mut text, buffers).err();
-    expect_eq(rt, error.ok_or("no error")?.error(), ErrorType::Syntax);
-    Ok(())
+    expect_eq(rt, error.expect(rt, "an error").error(), ErrorType::Syntax);
 }
 
 // One after the other in the same buffers, of one level.
 #[test]
-fn read_by_buffers(rt: HostRuntime) -> Result<(), Fail> {
+fn read_by_buffers(rt: HostRuntime) {
     let alloc = rt.alloc();
-    let mut buffers = Buffers::with_max_depth(alloc, 0, 1)?;
-    expect_owned(&rt, alloc, &mut buffers)?;
-    expect_borrowed(&rt, alloc, &mut buffers)?;
-    expect_built(&rt, alloc, &mut buffers)?;
-    expect_refused(&rt, alloc, &mut buffers)
+    let buffers = Buffers::with_max_depth(alloc, 0, 1).expect(&rt, "memory");
+    seen(buffers, |buffers| {
+        expect_owned(&rt, alloc, buffers);
+        expect_borrowed(&rt, alloc, buffers);
+        expect_built(&rt, alloc, buffers);
+        expect_refused(&rt, alloc, buffers);
+    });
 }
 
 // Looks for the documents that are left, one after the other.
@@ -72,82 +69,83 @@ fn expect_parts(
     alloc: Global,
     values: &mut OwnedDeserializer<'_>,
     parts: &[&str],
-) -> Result<(), Fail> {
+) {
     for part in parts {
         assert!(rt; !values.is_at_end());
-        expect_made(rt, alloc, values.parse(alloc)?, part)?;
+        expect_made(rt, alloc, values.parse(alloc).expect(rt, "memory"), part);
     }
-    assert!(rt; values.is_at_end());
-    Ok(())
+    expect_that(rt, "the end", values.is_at_end());
+}
+
+// Steps over a node, which isn't the end.
+fn skip(rt: &impl Abort, nodes: &mut Deserializer<'_>) {
+    assert!(rt; !nodes.is_at_end());
+    nodes.next_();
 }
 
 // Behind the object and its first key.
 #[test]
-fn taken_from_a_tape(rt: HostRuntime) -> Result<(), Fail> {
+fn taken_from_a_tape(rt: HostRuntime) {
     let alloc = rt.alloc();
     let mut text = *br#"{"a":[1,{}],"b":2}"#;
-    let mut nodes = Deserializer::from_slice(alloc, &mut text)?;
-    assert!(rt; !nodes.is_at_end());
-    nodes.next_();
-    assert!(rt; !nodes.is_at_end());
-    nodes.next_();
+    let mut nodes = Deserializer::from_slice(alloc, &mut text).expect(&rt, "a tape");
+    skip(&rt, &mut nodes);
+    skip(&rt, &mut nodes);
     let mut values = OwnedDeserializer::from_deserializer(nodes);
-    expect_parts(&rt, alloc, &mut values, &["[1,{}]", r#""b""#, "2"])
+    expect_parts(&rt, alloc, &mut values, &["[1,{}]", r#""b""#, "2"]);
 }
 
-// The same of the only document of a tape, as it is borrowed.
-fn expect_part(
+// The only document of a tape, as it is borrowed.
+fn only_part<'v>(
     rt: &impl Abort,
     alloc: Global,
-    values: &mut BorrowDeserializer<'_>,
-    part: &str,
-) -> Result<(), Fail> {
+    values: &mut BorrowDeserializer<'v>,
+) -> BorrowedValue<'v> {
     assert!(rt; !values.is_at_end());
-    expect_made(rt, alloc, values.parse(alloc)?, part)?;
-    assert!(rt; values.is_at_end());
-    Ok(())
+    let part = values.parse(alloc).expect(rt, "memory");
+    expect_that(rt, "the end", values.is_at_end());
+    part
 }
 
 #[test]
-fn borrowed_from_a_tape(rt: HostRuntime) -> Result<(), Fail> {
+fn borrowed_from_a_tape(rt: HostRuntime) {
+    let alloc = rt.alloc();
     let mut text = *br#"{"a":1,"a":2}"#;
-    let nodes = Deserializer::from_slice(rt.alloc(), &mut text)?;
-    let mut values = BorrowDeserializer::from_deserializer(nodes);
-    expect_part(&rt, rt.alloc(), &mut values, r#"{"a":1}"#)
+    let nodes = Deserializer::from_slice(alloc, &mut text).expect(&rt, "a tape");
+    seen(BorrowDeserializer::from_deserializer(nodes), |values| {
+        expect_made(&rt, alloc, only_part(&rt, alloc, values), r#"{"a":1}"#);
+    });
 }
 
 // The integers of [5,-5,"a","\u0061",1.5] have the carriers of their tokens, and each text is a part of the input.
-fn expect_as_they_stand(rt: &impl Abort, value: &BorrowedValue<'_>) -> Result<(), Fail> {
-    for (place, kind) in [(0, ValueType::U64), (1, ValueType::I64)] {
-        let item = value.get_idx(place).ok_or("no item")?;
+fn expect_as_they_stand(rt: &impl Abort, value: &BorrowedValue<'_>) {
+    for &(place, kind) in &[(0, ValueType::U64), (1, ValueType::I64)] {
+        let item = value.get_idx(place).expect(rt, "an item");
         expect_eq(rt, item.value_type(), kind);
     }
-    for place in [2, 3] {
-        let Some(Value::String(CowStr::Borrowed("a"))) = value.get_idx(place) else {
-            return Err(Fail::new("no borrowed text"));
-        };
+    for &place in &[2, 3] {
+        let text = value.get_idx(place);
+        expect_that(rt, "a borrowed text", is_borrowed_text(text, "a"));
     }
-    let Some(Value::Decimal(DecimalCow::Borrowed(_))) = value.get_idx(4) else {
-        return Err(Fail::new("no borrowed literal"));
-    };
-    Ok(())
+    let literal = value.get_idx(4);
+    let is_borrowed = matches!(literal, Some(Value::Decimal(DecimalCow::Borrowed(_))));
+    expect_that(rt, "a borrowed literal", is_borrowed);
+}
+
+#[test]
+fn read_as_they_stand(rt: HostRuntime) {
+    on_borrowed(&rt, rt.alloc(), r#"[5,-5,"a","\u0061",1.5]"#, |value| {
+        expect_as_they_stand(&rt, value);
+    });
 }
 
 // An integer that no carrier holds is a literal, and no integer read gives it.
 #[test]
-fn read_as_a_literal(rt: HostRuntime) -> Result<(), Fail> {
-    seen(owned_of(rt.alloc(), "18446744073709551616")?, |value| {
+fn read_as_a_literal(rt: HostRuntime) {
+    seen(owned_of(&rt, rt.alloc(), "18446744073709551616"), |value| {
         expect_eq(&rt, value.value_type(), ValueType::Decimal);
         expect_eq(&rt, (value.as_i128(), value.as_u128()), (None, None));
-        let literal = value.as_decimal().ok_or("no literal")?;
+        let literal = value.as_decimal().expect(&rt, "a literal");
         expect_eq(&rt, literal.as_str(), "18446744073709551616");
-        Ok(())
-    })
-}
-
-#[test]
-fn read_as_they_stand(rt: HostRuntime) -> Result<(), Fail> {
-    on_borrowed(rt.alloc(), r#"[5,-5,"a","\u0061",1.5]"#, |value| {
-        expect_as_they_stand(&rt, value)
-    })
+    });
 }
