@@ -13,7 +13,7 @@ ghost use Rattle.sj_documents.specs.inside.Documents.{rewrite_of, back_of};
 ghost use Rattle.sj_scripts.specs.Script.{path_view};
 ghost use Rattle.sj_base.specs.Output.{AppendsOrLeaves};
 
-use crate::edit::{Edit, ScriptText, Write, edit_at, is_within, is_within_below};
+use crate::edit::{ScriptText, Write, edit_at, is_within, is_within_below};
 use crate::inverse::Inverse;
 use crate::reads::{contains_at, find, len_at, put_answer, put_found, put_keys_at, type_at};
 use sj_base::put_string;
@@ -263,7 +263,7 @@ impl<K: ScriptText<D> + Drop, D: Literal + Drop> Document for Value<K, D> {
 
     fn take_back(&mut self, alloc: Global, inverse: Inverse) -> Result<bool, AllocError> {
         let Inverse { path, change } = inverse;
-        match edit_at(alloc, self, &path, Edit::Back(change)) {
+        match edit_at(alloc, self, &path, change) {
             Ok(_) => Ok(true),
             Err(MemoryOr::Refused(_)) => Ok(false),
             Err(MemoryOr::Memory) => Err(AllocError),
@@ -290,7 +290,7 @@ fn make_write<K: ScriptText<D> + Drop, D: Literal + Drop>(
         (path_view path.now) (rewrite_of write.entry) (back_of write.entry) }
 {
     let alloc = *out.allocator();
-    match edit_at(alloc, document, path, Edit::Write(write)) {
+    match edit_at(alloc, document, path, write) {
         Ok(found) => {
             let found = own_found(alloc, found)?;
             let inverse = put_write_reply(path, write, found, out)?;

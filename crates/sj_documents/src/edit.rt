@@ -5,9 +5,9 @@ ghost use Rattle.std.specs.String.{string_bytes};
 ghost use Rattle.sj_documents.specs.Inverse.{set_member, put_member, add_item};
 ghost use Rattle.sj_documents.specs.Inverses.{change_view};
 ghost use Rattle.sj_scripts.specs.Script.{path_view};
-ghost use Rattle.sj_documents.specs.Step.{write_at, insertion, pushing};
+ghost use Rattle.sj_documents.specs.Step.{Rewrite, write_at, insertion, pushing};
 ghost use Rattle.sj_scripts.specs.Values.{owned_tree};
-ghost use Rattle.sj_documents.specs.inside.Documents.{rewrite_of, change_of, back_of, is_taken, IsEdited, IsEditBy, IsChangeBy};
+ghost use Rattle.sj_documents.specs.inside.Documents.{rewrite_of, undoing, back_of, is_taken, IsEdited, IsEditBy, IsChangeBy};
 ghost use Rattle.sj_object.specs.Pairs.{value_at};
 
 use crate::inverse::Change;
@@ -71,12 +71,17 @@ impl<'v> ScriptText<DecimalCow<'v>> for CowStr<'v> {
 }
 
 /// What is done to the part of a document that a path selects.
-#[derive(Drop)]
-pub(crate) enum Edit<'e> {
-    /// The edit of a write command.
-    Write(Write<'e>),
-    /// The change that takes one back. Where it can't be made, it is refused as `NoSuchPath`.
-    Back(Change),
+pub(crate) trait Edit: Sized {
+    // The tree that it leaves of one, and what it finds there.
+    ghost rewrite: { Self → Rewrite };
+
+    /// Edits the part, and returns the value that was replaced or taken out, if any.
+    fn make<K: ScriptText<D> + Drop, D: Literal + Drop>(
+        self,
+        alloc: Global,
+        part: &mut Value<K, D>,
+    ) -> Edited<Value<K, D>>
+        ensures { IsEditBy (value_tree K.text D.literal) result part.old part.new (rewrite self) };
 }
 
 /// The edit of a write command. `fits` is whether the new value is within the limit of levels there.
@@ -153,17 +158,17 @@ pub(crate) fn is_within_below(path: &[PathPart], depth: usize, limit: usize) -> 
 
 /// Edits the part that the path selects, and returns the value that was replaced or taken out, if any.
 #[cycle(edit_at)]
-pub(crate) fn edit_at<K: ScriptText<D> + Drop, D: Literal + Drop>(
+pub(crate) fn edit_at<K: ScriptText<D> + Drop, D: Literal + Drop, E: Edit + Drop>(
     alloc: Global,
     document: &mut Value<K, D>,
     path: &[PathPart],
-    edit: Edit<'_>,
+    edit: E,
 ) -> Edited<Value<K, D>>
     ensures { IsEdited (value_tree K.text D.literal) result (value_tree K.text D.literal document.old) (value_tree K.text D.literal document.new)
-        (write_at (value_tree K.text D.literal document.old) (path_view path.now) (change_of edit.entry)) }
+        (write_at (value_tree K.text D.literal document.old) (path_view path.now) (E.rewrite edit)) }
 {
     let Some((part, rest)) = path.split_first() else {
-        return edit_part(alloc, document, edit);
+        return edit.make(alloc, document);
     };
     match part {
         PathPart::Key(name) => {
@@ -187,49 +192,49 @@ pub(crate) fn edit_at<K: ScriptText<D> + Drop, D: Literal + Drop>(
     }
 }
 
-fn edit_part<K: ScriptText<D> + Drop, D: Literal + Drop>(
-    alloc: Global,
-    part: &mut Value<K, D>,
-    edit: Edit<'_>,
-) -> Edited<Value<K, D>>
-    ensures { IsEditBy (value_tree K.text D.literal) result part.old part.new (change_of edit.entry) }
-{
-    match edit {
-        Edit::Write(write) => write_part(alloc, part, write),
-        Edit::Back(change) => {
-            if change_part(alloc, part, change)? {
-                Ok(None)
-            } else {
-                Err(Refused(Refusal::NoSuchPath))
+impl Edit for Write<'_> {
+    ghost rewrite = { rewrite_of };
+
+    fn make<K: ScriptText<D> + Drop, D: Literal + Drop>(
+        self,
+        alloc: Global,
+        part: &mut Value<K, D>,
+    ) -> Edited<Value<K, D>> {
+        match self {
+            Write::Insert { key, value, fits } => insert_member(alloc, part, key, value, fits),
+            Write::Remove { key, .. } => match part.remove(key) {
+                Ok(old) => Ok(old),
+                Err(_) => Err(Refused(Refusal::NotAnObject)),
+            },
+            Write::Push { value, fits } => push_last(alloc, part, value, fits),
+            Write::Pop => match part.pop() {
+                Ok(last) => Ok(last),
+                Err(_) => Err(Refused(Refusal::NotAnArray)),
+            },
+            Write::Set { value, fits } => {
+                if !fits {
+                    return Err(Refused(Refusal::TooDeep));
+                }
+                let new = K::from_owned(alloc, value.try_clone()?)?;
+                Ok(Some(mem::replace(part, new)))
             }
         }
     }
 }
 
-fn write_part<K: ScriptText<D> + Drop, D: Literal + Drop>(
-    alloc: Global,
-    part: &mut Value<K, D>,
-    write: Write<'_>,
-) -> Edited<Value<K, D>>
-    ensures { IsEditBy (value_tree K.text D.literal) result part.old part.new (rewrite_of write.entry) }
-{
-    match write {
-        Write::Insert { key, value, fits } => insert_member(alloc, part, key, value, fits),
-        Write::Remove { key, .. } => match part.remove(key) {
-            Ok(old) => Ok(old),
-            Err(_) => Err(Refused(Refusal::NotAnObject)),
-        },
-        Write::Push { value, fits } => push_last(alloc, part, value, fits),
-        Write::Pop => match part.pop() {
-            Ok(last) => Ok(last),
-            Err(_) => Err(Refused(Refusal::NotAnArray)),
-        },
-        Write::Set { value, fits } => {
-            if !fits {
-                return Err(Refused(Refusal::TooDeep));
-            }
-            let new = K::from_owned(alloc, value.try_clone()?)?;
-            Ok(Some(mem::replace(part, new)))
+/// The change that takes a write back. Where it can't be made, it is refused as `NoSuchPath`.
+impl Edit for Change {
+    ghost rewrite = { λ change. undoing (change_view change) };
+
+    fn make<K: ScriptText<D> + Drop, D: Literal + Drop>(
+        self,
+        alloc: Global,
+        part: &mut Value<K, D>,
+    ) -> Edited<Value<K, D>> {
+        if change_part(alloc, part, self)? {
+            Ok(None)
+        } else {
+            Err(Refused(Refusal::NoSuchPath))
         }
     }
 }

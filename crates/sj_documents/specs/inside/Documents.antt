@@ -8,8 +8,6 @@ use Rattle.sj_base.specs.Containers.{members_in}
 use Rattle.sj_base.specs.Tree.{Tree, Items, no_items, item, Members, string, list}
 use Rattle.sj_base.specs.Scalar.{scalar_tree}
 use Rattle.sj_base.specs.declared.scalar.Scalar.{Scalar}
-use Rattle.sj_documents.specs.declared.edit.Edit.{Edit}
-use Rattle.sj_documents.specs.declared.edit.Edit.TheVariants.{Write as WriteEdit, Back}
 use Rattle.sj_documents.specs.declared.edit.Write.{Write}
 use Rattle.sj_documents.specs.declared.edit.Write.TheVariants.{Insert, Remove, Push, Pop, Set}
 use Rattle.sj_documents.specs.declared.refusal.Refusal.{Refusal}
@@ -22,7 +20,6 @@ use Rattle.sj_base.specs.Text.{text, items_text, more_items_text}
 use Rattle.sj_scripts.specs.inside.Output.{AppendsOrGrows}
 use Rattle.sj_scripts.specs.Values.{owned_tree}
 use Rattle.sj_documents.specs.Inverse.{Change, drop_item, changed, insertion_back, removal_back, popping_back, setting_back}
-use Rattle.sj_documents.specs.Inverses.{change_view}
 use Rattle.sj_documents.specs.Step.{Word, Rewrite, reply_of, insertion, removal, pushing, popping, setting, key_items}
 
 -- the text of the items from the first of them on, or from another
@@ -66,11 +63,6 @@ back_of (Set v fits) found = setting_back found
 -- A change as a rewrite that finds nothing. Any word would do where it can't be made.
 abbrev pub undoing : Change → Rewrite
 undoing change part = ok_or (option_map (λ t. (reply_of None, t)) (changed change part)) (codes "NoSuchPath")
-
--- the rewrite of an edit
-abbrev pub change_of : Edit → Rewrite
-change_of (WriteEdit write) = rewrite_of write
-change_of (Back change) = undoing (change_view change)
 
 -- whether an edit took a value out
 abbrev pub is_taken : {A : Type 0} → Result (Option A) AccessError → Bool

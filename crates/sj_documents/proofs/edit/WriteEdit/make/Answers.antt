@@ -1,6 +1,6 @@
 use Rattle.std.proofs.Common.{sym, ◌∙◌, rules}
 use Rattle.sj_documents.proofs.Edits.{removed, popped}
-use Rattle.sj_documents.proofs.edit.write_part.Goals as goal
+use Rattle.sj_documents.proofs.edit.WriteEdit.make.Goals as goal
 
 pub returns-in-Ok : goal.returns-in-Ok
 returns-in-Ok g c = rw c.in-Remove.is (removed g.K.ObjectKey.text g.D.Literal.literal c.args.part.now c.remove.new.self c.in-Ok.old c.in-Remove.key.now c.in-Ok.ensures.tree (sym c.in-Ok.is ∙ c.remove.ensures.value))
