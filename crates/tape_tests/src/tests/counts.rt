@@ -6,39 +6,37 @@ use sj_parse::{DescentFault, DescentKind};
 use sj_scan::{PlainScan, Stage1};
 use sj_tape::Node;
 use std::alloc::Global;
-use std::test::Fail;
+use std::process::Abort;
 
 // The number of nodes of a text, or its first fault, under a limit of levels.
 fn count_nodes(
+    rt: &impl Abort,
     alloc: Global,
     text: &mut [u8],
     limit: usize,
-) -> Result<Result<usize, DescentFault>, Fail> {
+) -> Result<usize, DescentFault> {
     if text.len() > u32::MAX as usize {
-        return Err(Fail::new("a long text"));
+        panic!(rt; "a long text");
     }
     let mut positions = Vec::new(alloc);
-    if PlainScan.scan(text, &mut positions).is_err() {
-        return Err(Fail::new("a fault of the whole text"));
-    }
-    let mut nodes: Vec<Node<'_>> = Vec::with_capacity(alloc, positions.len())?;
-    let mut stack: Vec<Frame> = Vec::with_capacity(alloc, limit.min(positions.len()))?;
+    PlainScan.scan(text, &mut positions).expect(rt, "positions");
+    let mut nodes: Vec<Node<'_>> = Vec::with_capacity(alloc, positions.len()).expect(rt, "memory");
+    let mut stack: Vec<Frame> = Vec::with_capacity(alloc, limit.min(positions.len())).expect(
+        rt, "memory",
+    );
     let mut places = Reads::new(&positions);
-    Ok(descend(text, &mut places, limit, &mut nodes, &mut stack).map(|()| nodes.len()))
+    descend(text, &mut places, limit, &mut nodes, &mut stack).map(|()| nodes.len())
 }
 
 #[test]
-fn stage_two_alone(rt: HostRuntime) -> Result<(), Fail> {
-    let alloc = rt.alloc();
+fn stage_two_alone(rt: HostRuntime) {
     let mut text = *b"[1,[2,3],4]";
-    let nodes = count_nodes(alloc, &mut text, 2)?;
-    expect_eq(&rt, nodes, Ok(6));
+    expect_eq(&rt, count_nodes(&rt, rt.alloc(), &mut text, 2), Ok(6));
     let too_deep = DescentFault {
         kind: DescentKind::Syntax,
         index: 3,
         byte: b'[',
     };
-    let nodes = count_nodes(alloc, &mut text, 1)?;
+    let nodes = count_nodes(&rt, rt.alloc(), &mut text, 1);
     expect_eq(&rt, nodes, Err(too_deep));
-    Ok(())
 }

@@ -1,43 +1,46 @@
 //! Of `sj_tape`: which worked lists of nodes are a document, that a tape keeps its vector, the worked indented text, and
 //! sinks that refuse.
-ghost use Rattle.std.specs.Prelude.{◌≡◌, ◌≢◌, [], IfOk};
+ghost use Rattle.std.specs.Prelude.{◌≡◌, ◌≢◌, []};
 ghost use Rattle.sj_tape.specs.Views.{tape_nodes};
 
-use super::expect_eq;
-use super::tapes::{expect_answer, expect_items};
+use super::tapes::{document, expect_answer, expect_items};
+use super::{expect_at, expect_eq, expect_that};
 use sj_base::{Counted, StaticNode, WriteFault};
 use sj_reads::ValueAsScalar;
 use sj_tape::{Node, Tape, Value};
 use std::alloc::Global;
 use std::io;
 use std::io::{ErrorKind, Write};
-use std::test::Fail;
+use std::process::Abort;
 
 // The nodes that the words stand for: `[len,count` an array, `{len,count` an object, `null` and numbers themselves, and
 // other words strings. A number with a minus is an `I64`.
-fn nodes_of<'i>(alloc: Global, words: &'i str) -> Result<Vec<Node<'i>>, Fail> {
+fn nodes_of<'i>(rt: &impl Abort, alloc: Global, words: &'i str) -> Vec<Node<'i>> {
     let mut nodes = Vec::new(alloc);
     for word in words.split_whitespace() {
-        nodes.push(node_of(word)?)?;
+        nodes.push(node_of(rt, word)).expect(rt, "memory");
     }
-    Ok(nodes)
+    nodes
 }
 
-fn node_of(word: &str) -> Result<Node<'_>, Fail> {
+fn node_of<'i>(rt: &impl Abort, word: &'i str) -> Node<'i> {
     if let Some(sizes) = word.strip_prefix('[') {
-        let (len, count) = sizes_of(sizes)?;
-        return Ok(Node::Array { len, count });
+        let (len, count) = sizes_of(rt, sizes);
+        return Node::Array { len, count };
     }
     if let Some(sizes) = word.strip_prefix('{') {
-        let (len, count) = sizes_of(sizes)?;
-        return Ok(Node::Object { len, count });
+        let (len, count) = sizes_of(rt, sizes);
+        return Node::Object { len, count };
     }
-    Ok(scalar_of(word))
+    scalar_of(word)
 }
 
-fn sizes_of(sizes: &str) -> Result<(usize, usize), Fail> {
-    let (len, count) = sizes.split_once(',').ok_or("no count")?;
-    Ok((len.parse()?, count.parse()?))
+fn sizes_of(rt: &impl Abort, sizes: &str) -> (usize, usize) {
+    let (len, count) = sizes.split_once(',').expect(rt, "a count");
+    (
+        len.parse().expect(rt, "a length"),
+        count.parse().expect(rt, "a count"),
+    )
 }
 
 fn scalar_of(word: &str) -> Node<'_> {
@@ -54,24 +57,23 @@ fn scalar_of(word: &str) -> Node<'_> {
 }
 
 // Creates a tape that must be accepted.
-fn tape_of<'i>(alloc: Global, words: &'i str) -> Result<Tape<'i>, Fail>
-    ensures { IfOk result (λ tape. tape_nodes tape ≢ []) }
+fn tape_of<'i>(rt: &impl Abort, alloc: Global, words: &'i str) -> Tape<'i>
+    ensures { tape_nodes result ≢ [] }
 {
-    Ok(Tape::new(nodes_of(alloc, words)?).ok_or("no tape")?)
+    Tape::new(nodes_of(rt, alloc, words)).expect(rt, "a tape")
 }
 
 // The compact text of the document, or nothing if the nodes are none.
-fn document_of(alloc: Global, words: &str) -> Result<Vec<u8>, Fail> {
-    let mut out = Vec::new(alloc);
-    if let Some(tape) = Tape::new(nodes_of(alloc, words)?) {
-        tape.as_value().encode(&mut out)?;
+fn document_of(rt: &impl Abort, alloc: Global, words: &str) -> Vec<u8> {
+    match Tape::new(nodes_of(rt, alloc, words)) {
+        Some(tape) => document(rt, alloc, &tape),
+        None => Vec::new(alloc),
     }
-    Ok(out)
 }
 
 #[test]
-fn preorders_of_one_document(rt: HostRuntime) -> Result<(), Fail> {
-    for (words, text) in [
+fn preorders_of_one_document(rt: HostRuntime) {
+    for (words, text) in &[
         ("[3,5 1 [2,2 2 3 4", "[1,[2,3],4]"),
         ("[3,4 1 [2,2 2 3 4", ""),
         ("{1,2 a null", r#"{"a":null}"#),
@@ -80,47 +82,44 @@ fn preorders_of_one_document(rt: HostRuntime) -> Result<(), Fail> {
         ("-7", "-7"),
         ("", ""),
     ] {
-        let found = document_of(rt.alloc(), words)?;
-        assert_eq!(rt; found.as_slice(), text.as_bytes(), "{words}");
+        let found = document_of(&rt, rt.alloc(), words);
+        expect_at(&rt, words, found.as_slice(), text.as_bytes());
     }
-    Ok(())
 }
 
 // The views of a tape that is made of nodes answer as those of one that was read.
 #[test]
-fn views_of_nodes(rt: HostRuntime) -> Result<(), Fail> {
-    let items = tape_of(rt.alloc(), "[3,5 1 [2,2 2 3 4")?;
-    expect_items(&rt, rt.alloc(), items.as_value())?;
-    let answer = tape_of(rt.alloc(), "{1,2 the_answer 42")?;
-    expect_answer(&rt, rt.alloc(), answer.as_value())
+fn views_of_nodes(rt: HostRuntime) {
+    let items = tape_of(&rt, rt.alloc(), "[3,5 1 [2,2 2 3 4");
+    expect_items(&rt, rt.alloc(), items.as_value());
+    let answer = tape_of(&rt, rt.alloc(), "{1,2 the_answer 42");
+    expect_answer(&rt, rt.alloc(), answer.as_value());
 }
 
 #[test]
-fn document_null(rt: HostRuntime) -> Result<(), Fail> {
-    let tape = Tape::null(rt.alloc())?;
-    assert!(rt; tape.as_value().is_null());
-    Ok(())
+fn document_null(rt: HostRuntime) {
+    let tape = Tape::null(rt.alloc()).expect(&rt, "memory");
+    expect_that(&rt, "null", tape.as_value().is_null());
 }
 
 #[test]
-fn nodes_keep_their_vector(rt: HostRuntime) -> Result<(), Fail> {
-    let mut nodes = Vec::with_capacity(rt.alloc(), 100)?;
-    nodes.push(Node::Static(StaticNode::Null))?;
-    let tape = Tape::new(nodes).ok_or("no tape")?;
-    let nodes = tape.into_nodes();
+fn nodes_keep_their_vector(rt: HostRuntime) {
+    let mut nodes = Vec::with_capacity(rt.alloc(), 100).expect(&rt, "memory");
+    nodes
+        .push(Node::Static(StaticNode::Null))
+        .expect(&rt, "memory");
+    let nodes = Tape::new(nodes).expect(&rt, "a tape").into_nodes();
     expect_eq(&rt, nodes.len(), 1);
-    assert!(rt; nodes.capacity() >= 100);
-    Ok(())
+    expect_that(&rt, "the room of before", nodes.capacity() >= 100);
 }
 
 #[test]
-fn indented_text(rt: HostRuntime) -> Result<(), Fail> {
-    let tape = tape_of(rt.alloc(), "{2,6 a [2,2 1 {0,0 b [0,0")?;
+fn indented_text(rt: HostRuntime) {
+    let tape = tape_of(&rt, rt.alloc(), "{2,6 a [2,2 1 {0,0 b [0,0");
     let mut out = Vec::new(rt.alloc());
-    tape.as_value().encode_pp(&mut out)?;
+    tape.as_value().encode_pp(&mut out).expect(&rt, "memory");
     let text = b"{\n  \"a\": [\n    1,\n    {}\n  ],\n  \"b\": []\n}";
-    assert!(rt; out.as_slice() == text.as_slice());
-    Ok(())
+    expect_eq(&rt, out.as_slice(), text.as_slice());
 }
 
 // Takes one byte a write, and `room` in all. Then it fails with the kind, or takes nothing where there is none.
@@ -158,16 +157,16 @@ fn write(value: &Value<'_, '_>, output: &mut Narrow) -> Result<(), WriteFault> {
 }
 
 #[test]
-fn sinks_that_refuse(rt: HostRuntime) -> Result<(), Fail> {
-    let tape = tape_of(rt.alloc(), "{1,2 a null")?;
-    for refusal in [Some(ErrorKind::Other), Some(ErrorKind::Interrupted), None] {
+fn sinks_that_refuse(rt: HostRuntime) {
+    let tape = tape_of(&rt, rt.alloc(), "{1,2 a null");
+    for refusal in &[Some(ErrorKind::Other), Some(ErrorKind::Interrupted), None] {
         let mut output = Narrow {
             taken: Vec::new(rt.alloc()),
             room: 3,
-            refusal,
+            refusal: *refusal,
         };
-        assert!(rt; write(&tape.as_value(), &mut output) == Err(WriteFault));
-        assert!(rt; output.taken.as_slice() == br#"{"a"#.as_slice());
+        let result = write(&tape.as_value(), &mut output);
+        expect_eq(&rt, result, Err(WriteFault));
+        expect_eq(&rt, output.taken.as_slice(), br#"{"a"#.as_slice());
     }
-    Ok(())
 }

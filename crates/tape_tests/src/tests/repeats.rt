@@ -1,10 +1,9 @@
 //! The first repeated key of a tape.
-use super::expect_eq;
+use super::expect_at;
 use sj_parse::to_tape;
-use sj_tape::RepeatPart;
+use sj_tape::{Repeat, RepeatPart};
 use std::alloc::{AllocError, Global};
 use std::process::Abort;
-use std::test::Fail;
 
 fn shown(alloc: Global, part: &RepeatPart<'_>) -> Result<String, AllocError> {
     match part {
@@ -13,16 +12,8 @@ fn shown(alloc: Global, part: &RepeatPart<'_>) -> Result<String, AllocError> {
     }
 }
 
-// Returns the path to the first key that a text repeats, and the key behind it, with a slash before each.
-fn find(alloc: Global, text: &str) -> Result<Option<String>, Fail> {
-    let mut bytes = Vec::from_slice(alloc, text.as_bytes())?;
-    let tape = to_tape(alloc, &mut bytes)?;
-    if tape.is_empty() {
-        return Err(Fail::new("a tape without nodes"));
-    }
-    let Some(repeat) = tape.as_value().first_repeat(alloc)? else {
-        return Ok(None);
-    };
+// The path to a key that is repeated, and the key behind it, with a slash before each.
+fn path_of(alloc: Global, repeat: &Repeat<'_>) -> Result<String, AllocError> {
     let mut path = String::new(alloc);
     for part in &repeat.path {
         path.push('/')?;
@@ -30,17 +21,27 @@ fn find(alloc: Global, text: &str) -> Result<Option<String>, Fail> {
     }
     path.push('/')?;
     path.push_str(repeat.key)?;
-    Ok(Some(path))
+    Ok(path)
 }
 
-fn expect_repeat(rt: &impl Abort, alloc: Global, text: &str, expected: &str) -> Result<(), Fail> {
-    let expected = String::from_str(alloc, expected)?;
-    expect_eq(rt, find(alloc, text)?, Some(expected));
-    Ok(())
+// Fails unless this is the path to the first key that a text repeats. It is empty where no key is to be repeated.
+fn expect_repeat(rt: &impl Abort, alloc: Global, text: &str, expected: &str) {
+    let mut bytes = Vec::from_slice(alloc, text.as_bytes()).expect(rt, "memory");
+    let tape = to_tape(alloc, &mut bytes).expect(rt, "a tape");
+    if tape.is_empty() {
+        panic!(rt; "a tape without nodes");
+    }
+    match tape.as_value().first_repeat(alloc).expect(rt, "memory") {
+        Some(repeat) => {
+            let path = path_of(alloc, &repeat).expect(rt, "memory");
+            expect_at(rt, text, path.as_str(), expected);
+        }
+        None => expect_at(rt, text, "", expected),
+    }
 }
 
 // The members `k0` to the one before `end`, and then a last one.
-fn many_members(alloc: Global, end: usize, last: &str) -> Result<String, Fail> {
+fn many_members(alloc: Global, end: usize, last: &str) -> Result<String, AllocError> {
     let mut text = String::from_str(alloc, "{")?;
     for number in 0..end {
         let member = format!(in alloc; r#""k{number}":[{number}],"#)?;
@@ -52,23 +53,19 @@ fn many_members(alloc: Global, end: usize, last: &str) -> Result<String, Fail> {
 }
 
 #[test]
-fn first_repeats(rt: HostRuntime) -> Result<(), Fail> {
-    let alloc = rt.alloc();
+fn first_repeats(rt: HostRuntime) {
     let text = r#"[0,{"a":[{"":1,"b":[],"\u0062":2}],"a":3}]"#;
-    expect_repeat(&rt, alloc, text, "/1/a/0/b")?;
-    expect_eq(&rt, find(alloc, r#"{"a":{"a":[]},"":"a"}"#)?, None);
-    Ok(())
+    expect_repeat(&rt, rt.alloc(), text, "/1/a/0/b");
+    expect_repeat(&rt, rt.alloc(), r#"{"a":{"a":[]},"":"a"}"#, "");
 }
 
 // Objects of few members, whose keys are compared, and of many, whose keys are listed.
 #[test]
-fn repeats_among_many(rt: HostRuntime) -> Result<(), Fail> {
-    let alloc = rt.alloc();
-    for end in [1, 31, 32, 33, 46, 47, 48, 100] {
-        let text = many_members(alloc, end, r#""k0":{}"#)?;
-        expect_repeat(&rt, alloc, &text, "/k0")?;
-        let text = many_members(alloc, end, r#""k":{}"#)?;
-        expect_eq(&rt, find(alloc, &text)?, None);
+fn repeats_among_many(rt: HostRuntime) {
+    for end in &[1, 31, 32, 33, 46, 47, 48, 100] {
+        for (last, path) in &[(r#""k0":{}"#, "/k0"), (r#""k":{}"#, "")] {
+            let text = many_members(rt.alloc(), *end, last).expect(&rt, "memory");
+            expect_repeat(&rt, rt.alloc(), &text, path);
+        }
     }
-    Ok(())
 }

@@ -1,49 +1,41 @@
 //! Of `sj_scan`: worked positions, the two scans beside each other, and the display texts of faults.
-use super::expect_eq;
 use super::objects::colliding_key;
+use super::{expect_at, expect_eq, expect_shown};
 use sj_scan::{BlockScan, PlainScan, ScanFault, Stage1};
 use std::alloc::{AllocError, Global};
 use std::process::Abort;
-use std::test::Fail;
 
 // Scans into a vector with old contents.
 fn scanned_by<S: Stage1 + Drop>(
+    rt: &impl Abort,
     alloc: Global,
     mut scan: S,
     bytes: &[u8],
-) -> Result<Result<Vec<u32>, ScanFault>, Fail> {
-    let mut out = Vec::from_slice(alloc, &[7, 5])?;
-    let _len = u32::try_from(bytes.len())?;
-    let answer = scan.scan(bytes, &mut out);
-    Ok(answer.and(Ok(out)))
+) -> Result<Vec<u32>, ScanFault> {
+    let mut out = Vec::from_slice(alloc, &[7, 5]).expect(rt, "memory");
+    let _len = u32::try_from(bytes.len()).expect(rt, "a length in range");
+    scan.scan(bytes, &mut out)?;
+    Ok(out)
 }
 
 // The answer of both scans, which is to be the same.
-fn scanned(
-    rt: &impl Abort,
-    alloc: Global,
-    bytes: &[u8],
-) -> Result<Result<Vec<u32>, ScanFault>, Fail> {
-    let plain = scanned_by(alloc, PlainScan, bytes)?;
-    let block = scanned_by(alloc, BlockScan, bytes)?;
-    match (&plain, &block) {
-        (Ok(plain), Ok(block)) => expect_eq(rt, plain.as_slice(), block.as_slice()),
-        (plain, block) => expect_eq(rt, plain.as_ref().err(), block.as_ref().err()),
-    }
-    Ok(block)
+fn scanned(rt: &impl Abort, alloc: Global, bytes: &[u8]) -> Result<Vec<u32>, ScanFault> {
+    let plain = scanned_by(rt, alloc, PlainScan, bytes);
+    let block = scanned_by(rt, alloc, BlockScan, bytes);
+    expect_eq(rt, &plain, &block);
+    block
 }
 
 #[test]
-fn positions(rt: HostRuntime) -> Result<(), Fail> {
-    let rows: [(&str, &[u32]); 2] = [
+fn positions(rt: HostRuntime) {
+    let rows: &[(&str, &[u32])] = &[
         (r#"["a\"b", tru]"#, &[0, 1, 7, 9, 12]),
         (r#""a"b"#, &[0, 3]),
     ];
     for (text, positions) in rows {
-        let found = scanned(&rt, rt.alloc(), text.as_bytes())??;
-        assert_eq!(rt; found.as_slice(), positions, "{text}");
+        let found = scanned(&rt, rt.alloc(), text.as_bytes()).expect(&rt, "positions");
+        expect_at(&rt, text, found.as_slice(), positions);
     }
-    Ok(())
 }
 
 // Texts with something to find near the end of a block, once they stand behind spaces, and the lines of the worked rows but
@@ -103,16 +95,15 @@ null
 {:}[,]{:}[,]{:}[,]{:}[,]{:}[,]{:}[,]{:}[,]{:}[,]{:}[,]{:}[,]{:}[,]{:}[,]{:}[,]"#;
 
 // Scans a text up to each of its bytes, behind each number of spaces up to two blocks.
-fn scan_prefixes(rt: &impl Abort, alloc: Global, text: &[u8]) -> Result<(), Fail> {
+fn scan_prefixes(rt: &impl Abort, alloc: Global, text: &[u8]) {
     let mut spaced = Vec::new(alloc);
-    spaced.resize(130, b' ')?;
-    spaced.extend_from_slice(text)?;
+    spaced.resize(130, b' ').expect(rt, "memory");
+    spaced.extend_from_slice(text).expect(rt, "memory");
     for end in 130..=spaced.len() {
         for start in 0..=130 {
-            let _found = scanned(rt, alloc, &spaced[start..end])?;
+            let _ = scanned(rt, alloc, &spaced[start..end]);
         }
     }
-    Ok(())
 }
 
 // An object of forty members, whose keys have one hash.
@@ -129,25 +120,25 @@ fn forty_members(alloc: Global) -> Result<String, AllocError> {
 }
 
 #[test]
-fn scans_agree(rt: HostRuntime) -> Result<(), Fail> {
+fn scans_agree(rt: HostRuntime) {
     for text in TEXTS.lines() {
-        scan_prefixes(&rt, rt.alloc(), text.as_bytes())?;
+        scan_prefixes(&rt, rt.alloc(), text.as_bytes());
     }
-    scan_prefixes(&rt, rt.alloc(), forty_members(rt.alloc())?.as_bytes())?;
-    scan_prefixes(&rt, rt.alloc(), b"\"\xff")?;
-    scan_prefixes(&rt, rt.alloc(), b"1\r")
+    let object = forty_members(rt.alloc()).expect(&rt, "memory");
+    scan_prefixes(&rt, rt.alloc(), object.as_bytes());
+    scan_prefixes(&rt, rt.alloc(), b"\"\xff");
+    scan_prefixes(&rt, rt.alloc(), b"1\r");
 }
 
 #[test]
-fn displayed_faults(rt: HostRuntime) -> Result<(), Fail> {
-    for (fault, text) in [
+fn displayed_faults(rt: HostRuntime) {
+    for (fault, text) in &[
         (ScanFault::Utf8, "Utf8"),
         (ScanFault::Unclosed, "Unclosed"),
         (ScanFault::Control, "Control"),
         (ScanFault::NoToken, "NoToken"),
         (ScanFault::Memory, "Memory"),
     ] {
-        expect_eq(&rt, fault.to_string(rt.alloc())?.as_str(), text);
+        expect_shown(&rt, rt.alloc(), fault, text);
     }
-    Ok(())
 }
