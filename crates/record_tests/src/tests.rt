@@ -17,10 +17,9 @@ use hostile::nested;
 use runs::Run;
 use sj_base::{Error, ErrorType};
 use sj_records::{CommandFault, Form, RunError, Script, ScriptFault};
-use std::alloc::{AllocError, Global};
-use std::fmt::Display;
+use std::alloc::Global;
+use std::fmt::{Debug, Display};
 use std::process::Abort;
-use std::test::Fail;
 
 const LIMIT: usize = 1024;
 
@@ -35,8 +34,33 @@ fn script_of(alloc: Global, text: &str) -> Result<Script, ScriptFault> {
 const FORMS: [Form; 3] = [Form::Owned, Form::Borrowed, Form::Lazy];
 
 // The two parts of a row of a table: a line, and what is wanted for it.
-fn split_row(row: &str) -> Result<(&str, &str), Fail> {
-    Ok(row.split_once(" => ").ok_or("a row without ` => `")?)
+fn split_row<'a>(rt: &impl Abort, row: &'a str) -> (&'a str, &'a str) {
+    row.split_once(" => ").expect(rt, "a row with ` => `")
+}
+
+// Fails unless both are equal. It is proved once, and an `assert_eq!` with all that its test holds.
+fn expect_eq<T: PartialEq + Debug + Drop>(rt: &impl Abort, found: T, expected: T) {
+    assert_eq!(rt; found, expected);
+}
+
+// The same of a row of a table, which it names.
+fn expect_at<T: PartialEq + Debug + Drop>(rt: &impl Abort, row: &str, found: T, expected: T) {
+    assert_eq!(rt; found, expected, "at {row}");
+}
+
+// Fails, and says what was wanted, unless it holds.
+fn expect_that(rt: &impl Abort, wanted: &str, holds: bool) {
+    assert!(rt; holds, "{wanted}");
+}
+
+fn add_line(rt: &impl Abort, text: &mut String, line: &str) {
+    text.push_str(line).expect(rt, "memory");
+    text.push('\n').expect(rt, "memory");
+}
+
+// The record of a line under the empty script.
+fn record_of(rt: &impl Abort, alloc: Global, document: &str) -> String {
+    format!(in alloc; r#"{{"replies":[],"document":{document}}}"#).expect(rt, "memory")
 }
 
 // A stream of lines, their records under the empty script, and those under a reload.
@@ -57,33 +81,33 @@ impl Stream {
     }
 
     // Adds a line behind spaces, and its record.
-    fn add(&mut self, spaces: usize, line: &[u8], record: &str) -> Result<(), AllocError> {
+    fn add(&mut self, rt: &impl Abort, spaces: usize, line: &[u8], record: &str) {
         for _ in 0..spaces {
-            self.bytes.push(b' ')?;
+            self.bytes.push(b' ').expect(rt, "memory");
         }
-        self.bytes.extend_from_slice(line)?;
-        self.bytes.push(b'\n')?;
-        self.records.push_str(record)?;
-        self.records.push('\n')?;
+        self.bytes.extend_from_slice(line).expect(rt, "memory");
+        self.bytes.push(b'\n').expect(rt, "memory");
+        add_line(rt, &mut self.records, record);
         match record.strip_prefix(r#"{"replies":[]"#) {
             Some(document) => {
-                self.reloaded.push_str(r#"{"replies":[true]"#)?;
-                self.reloaded.push_str(document)?;
+                let front = r#"{"replies":[true]"#;
+                self.reloaded.push_str(front).expect(rt, "memory");
+                add_line(rt, &mut self.reloaded, document);
             }
-            None => self.reloaded.push_str(record)?,
+            None => add_line(rt, &mut self.reloaded, record),
         }
-        self.reloaded.push('\n')
     }
 
     // Puts a line and its record before the others.
-    fn put_first(&mut self, alloc: Global, line: &[u8], record: &str) -> Result<(), AllocError> {
+    fn put_first(&mut self, rt: &impl Abort, alloc: Global, line: &[u8], record: &str) {
         let mut all = Stream::new(alloc);
-        all.add(0, line, record)?;
-        all.bytes.extend_from_slice(&self.bytes)?;
-        all.records.push_str(&self.records)?;
-        all.reloaded.push_str(&self.reloaded)?;
+        all.add(rt, 0, line, record);
+        all.bytes
+            .extend_from_slice(&self.bytes)
+            .expect(rt, "memory");
+        all.records.push_str(&self.records).expect(rt, "memory");
+        all.reloaded.push_str(&self.reloaded).expect(rt, "memory");
         *self = all;
-        Ok(())
     }
 
     // Looks for the records under the empty script, where the lines come in pieces of `step` bytes.
@@ -98,7 +122,7 @@ impl Stream {
 
     // Looks for the records under a reload of each kind.
     fn check_reloads(&self, rt: &impl Abort, alloc: Global, depth: usize) {
-        for script in [r#"[["reload"]]"#, r#"[["reload_pp"]]"#] {
+        for script in &[r#"[["reload"]]"#, r#"[["reload_pp"]]"#] {
             let run = Run {
                 depth,
                 ..Run::new(script, &self.bytes)
@@ -111,7 +135,7 @@ impl Stream {
 // The record of each line under a script.
 #[test]
 fn records(rt: HostRuntime) {
-    for (script, stream, records) in [
+    for (script, stream, records) in &[
         (
             r#"[["get",["key"]]]"#,
             r#"{"key": "value", "snot": 42}
@@ -153,16 +177,14 @@ null"#,
         ),
     ] {
         let run = Run::new(script, stream.as_bytes());
-        for step in [1, 2, 65536] {
-            Run { step, ..run }.expect(&rt, rt.alloc(), &FORMS, records);
-        }
+        run.expect_by(&rt, rt.alloc(), &[1, 2, 65536], &FORMS, records);
     }
 }
 
 // What the empty script writes for streams that end with a line feed and without one.
 #[test]
 fn streams(rt: HostRuntime) {
-    for (stream, records) in [
+    for (stream, records) in &[
         ("", ""),
         (
             "\n",
@@ -187,29 +209,26 @@ fn streams(rt: HostRuntime) {
         ),
     ] {
         let run = Run::new("[]", stream.as_bytes());
-        for step in [1, 2, 65536] {
-            Run { step, ..run }.expect(&rt, rt.alloc(), &FORMS, records);
-        }
+        run.expect_by(&rt, rt.alloc(), &[1, 2, 65536], &FORMS, records);
     }
 }
 
 // Looks for the report of a script's fault, behind what is there.
-fn expect_refused(rt: &impl Abort, alloc: Global, script: &str, text: &str) -> Result<(), Fail> {
-    let fault = script_of(alloc, script).err().ok_or("no fault")?;
-    let mut out = Vec::from_slice(alloc, b"is ")?;
-    fault.put_fault(&mut out)?;
-    assert_eq!(rt; std::str::from_utf8(&out[3..]), Ok(text), "{script}");
-    Ok(())
+fn expect_refused(rt: &impl Abort, alloc: Global, script: &str, text: &str) {
+    let fault = script_of(alloc, script).err().expect(rt, "a fault");
+    let mut out = Vec::from_slice(alloc, b"is ").expect(rt, "memory");
+    fault.put_fault(&mut out).expect(rt, "memory");
+    expect_at(rt, script, std::str::from_utf8(&out[3..]), Ok(text));
 }
 
 // A script nests at most 1024 levels. One that nests so many is read, and has no command.
 #[test]
-fn deep_scripts(rt: HostRuntime) -> Result<(), Fail> {
-    for (levels, text) in [(1024, "command 0: NoName"), (1025, "Syntax at 1024")] {
-        let script = nested(rt.alloc(), levels)?;
-        expect_refused(&rt, rt.alloc(), std::str::from_utf8(&script)?, text)?;
+fn deep_scripts(rt: HostRuntime) {
+    for (levels, text) in &[(1024, "command 0: NoName"), (1025, "Syntax at 1024")] {
+        let script = nested(&rt, rt.alloc(), *levels);
+        let script = std::str::from_utf8(&script).expect(&rt, "a text");
+        expect_refused(&rt, rt.alloc(), script, text);
     }
-    Ok(())
 }
 
 // Each script that is refused, and the text of its first fault.
@@ -242,49 +261,42 @@ time => ExpectedTrue at 0
 [["insert",[],1,2]] => command 0: BadKey"#;
 
 #[test]
-fn refused_scripts(rt: HostRuntime) -> Result<(), Fail> {
+fn refused_scripts(rt: HostRuntime) {
     for row in REFUSED.lines().skip(1) {
-        let (script, text) = split_row(row)?;
-        expect_refused(&rt, rt.alloc(), script, text)?;
+        let (script, text) = split_row(&rt, row);
+        expect_refused(&rt, rt.alloc(), script, text);
     }
-    Ok(())
 }
 
 // Fails unless this is how the error is displayed.
-fn expect_display<E: Display>(
-    rt: &impl Abort,
-    alloc: Global,
-    error: &E,
-    text: &str,
-) -> Result<(), AllocError> {
-    let shown = format!(in alloc; "{error}")?;
-    assert_eq!(rt; shown.as_str(), text);
-    Ok(())
+fn expect_display<E: Display>(rt: &impl Abort, alloc: Global, error: &E, text: &str) {
+    let shown = format!(in alloc; "{error}").expect(rt, "memory");
+    expect_eq(rt, shown.as_str(), text);
 }
 
 #[test]
-fn display_texts(rt: HostRuntime) -> Result<(), Fail> {
-    for (error, text) in [
+fn display_texts(rt: HostRuntime) {
+    for (error, text) in &[
         (RunError::Memory, "Memory"),
         (RunError::Write, "Write"),
         (RunError::Read, "Read"),
         (RunError::TooManyReads, "TooManyReads"),
     ] {
-        expect_display(&rt, rt.alloc(), &error, text)?;
+        expect_display(&rt, rt.alloc(), error, text);
     }
     let no_name = ScriptFault::Command {
         place: 0,
         fault: CommandFault::NoName,
     };
-    for (fault, text) in [
+    for (fault, text) in &[
         (ScriptFault::Json(Error::generic(ErrorType::Eof)), "Json"),
         (ScriptFault::NotAnArray, "NotAnArray"),
         (no_name, "Command"),
         (ScriptFault::Memory, "Memory"),
     ] {
-        expect_display(&rt, rt.alloc(), &fault, text)?;
+        expect_display(&rt, rt.alloc(), fault, text);
     }
-    for (fault, text) in [
+    for (fault, text) in &[
         (CommandFault::NotAnArray, "NotAnArray"),
         (CommandFault::NoName, "NoName"),
         (CommandFault::UnknownName, "UnknownName"),
@@ -292,7 +304,6 @@ fn display_texts(rt: HostRuntime) -> Result<(), Fail> {
         (CommandFault::BadPath, "BadPath"),
         (CommandFault::BadKey, "BadKey"),
     ] {
-        expect_display(&rt, rt.alloc(), &fault, text)?;
+        expect_display(&rt, rt.alloc(), fault, text);
     }
-    Ok(())
 }

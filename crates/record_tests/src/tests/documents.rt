@@ -1,8 +1,7 @@
 //! Documents of lines: numbers and texts as they are kept and printed.
-use super::{LIMIT, MOST_SPACES, Stream, split_row};
+use super::{LIMIT, MOST_SPACES, Stream, record_of, split_row};
 use std::alloc::Global;
 use std::process::Abort;
-use std::test::Fail;
 
 // Documents and their compact texts.
 const DOCUMENTS: &str = r#"
@@ -43,27 +42,25 @@ const UNSEEN_DOCUMENTS: [(&str, &str); 5] = [
 ];
 
 // Looks for the record of a document by itself, and behind 1 to 130 spaces.
-fn check_document(rt: &impl Abort, alloc: Global, line: &str, text: &str) -> Result<(), Fail> {
-    let record = format!(in alloc; r#"{{"replies":[],"document":{text}}}"#)?;
+fn check_document(rt: &impl Abort, alloc: Global, line: &str, text: &str) {
+    let record = record_of(rt, alloc, text);
     let mut lines = Stream::new(alloc);
     for spaces in 0..=MOST_SPACES {
-        lines.add(spaces, line.as_bytes(), &record)?;
+        lines.add(rt, spaces, line.as_bytes(), &record);
         if spaces == 0 {
             lines.check(rt, alloc, LIMIT, 65536);
         }
     }
     lines.check(rt, alloc, LIMIT, 65536);
-    Ok(())
 }
 
 #[test]
-fn in_compact_form(rt: HostRuntime) -> Result<(), Fail> {
+fn in_compact_form(rt: HostRuntime) {
     for row in DOCUMENTS.lines().skip(1) {
-        let (line, text) = split_row(row)?;
-        check_document(&rt, rt.alloc(), line, text)?;
+        let (line, text) = split_row(&rt, row);
+        check_document(&rt, rt.alloc(), line, text);
     }
-    for (line, text) in UNSEEN_DOCUMENTS {
-        check_document(&rt, rt.alloc(), line, text)?;
+    for (line, text) in &UNSEEN_DOCUMENTS {
+        check_document(&rt, rt.alloc(), line, text);
     }
-    Ok(())
 }

@@ -2,10 +2,9 @@
 use super::{LIMIT, MOST_SPACES, Stream, split_row};
 use std::alloc::{AllocError, Global};
 use std::process::Abort;
-use std::test::Fail;
 
 // A fault of the whole line has no place.
-fn record_of(
+fn record_of_fault(
     alloc: Global,
     kind: &str,
     place: Option<(usize, &str)>,
@@ -26,37 +25,35 @@ fn compare_line(
     line: &[u8],
     kind: &str,
     place: Option<(u16, &str)>,
-) -> Result<(), Fail> {
+) {
     let mut lines = Stream::new(alloc);
     for spaces in 0..=MOST_SPACES {
         let moved = match place {
             Some((index, character)) => Some((usize::from(index) + spaces, character)),
             None => None,
         };
-        let record = record_of(alloc, kind, moved)?;
-        lines.add(spaces, line, &record)?;
+        let record = record_of_fault(alloc, kind, moved).expect(rt, "memory");
+        lines.add(rt, spaces, line, &record);
         if spaces == 0 {
             lines.check(rt, alloc, depth, 65536);
         }
     }
     lines.check(rt, alloc, depth, 65536);
-    Ok(())
 }
 
 // Compares the rows of a table, which begins with a line feed. A row is a line, ` => `, and the kind, the index and the
 // character of its first fault, with the character written as in a JSON string. A fault of the whole line has its kind alone.
-fn compare(rt: &impl Abort, alloc: Global, depth: usize, table: &str) -> Result<(), Fail> {
+fn compare(rt: &impl Abort, alloc: Global, depth: usize, table: &str) {
     for row in table.lines().skip(1) {
-        let (line, found) = split_row(row)?;
+        let (line, found) = split_row(rt, row);
         let Some((kind, place)) = found.split_once(' ') else {
-            compare_line(rt, alloc, depth, line.as_bytes(), found, None)?;
+            compare_line(rt, alloc, depth, line.as_bytes(), found, None);
             continue;
         };
-        let (index, character) = place.split_once(' ').ok_or("a row without a character")?;
-        let place = Some((index.parse()?, character));
-        compare_line(rt, alloc, depth, line.as_bytes(), kind, place)?;
+        let (index, character) = place.split_once(' ').expect(rt, "a character");
+        let place = Some((index.parse().expect(rt, "an index"), character));
+        compare_line(rt, alloc, depth, line.as_bytes(), kind, place);
     }
-    Ok(())
 }
 
 // Tests on all bytes of a line, in the order UTF-8, closed strings, control characters in them, a token at all.
@@ -291,8 +288,8 @@ const OF_NUMBERS: &str = r#"
 018446744073709551616 => InvalidNumber 0 0"#;
 
 #[test]
-fn of_each_kind(rt: HostRuntime) -> Result<(), Fail> {
-    for table in [
+fn of_each_kind(rt: HostRuntime) {
+    for table in &[
         OF_WHOLE_LINES,
         WHERE_NO_VALUE_BEGINS,
         IN_ARRAYS,
@@ -305,14 +302,13 @@ fn of_each_kind(rt: HostRuntime) -> Result<(), Fail> {
         BEHIND_THE_ROOT,
         OF_TWO_THE_FIRST,
     ] {
-        compare(&rt, rt.alloc(), LIMIT, table)?;
+        compare(&rt, rt.alloc(), LIMIT, table);
     }
-    Ok(())
 }
 
 // The same tests, on bytes that can't be seen in a table.
 #[test]
-fn of_unseen_bytes(rt: HostRuntime) -> Result<(), Fail> {
+fn of_unseen_bytes(rt: HostRuntime) {
     let rows: [(&[u8], &str); 16] = [
         (b"\"\xff", "InvalidUtf8"),
         (b"\xff", "InvalidUtf8"),
@@ -331,15 +327,14 @@ fn of_unseen_bytes(rt: HostRuntime) -> Result<(), Fail> {
         (b"time \"\r\"", "Syntax"),
         (b"\t \r", "Eof"),
     ];
-    for (line, kind) in rows {
-        compare_line(&rt, rt.alloc(), LIMIT, line, kind, None)?;
+    for (line, kind) in &rows {
+        compare_line(&rt, rt.alloc(), LIMIT, line, kind, None);
     }
-    Ok(())
 }
 
 // Characters that can't be seen in a table.
 #[test]
-fn of_unseen_characters(rt: HostRuntime) -> Result<(), Fail> {
+fn of_unseen_characters(rt: HostRuntime) {
     let rows = [
         ("\u{0}", "InternalError", 0, r"\u0000"),
         ("\u{8}", "InternalError", 0, r"\b"),
@@ -357,11 +352,10 @@ fn of_unseen_characters(rt: HostRuntime) -> Result<(), Fail> {
         ("{\"a\":null\u{a0}}", "ExpectedNull", 5, "n"),
         ("9\u{663}", "InvalidNumber", 0, "9"),
     ];
-    for (line, kind, index, character) in rows {
-        let place = Some((index, character));
-        compare_line(&rt, rt.alloc(), LIMIT, line.as_bytes(), kind, place)?;
+    for (line, kind, index, character) in &rows {
+        let place = Some((*index, *character));
+        compare_line(&rt, rt.alloc(), LIMIT, line.as_bytes(), kind, place);
     }
-    Ok(())
 }
 
 // The fault stands at the bracket that would nest too deep. A bracket that begins no value has another fault.
@@ -391,9 +385,8 @@ const TWO_LEVELS: &str = r#"
 {"a":[1],"\u0062":[2,{}]} => Syntax 21 {"#;
 
 #[test]
-fn of_depth(rt: HostRuntime) -> Result<(), Fail> {
-    for (depth, table) in [(0, NO_LEVELS), (1, ONE_LEVEL), (2, TWO_LEVELS)] {
-        compare(&rt, rt.alloc(), depth, table)?;
+fn of_depth(rt: HostRuntime) {
+    for (depth, table) in &[(0, NO_LEVELS), (1, ONE_LEVEL), (2, TWO_LEVELS)] {
+        compare(&rt, rt.alloc(), *depth, table);
     }
-    Ok(())
 }

@@ -2,11 +2,10 @@
 use super::rows::{ACROSS_BLOCKS, ROWS};
 use super::runs::Run;
 use super::writes::forty;
-use super::{FORMS, LIMIT, MOST_SPACES, Stream, split_row};
+use super::{FORMS, LIMIT, MOST_SPACES, Stream, expect_eq, expect_that, record_of, split_row};
 use sj_records::Form;
-use std::alloc::{AllocError, Global};
+use std::alloc::Global;
 use std::process::Abort;
-use std::test::Fail;
 
 // The most bytes that a reader gives a read.
 const STEPS: [usize; 3] = [1, 2, 63];
@@ -16,42 +15,43 @@ const UNCLOSED: &str = r#"{"error":"Syntax","index":0,"character":null}"#;
 const NOT_UTF8: &str = r#"{"error":"InvalidUtf8","index":0,"character":null}"#;
 
 fn check(rt: &impl Abort, alloc: Global, lines: &Stream, depth: usize) {
-    for step in STEPS {
-        lines.check(rt, alloc, depth, step);
+    for step in &STEPS {
+        lines.check(rt, alloc, depth, *step);
     }
 }
 
 // Adds an array of one string, of so many letters and then these bytes. Its record is the fault, or has the line as document.
 fn add_string(
+    rt: &impl Abort,
     alloc: Global,
     lines: &mut Stream,
     letters: usize,
     end: &[u8],
     fault: Option<&str>,
-) -> Result<(), AllocError> {
-    let mut line = Vec::from_slice(alloc, b"[\"")?;
+) {
+    let mut line = Vec::from_slice(alloc, b"[\"").expect(rt, "memory");
     for _ in 0..letters {
-        line.push(b'a')?;
+        line.push(b'a').expect(rt, "memory");
     }
-    line.extend_from_slice(end)?;
-    line.extend_from_slice(b"\"]")?;
+    line.extend_from_slice(end).expect(rt, "memory");
+    line.extend_from_slice(b"\"]").expect(rt, "memory");
     match fault {
-        Some(fault) => lines.add(0, &line, fault),
+        Some(fault) => lines.add(rt, 0, &line, fault),
         None => {
             let text = std::str::from_utf8(&line).unwrap_or("no text");
-            let record = format!(in alloc; r#"{{"replies":[],"document":{text}}}"#)?;
-            lines.add(0, &line, &record)
+            let record = record_of(rt, alloc, text);
+            lines.add(rt, 0, &line, &record);
         }
     }
 }
 
 // Runs of backslashes that end at each byte of three blocks: an odd one escapes the quote.
 #[test]
-fn runs_of_backslashes(rt: HostRuntime) -> Result<(), Fail> {
+fn runs_of_backslashes(rt: HostRuntime) {
     let alloc = rt.alloc();
     let mut lines = Stream::new(alloc);
     for letters in 0..=MOST_SPACES {
-        for (end, fault) in [
+        for (end, fault) in &[
             (r"", None),
             (r"\", Some(UNCLOSED)),
             (r"\\", None),
@@ -59,83 +59,83 @@ fn runs_of_backslashes(rt: HostRuntime) -> Result<(), Fail> {
             (r"\\\\", None),
             (r"\\\\\", Some(UNCLOSED)),
         ] {
-            add_string(alloc, &mut lines, letters, end.as_bytes(), fault)?;
+            add_string(&rt, alloc, &mut lines, letters, end.as_bytes(), *fault);
         }
     }
     check(&rt, alloc, &lines, LIMIT);
-    Ok(())
 }
 
 // A control character, a character of two bytes, and half of it.
 #[test]
-fn bytes_at_the_edges_of_blocks(rt: HostRuntime) -> Result<(), Fail> {
+fn bytes_at_the_edges_of_blocks(rt: HostRuntime) {
     let alloc = rt.alloc();
     let mut lines = Stream::new(alloc);
     for letters in 0..=MOST_SPACES {
-        add_string(alloc, &mut lines, letters, b"\x1f", Some(UNCLOSED))?;
-        add_string(alloc, &mut lines, letters, b"\xc3\xa9", None)?;
-        add_string(alloc, &mut lines, letters, b"\xc3", Some(NOT_UTF8))?;
+        add_string(&rt, alloc, &mut lines, letters, b"\x1f", Some(UNCLOSED));
+        add_string(&rt, alloc, &mut lines, letters, b"\xc3\xa9", None);
+        add_string(&rt, alloc, &mut lines, letters, b"\xc3", Some(NOT_UTF8));
     }
     check(&rt, alloc, &lines, LIMIT);
-    Ok(())
 }
 
 // So many arrays, each in the one before.
-pub(super) fn nested(alloc: Global, levels: usize) -> Result<Vec<u8>, AllocError> {
+pub(super) fn nested(rt: &impl Abort, alloc: Global, levels: usize) -> Vec<u8> {
     let mut line = Vec::new(alloc);
-    line.resize(levels, b'[')?;
+    line.resize(levels, b'[').expect(rt, "memory");
     for _ in 0..levels {
-        line.push(b']')?;
+        line.push(b']').expect(rt, "memory");
     }
-    Ok(line)
+    line
 }
 
 // As many levels as the limit allows, and one more.
-#[test]
-fn levels_at_the_limit(rt: HostRuntime) -> Result<(), Fail> {
-    let alloc = rt.alloc();
-    for depth in [0, 1, 2, 1024] {
-        let mut lines = Stream::new(alloc);
-        if depth > 0 {
-            let line = nested(alloc, depth)?;
-            let text = std::str::from_utf8(&line)?;
-            let record = format!(in alloc; r#"{{"replies":[],"document":{text}}}"#)?;
-            lines.add(0, &line, &record)?;
-        }
-        let record = format!(in alloc; r#"{{"error":"Syntax","index":{depth},"character":"["}}"#)?;
-        lines.add(0, &nested(alloc, depth + 1)?, &record)?;
-        check(&rt, alloc, &lines, depth);
+fn check_limit(rt: &impl Abort, alloc: Global, depth: u16) {
+    let depth = usize::from(depth);
+    let mut lines = Stream::new(alloc);
+    if depth > 0 {
+        let line = nested(rt, alloc, depth);
+        let text = std::str::from_utf8(&line).expect(rt, "a text");
+        lines.add(rt, 0, &line, &record_of(rt, alloc, text));
     }
-    Ok(())
+    let record = format!(in alloc;
+        r#"{{"error":"Syntax","index":{depth},"character":"["}}"#
+    ).expect(rt, "memory");
+    lines.add(rt, 0, &nested(rt, alloc, depth + 1), &record);
+    check(rt, alloc, &lines, depth);
+}
+
+#[test]
+fn levels_at_the_limit(rt: HostRuntime) {
+    for depth in &[0, 1, 2, 1024] {
+        check_limit(&rt, rt.alloc(), *depth);
+    }
 }
 
 // The members `k0` to the one before `end`, with values from 0 on.
-fn put_members(alloc: Global, out: &mut String, end: usize) -> Result<(), AllocError> {
+fn put_members(rt: &impl Abort, alloc: Global, out: &mut String, end: usize) {
     for number in 0..end {
         if number > 0 {
-            out.push(',')?;
+            out.push(',').expect(rt, "memory");
         }
-        let member = format!(in alloc; r#""k{number}":{number}"#)?;
-        out.push_str(&member)?;
+        let member = format!(in alloc; r#""k{number}":{number}"#).expect(rt, "memory");
+        out.push_str(&member).expect(rt, "memory");
     }
-    Ok(())
 }
 
 // About 32 keys, and the first one once more.
 #[test]
-fn first_key_again(rt: HostRuntime) -> Result<(), Fail> {
+fn first_key_again(rt: HostRuntime) {
     let alloc = rt.alloc();
     for count in 31..=34usize {
         let mut members = String::new(alloc);
-        put_members(alloc, &mut members, count)?;
-        let line = format!(in alloc; r#"{{{members},"k0":-1}}"#)?;
-        let kept = format!(in alloc; "{{\"replies\":[],\"document\":{{{members}}}}}\n")?;
+        put_members(&rt, alloc, &mut members, count);
+        let line = format!(in alloc; r#"{{{members},"k0":-1}}"#).expect(&rt, "memory");
+        let kept = format!(in alloc; "{{\"replies\":[],\"document\":{{{members}}}}}\n").expect(
+            &rt, "memory",
+        );
         let run = Run::new("[]", line.as_bytes());
-        for step in STEPS {
-            Run { step, ..run }.expect(&rt, alloc, &[Form::Owned, Form::Borrowed], &kept);
-        }
+        run.expect_by(&rt, alloc, &STEPS, &[Form::Owned, Form::Borrowed], &kept);
     }
-    Ok(())
 }
 
 // A line that is cut behind each of its bytes.
@@ -152,15 +152,14 @@ const CUT: &str = r#"
 {"a":[1]} => {"replies":[],"document":{"a":[1]}}"#;
 
 #[test]
-fn cut_line(rt: HostRuntime) -> Result<(), Fail> {
+fn cut_line(rt: HostRuntime) {
     let alloc = rt.alloc();
     let mut lines = Stream::new(alloc);
     for row in CUT.lines().skip(1) {
-        let (line, record) = split_row(row)?;
-        lines.add(0, line.as_bytes(), record)?;
+        let (line, record) = split_row(&rt, row);
+        lines.add(&rt, 0, line.as_bytes(), record);
     }
     check(&rt, alloc, &lines, LIMIT);
-    Ok(())
 }
 
 // Worked lines that are neither among `ROWS` nor among `ACROSS_BLOCKS`.
@@ -183,45 +182,51 @@ const MORE_LINES: [&[u8]; 15] = [
 ];
 
 // Adds the line once for each of its lengths, cut there.
-fn add_cuts(stream: &mut Vec<u8>, line: &[u8]) -> Result<(), AllocError> {
+fn add_cuts(rt: &impl Abort, stream: &mut Vec<u8>, line: &[u8]) {
     for end in 0..=line.len() {
-        stream.extend_from_slice(line.get(..end).unwrap_or_default())?;
-        stream.push(b'\n')?;
+        let cut = line.get(..end).unwrap_or_default();
+        stream.extend_from_slice(cut).expect(rt, "memory");
+        stream.push(b'\n').expect(rt, "memory");
     }
-    Ok(())
 }
 
 // The worked lines, each cut behind each of its bytes.
-fn cuts(alloc: Global) -> Result<Vec<u8>, Fail> {
+fn cuts(rt: &impl Abort, alloc: Global) -> Vec<u8> {
     let mut stream = Vec::new(alloc);
     for row in ROWS.lines().skip(1) {
-        let (line, _) = split_row(row)?;
-        add_cuts(&mut stream, line.as_bytes())?;
+        let (line, _) = split_row(rt, row);
+        add_cuts(rt, &mut stream, line.as_bytes());
     }
-    for line in ACROSS_BLOCKS {
-        add_cuts(&mut stream, line.as_bytes())?;
+    for line in &ACROSS_BLOCKS {
+        add_cuts(rt, &mut stream, line.as_bytes());
     }
-    for line in MORE_LINES {
-        add_cuts(&mut stream, line)?;
+    for line in &MORE_LINES {
+        add_cuts(rt, &mut stream, line);
     }
-    add_cuts(&mut stream, forty(alloc, 0)?.as_bytes())?;
-    Ok(stream)
+    let object = forty(alloc, 0).expect(rt, "memory");
+    add_cuts(rt, &mut stream, object.as_bytes());
+    stream
 }
 
-// Each line that is cut gives one record, whatever a read gives.
-#[test]
-fn cut_lines(rt: HostRuntime) -> Result<(), Fail> {
-    let alloc = rt.alloc();
-    let stream = cuts(alloc)?;
-    let count = |bytes: &[u8]| bytes.iter().filter(|byte| **byte == b'\n').count();
-    let run = Run::new("[]", &stream);
-    for form in FORMS {
-        let whole = run.output(&rt, alloc, form);
-        assert_eq!(rt; count(&whole), count(&stream));
-        for step in STEPS {
-            let records = Run { step, ..run }.output(&rt, alloc, form);
-            assert!(rt; records == whole);
-        }
+fn line_feeds(bytes: &[u8]) -> usize {
+    bytes.iter().filter(|byte| **byte == b'\n').count()
+}
+
+// Looks for one record a line, whatever a read gives.
+fn check_cuts(rt: &impl Abort, alloc: Global, run: Run<'_>, form: Form) {
+    let whole = run.output(rt, alloc, form);
+    expect_eq(rt, line_feeds(&whole), line_feeds(run.stream));
+    for step in &STEPS {
+        let records = Run { step: *step, ..run }.output(rt, alloc, form);
+        expect_that(rt, "the same records", records == whole);
     }
-    Ok(())
+}
+
+// Each line that is cut gives one record.
+#[test]
+fn cut_lines(rt: HostRuntime) {
+    let stream = cuts(&rt, rt.alloc());
+    for form in &FORMS {
+        check_cuts(&rt, rt.alloc(), Run::new("[]", &stream), *form);
+    }
 }

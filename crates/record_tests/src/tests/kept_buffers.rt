@@ -1,14 +1,13 @@
 //! Runs that use the same buffers, one after the other.
 
 use super::readers::Pieces;
-use super::{FORMS, script_of};
+use super::{FORMS, expect_eq, script_of};
 use sj_base::Counted;
 use sj_parse::Buffers;
 use sj_records::{Form, Repeats, RunError, Script, run_with};
 use std::alloc::Global;
 use std::io::{Read, Write};
 use std::process::Abort;
-use std::test::Fail;
 
 fn run_with_on<I: Read + Drop, O: Write + Drop>(
     alloc: Global,
@@ -41,7 +40,7 @@ fn expect_with(
     let mut output = Vec::new(alloc);
     let input = Pieces::new(stream.as_bytes(), 65536);
     let result = run_with_on(alloc, input, &mut output, &script, form, buffers);
-    assert_eq!(rt; result, Ok(()));
+    expect_eq(rt, result, Ok(()));
     assert_eq!(rt;
         output.as_slice(),
         records.as_bytes(),
@@ -49,61 +48,47 @@ fn expect_with(
     );
 }
 
-#[test]
-fn streams_in_the_same_buffers(rt: HostRuntime) -> Result<(), Fail> {
-    let alloc = rt.alloc();
-    for form in FORMS {
-        let mut buffers = Buffers::with_max_depth(alloc, 0, 1)?;
-        for _ in 0..2 {
-            expect_with(
-                &rt,
-                alloc,
-                &mut buffers,
-                form,
-                r#"[["push",[],[]],["push",[],3]]"#,
-                "[1, 2]\n[\n[]",
-                concat!(
-                    r#"{"replies":["TooDeep",[]],"document":[1,2,3]}"#,
-                    "\n",
-                    r#"{"error":"Syntax","index":0,"character":"["}"#,
-                    "\n",
-                    r#"{"replies":["TooDeep",[]],"document":[3]}"#,
-                    "\n"
-                ),
-            );
-            expect_with(&rt, alloc, &mut buffers, form, "[]", "", "");
-        }
-        assert_eq!(rt; buffers.max_depth(), 1);
+// Two runs of three lines, with a run of no line behind each.
+fn run_twice(rt: &impl Abort, alloc: Global, form: Form) {
+    let mut buffers = Buffers::with_max_depth(alloc, 0, 1).expect(rt, "memory");
+    let script = r#"[["push",[],[]],["push",[],3]]"#;
+    let records = r#"{"replies":["TooDeep",[]],"document":[1,2,3]}
+{"error":"Syntax","index":0,"character":"["}
+{"replies":["TooDeep",[]],"document":[3]}
+"#;
+    for _ in 0..2 {
+        let stream = "[1, 2]\n[\n[]";
+        expect_with(rt, alloc, &mut buffers, form, script, stream, records);
+        expect_with(rt, alloc, &mut buffers, form, "[]", "", "");
     }
-    Ok(())
+    expect_eq(rt, buffers.max_depth(), 1);
+}
+
+#[test]
+fn streams_in_the_same_buffers(rt: HostRuntime) {
+    for form in &FORMS {
+        run_twice(&rt, rt.alloc(), *form);
+    }
+}
+
+// Looks for the record of a reload of repeated keys, and for the positions behind it.
+fn expect_positions(rt: &impl Abort, alloc: Global, form: Form, record: &str, positions: &[u32]) {
+    let mut buffers = Buffers::new(alloc, 0).expect(rt, "memory");
+    let script = r#"[["reload"],["len",[]]]"#;
+    let line = r#"{"a":1,"a":2}"#;
+    expect_with(rt, alloc, &mut buffers, form, script, line, record);
+    assert_eq!(rt; buffers.structural_indexes(), positions, "{form:?}");
 }
 
 // The positions are those of the text that was read last, which is that of the reload.
 #[test]
-fn positions_behind_a_reload(rt: HostRuntime) -> Result<(), Fail> {
+fn positions_behind_a_reload(rt: HostRuntime) {
     let alloc = rt.alloc();
-    for form in FORMS {
-        let (record, positions): (&str, &[u32]) = match form {
-            Form::Lazy => (
-                "{\"replies\":[true,2],\"document\":{\"a\":1,\"a\":2}}\n",
-                &[0, 1, 4, 5, 6, 7, 10, 11, 12],
-            ),
-            Form::Owned | Form::Borrowed => (
-                "{\"replies\":[true,1],\"document\":{\"a\":1}}\n",
-                &[0, 1, 4, 5, 6],
-            ),
-        };
-        let mut buffers = Buffers::new(alloc, 0)?;
-        expect_with(
-            &rt,
-            alloc,
-            &mut buffers,
-            form,
-            r#"[["reload"],["len",[]]]"#,
-            r#"{"a":1,"a":2}"#,
-            record,
-        );
-        assert_eq!(rt; buffers.structural_indexes(), positions, "{form:?}");
+    let kept = "{\"replies\":[true,1],\"document\":{\"a\":1}}\n";
+    for form in &[Form::Owned, Form::Borrowed] {
+        expect_positions(&rt, alloc, *form, kept, &[0, 1, 4, 5, 6]);
     }
-    Ok(())
+    let whole = "{\"replies\":[true,2],\"document\":{\"a\":1,\"a\":2}}\n";
+    let positions = [0, 1, 4, 5, 6, 7, 10, 11, 12];
+    expect_positions(&rt, alloc, Form::Lazy, whole, &positions);
 }

@@ -1,6 +1,6 @@
 //! Readers and writers that give and take their bytes in pieces, and that fail, and runs on them.
 
-use super::{LIMIT, script_of};
+use super::{LIMIT, expect_eq, expect_that, script_of};
 use sj_base::Counted;
 use sj_parse::Buffers;
 use sj_records::{Form, Repeats, RunError, Script, run, run_within};
@@ -132,13 +132,13 @@ fn run_empty<I: Read + Drop, O: Write + Drop>(
 
 #[test]
 fn failing_reader(rt: HostRuntime) {
-    for step in [1, 65536] {
-        let mut input = Pieces::new(b"1\n2\n3", step);
+    for step in &[1, 65536] {
+        let mut input = Pieces::new(b"1\n2\n3", *step);
         input.failure = Some(ErrorKind::Other);
         let mut output = Vec::new(rt.alloc());
         let result = run_empty(&rt, rt.alloc(), input, &mut output);
-        assert_eq!(rt; result, Err(RunError::Read));
-        assert_eq!(rt; output.as_slice(), BOTH.as_bytes());
+        expect_eq(&rt, result, Err(RunError::Read));
+        expect_eq(&rt, output.as_slice(), BOTH.as_bytes());
     }
 }
 
@@ -148,8 +148,8 @@ fn interrupted_reader(rt: HostRuntime) {
     input.is_cut = true;
     let mut output = Vec::new(rt.alloc());
     let result = run_empty(&rt, rt.alloc(), input, &mut output);
-    assert_eq!(rt; result, Ok(()));
-    assert_eq!(rt; output.as_slice(), BOTH.as_bytes());
+    expect_eq(&rt, result, Ok(()));
+    expect_eq(&rt, output.as_slice(), BOTH.as_bytes());
 }
 
 // Runs the empty script with at most three reads.
@@ -160,7 +160,7 @@ fn run_three<I: Read + Drop>(
     output: &mut Vec<u8>,
 ) -> Result<(), RunError> {
     let script = script_of(alloc, "[]").expect(rt, "a script");
-    let mut buffers = Buffers::new(alloc, 0)?;
+    let mut buffers = Buffers::new(alloc, 0).expect(rt, "memory");
     let mut source = Counted::new(input);
     let mut sink = Counted::new(output);
     let (form, repeats) = (Form::Owned, Repeats::Keep);
@@ -184,14 +184,12 @@ fn run_three<I: Read + Drop>(
 fn bounded_reads(rt: HostRuntime) {
     let mut output = Vec::new(rt.alloc());
     let result = run_three(&rt, rt.alloc(), Interrupted, &mut output);
-    assert_eq!(rt; result, Err(RunError::TooManyReads));
-    assert!(rt; output.is_empty());
+    expect_eq(&rt, result, Err(RunError::TooManyReads));
+    expect_that(&rt, "no record", output.is_empty());
     let result = run_three(&rt, rt.alloc(), Pieces::new(b"1\n", 1), &mut output);
-    assert_eq!(rt; result, Ok(()));
-    assert_eq!(rt;
-        output.as_slice(),
-        b"{\"replies\":[],\"document\":1}\n".as_slice()
-    );
+    expect_eq(&rt, result, Ok(()));
+    let record = b"{\"replies\":[],\"document\":1}\n";
+    expect_eq(&rt, output.as_slice(), record.as_slice());
 }
 
 // A run whose writer has room for the first bytes alone, which are written.
@@ -204,22 +202,22 @@ fn run_narrow(rt: &impl Abort, alloc: Global, refusal: Refusal, step: usize, roo
     };
     let input: &[u8] = b"1\r\n2";
     let result = run_empty(rt, alloc, input, &mut output);
-    let is_whole = room == BOTH.len();
-    assert_eq!(rt; result.is_ok(), is_whole, "{refusal:?} at {room}");
-    assert!(rt; is_whole || result == Err(RunError::Write));
-    assert_eq!(rt;
-        Some(output.taken.as_slice()),
-        BOTH.as_bytes().get(..room),
-        "{refusal:?} at {room}"
-    );
+    let ended = if room == BOTH.len() {
+        Ok(())
+    } else {
+        Err(RunError::Write)
+    };
+    let written = Some(output.taken.as_slice());
+    let first = BOTH.as_bytes().get(..room);
+    assert_eq!(rt; (result, written), (ended, first), "{refusal:?} at {room}");
 }
 
 #[test]
 fn narrow_writer(rt: HostRuntime) {
-    for refusal in [Refusal::Fails, Refusal::Interrupts, Refusal::TakesNothing] {
+    for refusal in &[Refusal::Fails, Refusal::Interrupts, Refusal::TakesNothing] {
         for room in 0..=BOTH.len() {
-            run_narrow(&rt, rt.alloc(), refusal, 1, room);
-            run_narrow(&rt, rt.alloc(), refusal, 7, room);
+            run_narrow(&rt, rt.alloc(), *refusal, 1, room);
+            run_narrow(&rt, rt.alloc(), *refusal, 7, room);
         }
     }
 }

@@ -7,13 +7,12 @@ use sj_records::Form;
 use std::alloc::{AllocError, Global};
 use std::process::Abort;
 use std::str;
-use std::test::Fail;
 
 const RELOADS: [&str; 2] = [r#"["reload"]"#, r#"["reload_pp"]"#];
 
 #[test]
-fn worked_reloads(rt: HostRuntime) -> Result<(), Fail> {
-    for (script, line, depth, record) in [
+fn worked_reloads(rt: HostRuntime) {
+    for (script, line, depth, record) in &[
         (
             r#"[["reload_pp"],["remove",[],"a"],["reload"]]"#,
             r#"{"a":1.0e5,"b":"\u001F"}"#,
@@ -40,21 +39,17 @@ fn worked_reloads(rt: HostRuntime) -> Result<(), Fail> {
         ),
     ] {
         let row = Row {
-            script,
-            line,
-            depth,
-            record,
+            depth: *depth,
+            ..Row::new(script, line, record)
         };
-        row.check(&rt, rt.alloc(), &FORMS)?;
-        row.check_reloads(&rt, rt.alloc(), &FORMS)?;
+        row.check_with_reloads(&rt, rt.alloc(), &FORMS);
     }
-    Ok(())
 }
 
 // A reload of repeated keys leaves them as the form has them.
 #[test]
-fn reloaded_repeats(rt: HostRuntime) -> Result<(), Fail> {
-    for (form, record) in [
+fn reloaded_repeats(rt: HostRuntime) {
+    for (form, record) in &[
         (Form::Owned, r#"{"replies":[true,1],"document":{"a":1}}"#),
         (Form::Borrowed, r#"{"replies":[true,1],"document":{"a":1}}"#),
         (
@@ -64,31 +59,29 @@ fn reloaded_repeats(rt: HostRuntime) -> Result<(), Fail> {
     ] {
         let script = r#"[["reload"],["len",[]]]"#;
         let line = r#"{"a":1,"a":2}"#;
-        let row = Row::new(script, line, record);
-        row.check(&rt, rt.alloc(), &[form])?;
-        row.check_reloads(&rt, rt.alloc(), &[form])?;
+        Row::new(script, line, record).check_with_reloads(&rt, rt.alloc(), &[*form]);
     }
-    Ok(())
 }
 
 // A reload reads under the run's limit of levels.
 #[test]
-fn deep_reload(rt: HostRuntime) -> Result<(), Fail> {
+fn deep_reload(rt: HostRuntime) {
     let alloc = rt.alloc();
     let mut line = String::new(alloc);
-    for bracket in ['[', ']'] {
+    for bracket in &['[', ']'] {
         for _ in 0..LIMIT + 1 {
-            line.push(bracket)?;
+            line.push(*bracket).expect(&rt, "memory");
         }
     }
-    let record = format!(in alloc; r#"{{"replies":[true],"document":{line}}}"#)?;
+    let record = format!(in alloc; r#"{{"replies":[true],"document":{line}}}"#).expect(
+        &rt, "memory",
+    );
     let script = r#"[["reload_pp"]]"#;
     let row = Row {
         depth: LIMIT + 1,
         ..Row::new(script, &line, &record)
     };
-    row.check(&rt, alloc, &FORMS)?;
-    Ok(())
+    row.check(&rt, alloc, &FORMS);
 }
 
 fn put_item(text: &mut String, item: &str) -> Result<(), AllocError> {
@@ -99,109 +92,114 @@ fn put_item(text: &mut String, item: &str) -> Result<(), AllocError> {
 }
 
 // Appends an item that is printed.
-fn put_value(alloc: Global, text: &mut String, item: &OwnedValue) -> Result<(), Fail> {
+fn put_value(rt: &impl Abort, alloc: Global, text: &mut String, item: &OwnedValue) {
     let mut shown = Vec::new(alloc);
-    item.encode(&mut shown)?;
-    put_item(text, str::from_utf8(&shown).ok().ok_or("no text")?)?;
-    Ok(())
+    item.encode(&mut shown).expect(rt, "memory");
+    let shown = str::from_utf8(&shown).expect(rt, "a text");
+    put_item(text, shown).expect(rt, "memory");
 }
 
 // Appends the items, and one more at this place.
 fn put_items(
+    rt: &impl Abort,
     alloc: Global,
     text: &mut String,
     array: &OwnedValue,
     place: usize,
     item: &str,
-) -> Result<(), Fail> {
-    let mut is_put = false;
-    for (at, other) in array.as_array().ok_or("no array")?.iter().enumerate() {
+) {
+    let items = array.as_array().expect(rt, "an array");
+    for (at, other) in items.iter().enumerate() {
         if at == place {
-            put_item(text, item)?;
-            is_put = true;
+            put_item(text, item).expect(rt, "memory");
         }
-        put_value(alloc, text, other)?;
+        put_value(rt, alloc, text, other);
     }
-    if !is_put {
-        put_item(text, item)?;
+    if place >= items.len() {
+        put_item(text, item).expect(rt, "memory");
     }
-    Ok(())
 }
 
 // The text of an array with one more item, at this place.
-fn with_item(alloc: Global, array: &OwnedValue, place: usize, item: &str) -> Result<String, Fail> {
-    let mut text = String::from_str(alloc, "[")?;
-    put_items(alloc, &mut text, array, place, item)?;
-    text.push(']')?;
-    Ok(text)
+fn with_item(
+    rt: &impl Abort,
+    alloc: Global,
+    array: &OwnedValue,
+    place: usize,
+    item: &str,
+) -> String {
+    let mut text = String::from_str(alloc, "[").expect(rt, "memory");
+    put_items(rt, alloc, &mut text, array, place, item);
+    text.push(']').expect(rt, "memory");
+    text
 }
 
-fn read(alloc: Global, text: &str) -> Result<OwnedValue, Fail> {
-    let mut bytes = text.as_bytes().to_vec(alloc)?;
-    Ok(to_owned_value(alloc, &mut bytes)?)
+fn read(rt: &impl Abort, alloc: Global, text: &str) -> OwnedValue {
+    let mut bytes = text.as_bytes().to_vec(alloc).expect(rt, "memory");
+    to_owned_value(alloc, &mut bytes).expect(rt, "a document")
 }
 
 // The record with the reply of a reload at this place.
-fn with_reply(alloc: Global, record: &str, place: usize) -> Result<String, Fail> {
-    let (front, document) = record.split_once(r#","document":"#).ok_or("no document")?;
-    let replies = front.strip_prefix(r#"{"replies":"#).ok_or("no replies")?;
-    let replies = with_item(alloc, &read(alloc, replies)?, place, "true")?;
-    Ok(format!(in alloc; r#"{{"replies":{replies},"document":{document}"#)?)
+fn with_reply(rt: &impl Abort, alloc: Global, record: &str, place: usize) -> String {
+    let parts = record.split_once(r#","document":"#);
+    let (front, document) = parts.expect(rt, "a document");
+    let replies = front.strip_prefix(r#"{"replies":"#);
+    let replies = read(rt, alloc, replies.expect(rt, "replies"));
+    let replies = with_item(rt, alloc, &replies, place, "true");
+    format!(in alloc; r#"{{"replies":{replies},"document":{document}"#).expect(rt, "memory")
 }
 
-fn len(array: &OwnedValue) -> Result<usize, Fail> {
-    Ok(array.as_array().ok_or("no array")?.len())
+fn len(rt: &impl Abort, array: &OwnedValue) -> usize {
+    array.as_array().expect(rt, "an array").len()
 }
 
 impl Row<'_> {
     // Looks for the record with a reload of each kind at each place of the script.
-    pub(super) fn check_reloads(
-        self,
-        rt: &impl Abort,
-        alloc: Global,
-        forms: &[Form],
-    ) -> Result<(), Fail> {
-        let commands = read(alloc, self.script)?;
-        for reload in RELOADS {
-            for place in 0..=len(&commands)? {
-                let script = with_item(alloc, &commands, place, reload)?;
-                let record = with_reply(alloc, self.record, place)?;
+    pub(super) fn check_reloads(self, rt: &impl Abort, alloc: Global, forms: &[Form]) {
+        let commands = read(rt, alloc, self.script);
+        for reload in &RELOADS {
+            for place in 0..=len(rt, &commands) {
+                let script = with_item(rt, alloc, &commands, place, reload);
+                let record = with_reply(rt, alloc, self.record, place);
                 let row = Row {
                     script: &script,
                     record: &record,
                     ..self
                 };
-                row.check(rt, alloc, forms)?;
+                row.check(rt, alloc, forms);
             }
         }
-        Ok(())
+    }
+
+    // The same, and without a reload.
+    pub(super) fn check_with_reloads(self, rt: &impl Abort, alloc: Global, forms: &[Form]) {
+        self.check(rt, alloc, forms);
+        self.check_reloads(rt, alloc, forms);
     }
 }
 
 #[test]
-fn reloads_change_nothing(rt: HostRuntime) -> Result<(), Fail> {
+fn reloads_change_nothing(rt: HostRuntime) {
     for (script, line, record) in &WORKED {
-        Row::new(script, line, record).check_reloads(&rt, rt.alloc(), &FORMS)?;
+        Row::new(script, line, record).check_reloads(&rt, rt.alloc(), &FORMS);
     }
     for (script, line, depth, record) in &LIMITS {
         let row = Row {
             depth: *depth,
             ..Row::new(script, line, record)
         };
-        row.check_reloads(&rt, rt.alloc(), &FORMS)?;
+        row.check_reloads(&rt, rt.alloc(), &FORMS);
     }
-    Ok(())
 }
 
 // Where a key stands twice, in each form.
 #[test]
-fn reloads_keep_repeats(rt: HostRuntime) -> Result<(), Fail> {
+fn reloads_keep_repeats(rt: HostRuntime) {
     for (script, line, kept, lazy) in &REPEATED_KEYS {
-        for (form, record) in by_form(kept, lazy) {
-            Row::new(script, line, record).check_reloads(&rt, rt.alloc(), &[form])?;
+        for (form, record) in &by_form(kept, lazy) {
+            Row::new(script, line, record).check_reloads(&rt, rt.alloc(), &[*form]);
         }
     }
-    Ok(())
 }
 
 // Neither the texts of earlier lines nor faulty lines show in later records.
@@ -222,7 +220,5 @@ fn reloads_of_lines(rt: HostRuntime) {
 {"replies":[true,"NotAnArray",true,true,"NotAnArray"],"document":{"a":1}}
 "#;
     let run = Run::new(script, stream.as_bytes());
-    for step in [1, 65536] {
-        Run { step, ..run }.expect(&rt, rt.alloc(), &FORMS, records);
-    }
+    run.expect_by(&rt, rt.alloc(), &[1, 65536], &FORMS, records);
 }

@@ -1,8 +1,7 @@
 //! Lines that repeat a key, where that is refused.
 use super::runs::Run;
-use super::{FORMS, split_row};
+use super::{FORMS, add_line, split_row};
 use sj_records::Repeats;
-use std::test::Fail;
 
 // Each line, and its record under a script without commands.
 const ROWS: &str = r#"{"a":{"x":1,"x":2},"a":3} => {"error":"RepeatedKey","path":["a"],"key":"x"}
@@ -17,23 +16,20 @@ const ROWS: &str = r#"{"a":{"x":1,"x":2},"a":3} => {"error":"RepeatedKey","path"
 
 // One after the other, so that a refused line leaves no trace in the next.
 #[test]
-fn refused_lines(rt: HostRuntime) -> Result<(), Fail> {
+fn refused_lines(rt: HostRuntime) {
     let alloc = rt.alloc();
     let mut stream = String::new(alloc);
     let mut records = String::new(alloc);
     for row in ROWS.lines() {
-        let (line, record) = split_row(row)?;
-        stream.push_str(line)?;
-        stream.push('\n')?;
-        records.push_str(record)?;
-        records.push('\n')?;
+        let (line, record) = split_row(&rt, row);
+        add_line(&rt, &mut stream, line);
+        add_line(&rt, &mut records, record);
     }
     let run = Run {
         repeats: Repeats::Refuse,
         ..Run::new("[]", stream.as_bytes())
     };
     run.expect(&rt, alloc, &FORMS, &records);
-    Ok(())
 }
 
 // A script doesn't run on a refused line. Of a value that it writes the first of repeated keys is kept.

@@ -1,8 +1,7 @@
 //! Worked lines, each with its record under the empty script and under a reload.
-use super::{LIMIT, MOST_SPACES, Stream, split_row};
+use super::{LIMIT, MOST_SPACES, Stream, record_of, split_row};
 use std::alloc::Global;
 use std::process::Abort;
-use std::test::Fail;
 
 // Each row is a line and its record.
 pub(super) const ROWS: &str = r#"
@@ -48,94 +47,83 @@ struct Streams {
 }
 
 // Looks for the record of a line by itself, and adds both to the streams.
-fn check_row(
-    rt: &impl Abort,
-    alloc: Global,
-    streams: &mut Streams,
-    line: &[u8],
-    record: &str,
-) -> Result<(), Fail> {
+fn check_row(rt: &impl Abort, alloc: Global, streams: &mut Streams, line: &[u8], record: &str) {
     let mut one = Stream::new(alloc);
-    one.add(0, line, record)?;
-    for step in [1, 63, 65536] {
-        one.check(rt, alloc, LIMIT, step);
+    one.add(rt, 0, line, record);
+    for step in &[1, 63, 65536] {
+        one.check(rt, alloc, LIMIT, *step);
     }
-    streams.all.add(0, line, record)?;
-    streams.reversed.put_first(alloc, line, record)?;
-    Ok(())
+    streams.all.add(rt, 0, line, record);
+    streams.reversed.put_first(rt, alloc, line, record);
 }
 
 // Looks for the records of each line by itself.
-fn check_rows(rt: &impl Abort, alloc: Global) -> Result<Streams, Fail> {
+fn check_rows(rt: &impl Abort, alloc: Global) -> Streams {
     let mut streams = Streams {
         all: Stream::new(alloc),
         reversed: Stream::new(alloc),
     };
     for row in ROWS.lines().skip(1) {
-        let (line, record) = split_row(row)?;
-        check_row(rt, alloc, &mut streams, line.as_bytes(), record)?;
+        let (line, record) = split_row(rt, row);
+        check_row(rt, alloc, &mut streams, line.as_bytes(), record);
     }
-    for line in ACROSS_BLOCKS {
-        let record = format!(in alloc; r#"{{"replies":[],"document":{line}}}"#)?;
-        check_row(rt, alloc, &mut streams, line.as_bytes(), &record)?;
+    for line in &ACROSS_BLOCKS {
+        let record = record_of(rt, alloc, line);
+        check_row(rt, alloc, &mut streams, line.as_bytes(), &record);
     }
     let not_utf8 = r#"{"error":"InvalidUtf8","index":0,"character":null}"#;
-    check_row(rt, alloc, &mut streams, b"\"\xff", not_utf8)?;
-    Ok(streams)
+    check_row(rt, alloc, &mut streams, b"\"\xff", not_utf8);
+    streams
 }
 
 // Each line by itself, and all in one stream, in order and in reverse order.
 #[test]
-fn of_worked_lines(rt: HostRuntime) -> Result<(), Fail> {
-    let streams = check_rows(&rt, rt.alloc())?;
-    for step in [1, 63, 65536] {
-        streams.all.check(&rt, rt.alloc(), LIMIT, step);
-        streams.reversed.check(&rt, rt.alloc(), LIMIT, step);
+fn of_worked_lines(rt: HostRuntime) {
+    let streams = check_rows(&rt, rt.alloc());
+    for step in &[1, 63, 65536] {
+        streams.all.check(&rt, rt.alloc(), LIMIT, *step);
+        streams.reversed.check(&rt, rt.alloc(), LIMIT, *step);
     }
     streams.all.check_reloads(&rt, rt.alloc(), LIMIT);
-    Ok(())
 }
 
 // Adds a line behind each number of spaces up to 130, with the same record.
-fn add_behind_spaces(lines: &mut Stream, line: &[u8], record: &str) -> Result<(), Fail> {
+fn add_behind_spaces(rt: &impl Abort, lines: &mut Stream, line: &[u8], record: &str) {
     for spaces in 1..=MOST_SPACES {
-        lines.add(spaces, line, record)?;
+        lines.add(rt, spaces, line, record);
     }
-    Ok(())
 }
 
 // Those lines that are documents.
 #[test]
-fn of_documents_behind_spaces(rt: HostRuntime) -> Result<(), Fail> {
+fn of_documents_behind_spaces(rt: HostRuntime) {
     let alloc = rt.alloc();
     let mut lines = Stream::new(alloc);
     for row in ROWS.lines().skip(1) {
-        let (line, record) = split_row(row)?;
+        let (line, record) = split_row(&rt, row);
         if record.starts_with(r#"{"replies""#) {
-            add_behind_spaces(&mut lines, line.as_bytes(), record)?;
+            add_behind_spaces(&rt, &mut lines, line.as_bytes(), record);
         }
     }
-    for line in ACROSS_BLOCKS {
-        let record = format!(in alloc; r#"{{"replies":[],"document":{line}}}"#)?;
-        add_behind_spaces(&mut lines, line.as_bytes(), &record)?;
+    for line in &ACROSS_BLOCKS {
+        let record = record_of(&rt, alloc, line);
+        add_behind_spaces(&rt, &mut lines, line.as_bytes(), &record);
     }
     lines.check(&rt, alloc, LIMIT, 65536);
-    Ok(())
 }
 
 // Under limits of few levels.
 #[test]
-fn of_limits(rt: HostRuntime) -> Result<(), Fail> {
-    for (depth, line, record) in [
+fn of_limits(rt: HostRuntime) {
+    for (depth, line, record) in &[
         (0, "[]", r#"{"error":"Syntax","index":0,"character":"["}"#),
         (0, "7", r#"{"replies":[],"document":7}"#),
         (1, "[[]]", r#"{"error":"Syntax","index":1,"character":"["}"#),
         (2, "[[]]", r#"{"replies":[],"document":[[]]}"#),
     ] {
         let mut lines = Stream::new(rt.alloc());
-        lines.add(0, line.as_bytes(), record)?;
-        lines.check(&rt, rt.alloc(), depth, 65536);
-        lines.check_reloads(&rt, rt.alloc(), depth);
+        lines.add(&rt, 0, line.as_bytes(), record);
+        lines.check(&rt, rt.alloc(), *depth, 65536);
+        lines.check_reloads(&rt, rt.alloc(), *depth);
     }
-    Ok(())
 }

@@ -1,9 +1,9 @@
 //! Runs of a script on a stream or on one line, and what they are to write.
 
 use super::readers::{Pieces, run_by};
-use super::{LIMIT, script_of};
+use super::{LIMIT, expect_eq, script_of};
 use sj_records::{Form, Repeats};
-use std::alloc::{AllocError, Global};
+use std::alloc::Global;
 use std::process::Abort;
 
 // A script, a stream that comes in pieces of `step` bytes, the limit of levels, and the rule for repeated keys.
@@ -42,7 +42,7 @@ impl<'a> Run<'a> {
             form,
             self.repeats,
         );
-        assert_eq!(rt; ended, Ok(()));
+        expect_eq(rt, ended, Ok(()));
         output
     }
 
@@ -53,6 +53,24 @@ impl<'a> Run<'a> {
             let output = self.output(rt, alloc, *form);
             let written = std::str::from_utf8(&output);
             assert_eq!(rt; written, Ok(records), "by {step} in {form:?}");
+        }
+    }
+
+    // The same where the stream comes in pieces of each of these lengths.
+    pub(super) fn expect_by(
+        self,
+        rt: &impl Abort,
+        alloc: Global,
+        steps: &[usize],
+        forms: &[Form],
+        records: &str,
+    ) {
+        for step in steps {
+            Run {
+                step: *step,
+                ..self
+            }
+            .expect(rt, alloc, forms, records);
         }
     }
 }
@@ -78,21 +96,13 @@ impl<'a> Row<'a> {
     }
 
     // Looks for the record in each of these forms, by readers that give few bytes a read and many.
-    pub(super) fn check(
-        self,
-        rt: &impl Abort,
-        alloc: Global,
-        forms: &[Form],
-    ) -> Result<(), AllocError> {
-        let stream = format!(in alloc; "{}\n", self.line)?;
-        let records = format!(in alloc; "{}\n", self.record)?;
+    pub(super) fn check(self, rt: &impl Abort, alloc: Global, forms: &[Form]) {
+        let stream = format!(in alloc; "{}\n", self.line).expect(rt, "memory");
+        let records = format!(in alloc; "{}\n", self.record).expect(rt, "memory");
         let run = Run {
             depth: self.depth,
             ..Run::new(self.script, stream.as_bytes())
         };
-        for step in [1, 2, 63, 65536] {
-            Run { step, ..run }.expect(rt, alloc, forms, &records);
-        }
-        Ok(())
+        run.expect_by(rt, alloc, &[1, 2, 63, 65536], forms, &records);
     }
 }

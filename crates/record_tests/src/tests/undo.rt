@@ -2,11 +2,10 @@
 use super::FORMS;
 use super::runs::{Row, Run};
 use sj_records::Form;
-use std::test::Fail;
 
 #[test]
-fn worked_undo(rt: HostRuntime) -> Result<(), Fail> {
-    for (script, line, record) in [
+fn worked_undo(rt: HostRuntime) {
+    for (script, line, record) in &[
         (
             r#"[["remove",[],"a"],["reload"],["insert",[],"c",3],["undo"],["undo"],["undo"]]"#,
             r#"{"a":1,"b":2}"#,
@@ -34,17 +33,14 @@ fn worked_undo(rt: HostRuntime) -> Result<(), Fail> {
             r#"{"replies":[["x"],[],[1],true,true,true],"document":"x"}"#,
         ),
     ] {
-        let row = Row::new(script, line, record);
-        row.check(&rt, rt.alloc(), &FORMS)?;
-        row.check_reloads(&rt, rt.alloc(), &FORMS)?;
+        Row::new(script, line, record).check_with_reloads(&rt, rt.alloc(), &FORMS);
     }
-    Ok(())
 }
 
 // A write that found nothing can be taken back, and one that was refused can't.
 #[test]
-fn undone_without_change(rt: HostRuntime) -> Result<(), Fail> {
-    for (script, line, record) in [
+fn undone_without_change(rt: HostRuntime) {
+    for (script, line, record) in &[
         (
             r#"[["remove",[],"z"],["pop",["a"]],["undo"],["undo"],["undo"]]"#,
             r#"{"a":[]}"#,
@@ -56,17 +52,14 @@ fn undone_without_change(rt: HostRuntime) -> Result<(), Fail> {
             r#"{"replies":[[],"NotAnArray","NoSuchPath","NotAnObject",true,false],"document":{"a":[]}}"#,
         ),
     ] {
-        let row = Row::new(script, line, record);
-        row.check(&rt, rt.alloc(), &FORMS)?;
-        row.check_reloads(&rt, rt.alloc(), &FORMS)?;
+        Row::new(script, line, record).check_with_reloads(&rt, rt.alloc(), &FORMS);
     }
-    Ok(())
 }
 
 // A document of the form `Lazy` drops repeated keys at its first write, and keeps none of them when that is taken back.
 #[test]
-fn undone_repeats(rt: HostRuntime) -> Result<(), Fail> {
-    for (form, record) in [
+fn undone_repeats(rt: HostRuntime) {
+    for (form, record) in &[
         (
             Form::Owned,
             r#"{"replies":[false,1,[1],true],"document":{"a":1}}"#,
@@ -82,14 +75,13 @@ fn undone_repeats(rt: HostRuntime) -> Result<(), Fail> {
     ] {
         let script = r#"[["undo"],["len",[]],["remove",[],"a"],["undo"]]"#;
         let line = r#"{"a":1,"a":2}"#;
-        Row::new(script, line, record).check(&rt, rt.alloc(), &[form])?;
+        Row::new(script, line, record).check(&rt, rt.alloc(), &[*form]);
     }
-    Ok(())
 }
 
 // Thirteen commands, of which four are writes that aren't refused, and thirteen times `undo`.
 #[test]
-fn thirteen_undone(rt: HostRuntime) -> Result<(), Fail> {
+fn thirteen_undone(rt: HostRuntime) {
     let script = concat!(
         r#"[["contains",[],"b"],["contains",["a"],"b"],["type",["a",1]],["keys",[]],["keys",["a"]],["len",["b"]],"#,
         r#"["pop",["a"]],["remove",[],"b"],["remove",[],"b"],["set",["a",0],2.50],["type",["a",0]],["get",["z"]],"#,
@@ -102,8 +94,7 @@ fn thirteen_undone(rt: HostRuntime) -> Result<(), Fail> {
         r#""document":{"a":[1,"x"],"b":null}}"#
     );
     let line = r#"{"a":[1,"x"],"b":null}"#;
-    Row::new(script, line, record).check(&rt, rt.alloc(), &FORMS)?;
-    Ok(())
+    Row::new(script, line, record).check(&rt, rt.alloc(), &FORMS);
 }
 
 // No line takes back a write of the line before.

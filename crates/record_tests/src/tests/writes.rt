@@ -1,10 +1,10 @@
 //! Worked rows of scripts that read and write, in each form.
 use super::runs::Row;
-use super::{FORMS, LIMIT, script_of};
+use super::{FORMS, LIMIT, expect_eq, expect_that, script_of};
 use sj_owned::to_owned_value;
 use sj_records::{Command, Document, Form};
 use std::alloc::{AllocError, Global};
-use std::test::Fail;
+use std::process::Abort;
 
 // A script, a line and its record, the same in each form.
 pub(super) const WORKED: [(&str, &str, &str); 11] = [
@@ -62,11 +62,10 @@ pub(super) const WORKED: [(&str, &str, &str); 11] = [
 ];
 
 #[test]
-fn worked_scripts(rt: HostRuntime) -> Result<(), Fail> {
+fn worked_scripts(rt: HostRuntime) {
     for (script, line, record) in &WORKED {
-        Row::new(script, line, record).check(&rt, rt.alloc(), &FORMS)?;
+        Row::new(script, line, record).check(&rt, rt.alloc(), &FORMS);
     }
-    Ok(())
 }
 
 // A script, a line in which a key stands twice, its record where only the first member is kept, and that of the form `Lazy`.
@@ -119,13 +118,12 @@ pub(super) fn by_form<'a>(kept: &'a str, lazy: &'a str) -> [(Form, &'a str); 3] 
 }
 
 #[test]
-fn repeated_keys(rt: HostRuntime) -> Result<(), Fail> {
+fn repeated_keys(rt: HostRuntime) {
     for (script, line, kept, lazy) in &REPEATED_KEYS {
-        for (form, record) in by_form(kept, lazy) {
-            Row::new(script, line, record).check(&rt, rt.alloc(), &[form])?;
+        for (form, record) in &by_form(kept, lazy) {
+            Row::new(script, line, record).check(&rt, rt.alloc(), &[*form]);
         }
     }
-    Ok(())
 }
 
 // A script, a line, a limit of levels and the record. Path, kind and depth are tested in this order, and the value's levels
@@ -158,15 +156,14 @@ pub(super) const LIMITS: [(&str, &str, usize, &str); 4] = [
 ];
 
 #[test]
-fn depth_limits(rt: HostRuntime) -> Result<(), Fail> {
+fn depth_limits(rt: HostRuntime) {
     for (script, line, depth, record) in &LIMITS {
         let row = Row {
             depth: *depth,
             ..Row::new(script, line, record)
         };
-        row.check(&rt, rt.alloc(), &FORMS)?;
+        row.check(&rt, rt.alloc(), &FORMS);
     }
-    Ok(())
 }
 
 // Appends a member whose key has six blocks, one for each binary digit of `number`, highest first.
@@ -194,64 +191,73 @@ pub(super) fn forty(alloc: Global, first: u8) -> Result<String, AllocError> {
 }
 
 #[test]
-fn forty_equal_hashes(rt: HostRuntime) -> Result<(), Fail> {
+fn forty_equal_hashes(rt: HostRuntime) {
     let alloc = rt.alloc();
-    let line = forty(alloc, 0)?;
-    let left = forty(alloc, 1)?;
-    let record = format!(in alloc; r#"{{"replies":[[39],[0],39],"document":{left}}}"#)?;
+    let line = forty(alloc, 0).expect(&rt, "memory");
+    let left = forty(alloc, 1).expect(&rt, "memory");
+    let record = format!(in alloc; r#"{{"replies":[[39],[0],39],"document":{left}}}"#).expect(
+        &rt, "memory",
+    );
     let script = r#"[["get",["BBAaAaBBBBBB"]],["remove",[],"AaAaAaAaAaAa"],["len",[]]]"#;
-    let row = Row::new(script, &line, &record);
-    row.check(&rt, alloc, &FORMS)?;
-    row.check_reloads(&rt, alloc, &FORMS)
+    Row::new(script, &line, &record).check_with_reloads(&rt, alloc, &FORMS);
 }
 
 // The first of them is taken out, and comes back to its place.
 #[test]
-fn forty_equal_hashes_undone(rt: HostRuntime) -> Result<(), Fail> {
+fn forty_equal_hashes_undone(rt: HostRuntime) {
     let alloc = rt.alloc();
-    let line = forty(alloc, 0)?;
-    let record = format!(in alloc; r#"{{"replies":[[0],true,[0],[39]],"document":{line}}}"#)?;
+    let line = forty(alloc, 0).expect(&rt, "memory");
+    let record = format!(in alloc; r#"{{"replies":[[0],true,[0],[39]],"document":{line}}}"#).expect(
+        &rt, "memory",
+    );
     let script =
         r#"[["remove",[],"AaAaAaAaAaAa"],["undo"],["get",["AaAaAaAaAaAa"]],["get",["BBAaAaBBBBBB"]]]"#;
-    Row::new(script, &line, &record).check(&rt, alloc, &FORMS)?;
-    Ok(())
+    Row::new(script, &line, &record).check(&rt, alloc, &FORMS);
 }
 
-// All members a second time, with other values.
-#[test]
-fn forty_equal_hashes_twice(rt: HostRuntime) -> Result<(), Fail> {
-    let alloc = rt.alloc();
-    let once = forty(alloc, 0)?;
-    let mut line = String::from_str(alloc, once.strip_suffix('}').ok_or("no object")?)?;
+// The object with all its members a second time, with other values.
+fn doubled(rt: &impl Abort, alloc: Global, object: &str) -> String {
+    let members = object.strip_suffix('}').expect(rt, "an object");
+    let mut line = String::from_str(alloc, members).expect(rt, "memory");
     for number in 0..40u8 {
-        line.push(',')?;
-        put_member(alloc, &mut line, number, number + 100)?;
+        line.push(',').expect(rt, "memory");
+        put_member(alloc, &mut line, number, number + 100).expect(rt, "memory");
     }
-    line.push('}')?;
+    line.push('}').expect(rt, "memory");
+    line
+}
+
+#[test]
+fn forty_equal_hashes_twice(rt: HostRuntime) {
+    let alloc = rt.alloc();
+    let once = forty(alloc, 0).expect(&rt, "memory");
+    let line = doubled(&rt, alloc, &once);
     let script = r#"[["len",[]],["get",["AaAaAaAaAaAa"]]]"#;
-    let kept = format!(in alloc; r#"{{"replies":[40,[0]],"document":{once}}}"#)?;
-    Row::new(script, &line, &kept).check(&rt, alloc, &[Form::Owned, Form::Borrowed])?;
-    let whole = format!(in alloc; r#"{{"replies":[80,[0]],"document":{line}}}"#)?;
-    Row::new(script, &line, &whole).check(&rt, alloc, &[Form::Lazy])?;
-    Ok(())
+    let kept = format!(in alloc; r#"{{"replies":[40,[0]],"document":{once}}}"#).expect(
+        &rt, "memory",
+    );
+    Row::new(script, &line, &kept).check(&rt, alloc, &[Form::Owned, Form::Borrowed]);
+    let whole = format!(in alloc; r#"{{"replies":[80,[0]],"document":{line}}}"#).expect(
+        &rt, "memory",
+    );
+    Row::new(script, &line, &whole).check(&rt, alloc, &[Form::Lazy]);
 }
 
 // A write call on a document appends its reply and hands out an inverse.
 #[test]
-fn write_call(rt: HostRuntime) -> Result<(), Fail> {
+fn write_call(rt: HostRuntime) {
     let alloc = rt.alloc();
-    let script = script_of(alloc, r#"[["insert",["a"],"k",["new"]]]"#)
-        .ok()
-        .ok_or("no script")?;
+    let script = script_of(alloc, r#"[["insert",["a"],"k",["new"]]]"#).expect(&rt, "a script");
     assert_eq!(rt; script.len(), 1);
     let Command::Insert(path, key, value) = script.command(0) else {
-        return Err(Fail::new("another command"));
+        panic!(rt; "another command");
     };
     let mut text = *br#"{"a":{"k":"old"}}"#;
-    let mut document = to_owned_value(alloc, &mut text)?;
-    let mut out = b"> ".to_vec(alloc)?;
-    let inverse = Document::insert(&mut document, path, key, value, LIMIT, &mut out)?;
-    assert!(rt; inverse.is_some());
-    assert_eq!(rt; out.as_slice(), br#"> ["old"]"#.as_slice());
-    Ok(())
+    let mut document = to_owned_value(alloc, &mut text).expect(&rt, "a document");
+    let mut out = b"> ".to_vec(alloc).expect(&rt, "memory");
+    let inverse = Document::insert(&mut document, path, key, value, LIMIT, &mut out).expect(
+        &rt, "memory",
+    );
+    expect_that(&rt, "an inverse", inverse.is_some());
+    expect_eq(&rt, out.as_slice(), br#"> ["old"]"#.as_slice());
 }
