@@ -7,10 +7,10 @@ use records_program::program::program;
 use records_program::{LoadFault, read_rest};
 use sj_base::Counted;
 use std::alloc::Global;
+use std::fmt::Debug;
 use std::io;
 use std::io::{ErrorKind, Read, Write};
 use std::process::Abort;
-use std::test::Fail;
 
 const HELP: &str = "\
 Runs a script on each JSON line of standard input, and writes a record for it
@@ -168,6 +168,16 @@ impl<'a> Given<'a> {
     }
 }
 
+// Fails unless both are equal. It is proved once, and an `assert_eq!` with all that its test holds.
+fn expect_eq<T: PartialEq + Debug + Drop>(rt: &impl Abort, found: T, expected: T) {
+    assert_eq!(rt; found, expected);
+}
+
+// Fails, and says what was wanted, unless it holds.
+fn expect_that(rt: &impl Abort, wanted: &str, holds: bool) {
+    assert!(rt; holds, "{wanted}");
+}
+
 const RUN: &[&str] = &["records", "get.json"];
 
 // The status of the program, and what it writes to `faults`.
@@ -194,9 +204,34 @@ fn expect<I: Read + Drop>(
 ) {
     let (status, written, line) = want;
     let (found, faults) = run_program(alloc, given, input, output);
-    assert_eq!(rt; found, status);
-    assert_eq!(rt; output.taken.as_slice(), written);
-    assert_eq!(rt; faults.as_slice(), line.as_bytes());
+    expect_eq(rt, found, status);
+    expect_eq(rt, output.taken.as_slice(), written);
+    expect_eq(rt, faults.as_slice(), line.as_bytes());
+}
+
+// The same where the input is these bytes, and the output takes all.
+fn expect_of(
+    rt: &impl Abort,
+    alloc: Global,
+    given: Given<'_>,
+    input: &[u8],
+    want: (u8, &str, &str),
+) {
+    let (status, written, line) = want;
+    let mut output = Narrow::new(alloc, usize::MAX, false);
+    let want = (status, written.as_bytes(), line);
+    expect(rt, alloc, given, input, &mut output, want);
+}
+
+// Looks for a line of an error, whatever it says.
+fn expect_error(rt: &impl Abort, alloc: Global, words: &[&str]) {
+    let mut output = Narrow::new(alloc, usize::MAX, false);
+    let input: &[u8] = b"";
+    let (status, faults) = run_program(alloc, Given::new(words), input, &mut output);
+    expect_eq(rt, status, 2);
+    expect_that(rt, "an error", faults.starts_with(b"error: "));
+    expect_that(rt, "whole lines", faults.ends_with(b"\n"));
+    expect_that(rt, "no output", output.taken.is_empty());
 }
 
 #[test]
@@ -208,13 +243,7 @@ fn refuses_arguments(rt: HostRuntime) {
         &["records", "--version"],
     ];
     for words in &words {
-        let mut output = Narrow::new(rt.alloc(), usize::MAX, false);
-        let input: &[u8] = b"";
-        let (status, faults) = run_program(rt.alloc(), Given::new(words), input, &mut output);
-        assert_eq!(rt; status, 2);
-        assert!(rt; faults.starts_with(b"error: "));
-        assert!(rt; faults.ends_with(b"\n"));
-        assert!(rt; output.taken.is_empty());
+        expect_error(&rt, rt.alloc(), words);
     }
     let texts: [(&[&str], &str); 5] = [
         (&["records"], NO_SCRIPT),
@@ -224,57 +253,74 @@ fn refuses_arguments(rt: HostRuntime) {
         (&["records", "--depth", "1025", "a.json"], TOO_DEEP),
     ];
     for (words, text) in &texts {
-        let mut output = Narrow::new(rt.alloc(), usize::MAX, false);
-        let given = Given::new(words);
-        let input: &[u8] = b"";
-        let want = (2, b"".as_slice(), *text);
-        expect(&rt, rt.alloc(), given, input, &mut output, want);
+        expect_of(&rt, rt.alloc(), Given::new(words), b"", (2, "", *text));
     }
+}
+
+// Looks for the help, with the script and the input left alone.
+fn expect_help(rt: &impl Abort, alloc: Global, words: &[&str]) {
+    let mut input = Failing {
+        bytes: LINE.as_bytes(),
+        kind: Some(ErrorKind::Other),
+        is_slow: false,
+    };
+    let mut output = Narrow::new(alloc, usize::MAX, false);
+    let given = Given {
+        words,
+        script: Err(LoadFault::Memory),
+    };
+    let want = (0, HELP.as_bytes(), "");
+    expect(rt, alloc, given, &mut input, &mut output, want);
+    expect_eq(rt, input.bytes.len(), LINE.len());
+    expect_that(rt, "a flush", output.is_flushed);
 }
 
 #[test]
 fn helps(rt: HostRuntime) {
-    for words in [
+    for words in &[
         ["records", "--help"],
         ["records", "-h"],
         ["out/records_cli", "--help"],
     ] {
-        let mut input = Failing {
-            bytes: LINE.as_bytes(),
-            kind: Some(ErrorKind::Other),
-            is_slow: false,
-        };
-        let mut output = Narrow::new(rt.alloc(), usize::MAX, false);
-        let given = Given {
-            words: &words,
-            script: Err(LoadFault::Memory),
-        };
-        expect(
-            &rt,
-            rt.alloc(),
-            given,
-            &mut input,
-            &mut output,
-            (0, HELP.as_bytes(), ""),
-        );
-        assert_eq!(rt; (input.bytes.len(), output.is_flushed), (LINE.len(), true));
+        expect_help(&rt, rt.alloc(), words);
     }
+}
+
+// Looks for the first bytes of a text, in an output that fails behind them.
+fn expect_write_fault(
+    rt: &impl Abort,
+    alloc: Global,
+    given: Given<'_>,
+    input: &[u8],
+    output: &mut Narrow,
+    text: &str,
+) {
+    let written = text
+        .as_bytes()
+        .get(..output.room)
+        .expect(rt, "no more room");
+    expect(
+        rt,
+        alloc,
+        given,
+        input,
+        output,
+        (1, written, "records: write\n"),
+    );
 }
 
 #[test]
 fn help_cannot_be_written(rt: HostRuntime) {
-    for (room, is_stuck) in [(5, false), (HELP.len(), true)] {
-        let mut output = Narrow::new(rt.alloc(), room, is_stuck);
+    for (room, is_stuck) in &[(5, false), (HELP.len(), true)] {
+        let mut output = Narrow::new(rt.alloc(), *room, *is_stuck);
         let given = Given::new(&["records", "--help"]);
-        let input: &[u8] = b"";
-        let want = (1, &HELP.as_bytes()[..room], "records: write\n");
-        expect(&rt, rt.alloc(), given, input, &mut output, want);
+        expect_write_fault(&rt, rt.alloc(), given, b"", &mut output, HELP);
     }
 }
 
 #[test]
 fn refuses_scripts(rt: HostRuntime) {
-    for (script, status, line) in [
+    for (script, status, line) in &[
         (Err(LoadFault::Memory), 1, "records: memory\n"),
         (
             Err(LoadFault::Unreadable),
@@ -299,96 +345,107 @@ fn refuses_scripts(rt: HostRuntime) {
             "records: script: InvalidNumber at 9\n",
         ),
     ] {
-        let mut output = Narrow::new(rt.alloc(), usize::MAX, false);
-        let given = Given { words: RUN, script };
-        expect(
+        let given = Given {
+            words: RUN,
+            script: *script,
+        };
+        expect_of(
             &rt,
             rt.alloc(),
             given,
             LINE.as_bytes(),
-            &mut output,
-            (status, b"", line),
+            (*status, "", *line),
         );
     }
 }
 
-#[test]
-fn writes_records(rt: HostRuntime) -> Result<(), Fail> {
-    let alloc = rt.alloc();
-    let lines = format!(in alloc; "{LINE}{LINE}")?;
-    let records = format!(in alloc; "{RECORD}{RECORD}")?;
-    for (input, written) in [("", ""), (LINE, RECORD), (lines.as_str(), records.as_str())] {
-        let mut output = Narrow::new(alloc, usize::MAX, false);
-        expect(
-            &rt,
-            alloc,
-            Given::new(RUN),
-            input.as_bytes(),
-            &mut output,
-            (0, written.as_bytes(), ""),
-        );
-        assert!(rt; output.is_flushed);
-    }
-    Ok(())
+// Looks for the records of lines, and for the flush behind them.
+fn expect_flushed(rt: &impl Abort, alloc: Global, lines: &str, records: &str) {
+    let mut output = Narrow::new(alloc, usize::MAX, false);
+    let want = (0, records.as_bytes(), "");
+    expect(
+        rt,
+        alloc,
+        Given::new(RUN),
+        lines.as_bytes(),
+        &mut output,
+        want,
+    );
+    expect_that(rt, "a flush", output.is_flushed);
 }
 
 #[test]
-fn input_fails_in_mid_stream(rt: HostRuntime) -> Result<(), Fail> {
+fn writes_records(rt: HostRuntime) {
     let alloc = rt.alloc();
-    let bytes = format!(in alloc; "{LINE}[1")?;
-    for (is_slow, is_stuck) in [(false, false), (true, false), (false, true)] {
-        let input = Failing {
-            bytes: bytes.as_bytes(),
-            kind: Some(ErrorKind::Other),
-            is_slow,
-        };
-        let mut output = Narrow::new(alloc, usize::MAX, is_stuck);
-        expect(
-            &rt,
-            alloc,
-            Given::new(RUN),
-            input,
-            &mut output,
-            (1, RECORD.as_bytes(), "records: read\n"),
-        );
-        assert!(rt; output.is_flushed == !is_stuck);
+    let lines = format!(in alloc; "{LINE}{LINE}").expect(&rt, "memory");
+    let records = format!(in alloc; "{RECORD}{RECORD}").expect(&rt, "memory");
+    expect_flushed(&rt, alloc, "", "");
+    expect_flushed(&rt, alloc, LINE, RECORD);
+    expect_flushed(&rt, alloc, &lines, &records);
+}
+
+// Looks for the records before an input's failure, which are flushed where they can be.
+fn expect_read_fault(rt: &impl Abort, alloc: Global, bytes: &[u8], is_slow: bool, is_stuck: bool) {
+    let input = Failing {
+        bytes,
+        kind: Some(ErrorKind::Other),
+        is_slow,
+    };
+    let mut output = Narrow::new(alloc, usize::MAX, is_stuck);
+    let want = (1, RECORD.as_bytes(), "records: read\n");
+    expect(rt, alloc, Given::new(RUN), input, &mut output, want);
+    expect_eq(rt, output.is_flushed, !is_stuck);
+}
+
+#[test]
+fn input_fails_in_mid_stream(rt: HostRuntime) {
+    let bytes = format!(in rt.alloc(); "{LINE}[1").expect(&rt, "memory");
+    for (is_slow, is_stuck) in &[(false, false), (true, false), (false, true)] {
+        expect_read_fault(&rt, rt.alloc(), bytes.as_bytes(), *is_slow, *is_stuck);
     }
-    Ok(())
 }
 
 #[test]
 fn output_fails(rt: HostRuntime) {
-    let alloc = rt.alloc();
     for room in 0..=RECORD.len() {
-        let mut output = Narrow::new(alloc, room, true);
-        let want = (1, &RECORD.as_bytes()[..room], "records: write\n");
-        expect(
-            &rt,
-            alloc,
-            Given::new(RUN),
-            LINE.as_bytes(),
-            &mut output,
-            want,
-        );
+        let mut output = Narrow::new(rt.alloc(), room, true);
+        let given = Given::new(RUN);
+        expect_write_fault(&rt, rt.alloc(), given, LINE.as_bytes(), &mut output, RECORD);
     }
 }
 
 #[test]
-fn display_texts(rt: HostRuntime) -> Result<(), Fail> {
-    for (fault, text) in [
+fn display_texts(rt: HostRuntime) {
+    for (fault, text) in &[
         (LoadFault::Memory, "Memory"),
         (LoadFault::Unreadable, "Unreadable"),
     ] {
-        let shown = format!(in rt.alloc(); "{fault}")?;
-        assert_eq!(rt; shown.as_str(), text);
+        let shown = format!(in rt.alloc(); "{fault}").expect(&rt, "memory");
+        expect_eq(&rt, shown.as_str(), *text);
     }
-    Ok(())
+}
+
+// Reads three bytes, a failure and their end in at most so many reads.
+fn expect_read(
+    rt: &impl Abort,
+    alloc: Global,
+    kind: Option<ErrorKind>,
+    reads: u64,
+    want: Result<(), LoadFault>,
+) {
+    let mut bytes = Vec::new(alloc);
+    let mut slow = Failing {
+        bytes: b"abc",
+        kind,
+        is_slow: true,
+    };
+    expect_eq(rt, read_rest(&mut slow, &mut bytes, reads), want);
+    expect_eq(rt, bytes.as_slice(), b"abc".as_slice());
 }
 
 #[test]
 fn reads_to_the_end(rt: HostRuntime) {
-    let alloc = rt.alloc();
-    for (kind, reads, want) in [
+    for (kind, reads, want) in &[
         (None, 4, Ok(())),
         (None, 3, Err(LoadFault::Unreadable)),
         (Some(ErrorKind::Other), 9, Err(LoadFault::Unreadable)),
@@ -397,60 +454,41 @@ fn reads_to_the_end(rt: HostRuntime) {
         (Some(ErrorKind::Interrupted), 5, Ok(())),
         (Some(ErrorKind::Interrupted), 4, Err(LoadFault::Unreadable)),
     ] {
-        let mut bytes = Vec::new(alloc);
-        let mut slow = Failing {
-            bytes: b"abc",
-            kind,
-            is_slow: true,
-        };
-        assert_eq!(rt; read_rest(&mut slow, &mut bytes, reads), want);
-        assert_eq!(rt; bytes.as_slice(), b"abc".as_slice());
+        expect_read(&rt, rt.alloc(), *kind, *reads, *want);
     }
 }
 
 #[test]
-fn takes_forms_and_depths(rt: HostRuntime) -> Result<(), Fail> {
+fn takes_forms_and_depths(rt: HostRuntime) {
     let alloc = rt.alloc();
     let too_deep = "{\"error\":\"Syntax\",\"index\":1,\"character\":\"[\"}\n";
-    for (form, document) in [
+    for (form, document) in &[
         ("owned", "{\"a\":1}"),
         ("borrowed", "{\"a\":1}"),
         ("lazy", "{\"a\":1,\"a\":2}"),
     ] {
         let records = format!(in alloc;
             "{{\"replies\":[[]],\"document\":{document}}}\n{too_deep}"
-        )?;
-        let words = ["records", "--form", form, "--depth", "1", "get.json"];
-        let mut output = Narrow::new(alloc, usize::MAX, false);
-        let want = (0, records.as_bytes(), "");
-        expect(
-            &rt,
-            alloc,
-            Given::new(&words),
-            b"{\"a\":1,\"a\":2}\n[[]]\n".as_slice(),
-            &mut output,
-            want,
-        );
+        ).expect(&rt, "memory");
+        let words = ["records", "--form", *form, "--depth", "1", "get.json"];
+        let lines = b"{\"a\":1,\"a\":2}\n[[]]\n";
+        expect_of(&rt, alloc, Given::new(&words), lines, (0, &records, ""));
     }
-    Ok(())
 }
 
 #[test]
 fn takes_rules_for_repeated_keys(rt: HostRuntime) {
-    let alloc = rt.alloc();
     let kept = "{\"replies\":[[]],\"document\":{\"a\":1}}\n";
     let refused = "{\"error\":\"RepeatedKey\",\"path\":[],\"key\":\"a\"}\n";
-    for (rule, record) in [("keep", kept), ("refuse", refused)] {
-        let words = ["records", "get.json", "--repeats", rule];
-        let mut output = Narrow::new(alloc, usize::MAX, false);
-        let want = (0, record.as_bytes(), "");
-        expect(
+    for (rule, record) in &[("keep", kept), ("refuse", refused)] {
+        let words = ["records", "get.json", "--repeats", *rule];
+        let given = Given::new(&words);
+        expect_of(
             &rt,
-            alloc,
-            Given::new(&words),
-            br#"{"a":1,"a":2}"#.as_slice(),
-            &mut output,
-            want,
+            rt.alloc(),
+            given,
+            br#"{"a":1,"a":2}"#,
+            (0, *record, ""),
         );
     }
 }

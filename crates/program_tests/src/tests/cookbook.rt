@@ -1,8 +1,7 @@
 //! The runs of docs/COOKBOOK.md.
-use super::{Given, Narrow, expect};
+use super::{Given, expect_of};
 use std::alloc::Global;
 use std::process::Abort;
-use std::test::Fail;
 
 const PACKAGE: &str =
     r#"{"package": "adduser", "version": "3.134", "architecture": "all", "installed_size": 686, "section": "admin", "depends": ["passwd"]}
@@ -72,9 +71,7 @@ fn expect_records(rt: &impl Abort, alloc: Global, script: &str, lines: &str, rec
         words: &["records", "script.json"],
         script: Ok(script),
     };
-    let mut output = Narrow::new(alloc, usize::MAX, false);
-    let want = (0, records.as_bytes(), "");
-    expect(rt, alloc, given, lines.as_bytes(), &mut output, want);
+    expect_of(rt, alloc, given, lines.as_bytes(), (0, records, ""));
 }
 
 #[test]
@@ -119,12 +116,13 @@ const EXAMPLES: [(&str, &str, &str); 13] = [
 ];
 
 #[test]
-fn examples_of_commands(rt: HostRuntime) -> Result<(), Fail> {
+fn examples_of_commands(rt: HostRuntime) {
     let line = r#"{"a":[1,2],"b":"x"}"#;
     for (command, reply, document) in &EXAMPLES {
-        let script = format!(in rt.alloc(); "[{command}]")?;
-        let record = format!(in rt.alloc(); "{{\"replies\":[{reply}],\"document\":{document}}}\n")?;
+        let script = format!(in rt.alloc(); "[{command}]").expect(&rt, "memory");
+        let record = format!(in rt.alloc();
+            "{{\"replies\":[{reply}],\"document\":{document}}}\n"
+        ).expect(&rt, "memory");
         expect_records(&rt, rt.alloc(), &script, line, &record);
     }
-    Ok(())
 }

@@ -1,7 +1,7 @@
 //! The words and the file that the system gives.
+use super::{expect_eq, expect_that};
 use records_program::{LoadFault, command_line, read_file};
 use std::env::{Env, FillError};
-use std::test::Fail;
 
 const NOT_UTF8: &str = "\
 error: invalid UTF-8 was detected in one or more arguments
@@ -36,21 +36,20 @@ impl Env for NotUtf8 {
 }
 
 #[test]
-fn refuses_words_without_text(rt: HostRuntime) -> Result<(), Fail> {
+fn refuses_words_without_text(rt: HostRuntime) {
     let fault = command_line(&(NotUtf8, rt.alloc()))
         .err()
-        .ok_or("no fault")?;
-    assert_eq!(rt; fault.status(), 2);
-    assert_eq!(rt; fault.line(), NOT_UTF8.as_bytes());
-    Ok(())
+        .expect(&rt, "a fault");
+    expect_eq(&rt, fault.status(), 2);
+    expect_eq(&rt, fault.line(), NOT_UTF8.as_bytes());
 }
 
 #[test]
-fn reads_files(rt: HostRuntime) -> Result<(), Fail> {
-    for name in ["/no/such/file", "/"] {
-        assert_eq!(rt; read_file(&rt, name).err(), Some(LoadFault::Unreadable));
+fn reads_files(rt: HostRuntime) {
+    for name in &["/no/such/file", "/"] {
+        let fault = read_file(&rt, name).err();
+        expect_eq(&rt, fault, Some(LoadFault::Unreadable));
     }
-    let bytes = read_file(&rt, "/dev/null")?;
-    assert!(rt; bytes.is_empty());
-    Ok(())
+    let bytes = read_file(&rt, "/dev/null").expect(&rt, "a file");
+    expect_that(&rt, "no bytes", bytes.is_empty());
 }
