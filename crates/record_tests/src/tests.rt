@@ -43,9 +43,14 @@ fn expect_eq<T: PartialEq + Debug + Drop>(rt: &impl Abort, found: T, expected: T
     assert_eq!(rt; found, expected);
 }
 
-// The same of a row of a table, which it names.
-fn expect_at<T: PartialEq + Debug + Drop>(rt: &impl Abort, row: &str, found: T, expected: T) {
-    assert_eq!(rt; found, expected, "at {row}");
+// The same of a row of a table or of a form, which it names.
+fn expect_at<R: Debug, T: PartialEq + Debug + Drop>(
+    rt: &impl Abort,
+    row: &R,
+    found: T,
+    expected: T,
+) {
+    assert_eq!(rt; found, expected, "at {row:?}");
 }
 
 // Fails, and says what was wanted, unless it holds.
@@ -218,7 +223,7 @@ fn expect_refused(rt: &impl Abort, alloc: Global, script: &str, text: &str) {
     let fault = script_of(alloc, script).err().expect(rt, "a fault");
     let mut out = Vec::from_slice(alloc, b"is ").expect(rt, "memory");
     fault.put_fault(&mut out).expect(rt, "memory");
-    expect_at(rt, script, std::str::from_utf8(&out[3..]), Ok(text));
+    expect_at(rt, &script, std::str::from_utf8(&out[3..]), Ok(text));
 }
 
 // A script nests at most 1024 levels. One that nests so many is read, and has no command.

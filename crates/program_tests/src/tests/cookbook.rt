@@ -115,14 +115,17 @@ const EXAMPLES: [(&str, &str, &str); 13] = [
     (r#"["reload_pp"]"#, r#"true"#, r#"{"a":[1,2],"b":"x"}"#),
 ];
 
+fn expect_example(rt: &impl Abort, alloc: Global, command: &str, reply: &str, document: &str) {
+    let line = r#"{"a":[1,2],"b":"x"}"#;
+    let script = format!(in alloc; "[{command}]").expect(rt, "memory");
+    let record = format!(in alloc; "{{\"replies\":[{reply}],\"document\":{document}}}\n");
+    let record = record.expect(rt, "memory");
+    expect_records(rt, alloc, &script, line, &record);
+}
+
 #[test]
 fn examples_of_commands(rt: HostRuntime) {
-    let line = r#"{"a":[1,2],"b":"x"}"#;
     for (command, reply, document) in &EXAMPLES {
-        let script = format!(in rt.alloc(); "[{command}]").expect(&rt, "memory");
-        let record = format!(in rt.alloc();
-            "{{\"replies\":[{reply}],\"document\":{document}}}\n"
-        ).expect(&rt, "memory");
-        expect_records(&rt, rt.alloc(), &script, line, &record);
+        expect_example(&rt, rt.alloc(), command, reply, document);
     }
 }

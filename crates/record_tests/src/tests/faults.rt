@@ -41,17 +41,22 @@ fn compare_line(
     lines.check(rt, alloc, depth, 65536);
 }
 
+// The kind of a fault, and its index and character where it has a place.
+fn split_fault<'a>(rt: &impl Abort, fault: &'a str) -> (&'a str, Option<(u16, &'a str)>) {
+    let Some((kind, place)) = fault.split_once(' ') else {
+        return (fault, None);
+    };
+    let (index, character) = place.split_once(' ').expect(rt, "a character");
+    let index = index.parse().expect(rt, "an index");
+    (kind, Some((index, character)))
+}
+
 // Compares the rows of a table, which begins with a line feed. A row is a line, ` => `, and the kind, the index and the
 // character of its first fault, with the character written as in a JSON string. A fault of the whole line has its kind alone.
 fn compare(rt: &impl Abort, alloc: Global, depth: usize, table: &str) {
     for row in table.lines().skip(1) {
-        let (line, found) = split_row(rt, row);
-        let Some((kind, place)) = found.split_once(' ') else {
-            compare_line(rt, alloc, depth, line.as_bytes(), found, None);
-            continue;
-        };
-        let (index, character) = place.split_once(' ').expect(rt, "a character");
-        let place = Some((index.parse().expect(rt, "an index"), character));
+        let (line, fault) = split_row(rt, row);
+        let (kind, place) = split_fault(rt, fault);
         compare_line(rt, alloc, depth, line.as_bytes(), kind, place);
     }
 }
@@ -307,52 +312,54 @@ fn of_each_kind(rt: HostRuntime) {
 }
 
 // The same tests, on bytes that can't be seen in a table.
+const OF_UNSEEN_BYTES: [(&[u8], &str); 16] = [
+    (b"\"\xff", "InvalidUtf8"),
+    (b"\xff", "InvalidUtf8"),
+    (b" \x80 ", "InvalidUtf8"),
+    (b"[\"\xc3\"]", "InvalidUtf8"),
+    (b"[\"\xc0\xaf\"]", "InvalidUtf8"),
+    (b"[\"\xed\xa0\x80\"]", "InvalidUtf8"),
+    (b"[\"\xf4\x90\x80\x80\"]", "InvalidUtf8"),
+    (b"[\"\x1f\xff", "InvalidUtf8"),
+    (b"time \xff", "InvalidUtf8"),
+    (b"[1]\xc3", "InvalidUtf8"),
+    (b"\"\x1f", "Syntax"),
+    (b"\"\x1f\"", "Syntax"),
+    (b"[\"a\",\"\x00\"]", "Syntax"),
+    (b"{\"\t\":1}", "Syntax"),
+    (b"time \"\r\"", "Syntax"),
+    (b"\t \r", "Eof"),
+];
+
 #[test]
 fn of_unseen_bytes(rt: HostRuntime) {
-    let rows: [(&[u8], &str); 16] = [
-        (b"\"\xff", "InvalidUtf8"),
-        (b"\xff", "InvalidUtf8"),
-        (b" \x80 ", "InvalidUtf8"),
-        (b"[\"\xc3\"]", "InvalidUtf8"),
-        (b"[\"\xc0\xaf\"]", "InvalidUtf8"),
-        (b"[\"\xed\xa0\x80\"]", "InvalidUtf8"),
-        (b"[\"\xf4\x90\x80\x80\"]", "InvalidUtf8"),
-        (b"[\"\x1f\xff", "InvalidUtf8"),
-        (b"time \xff", "InvalidUtf8"),
-        (b"[1]\xc3", "InvalidUtf8"),
-        (b"\"\x1f", "Syntax"),
-        (b"\"\x1f\"", "Syntax"),
-        (b"[\"a\",\"\x00\"]", "Syntax"),
-        (b"{\"\t\":1}", "Syntax"),
-        (b"time \"\r\"", "Syntax"),
-        (b"\t \r", "Eof"),
-    ];
-    for (line, kind) in &rows {
+    for (line, kind) in &OF_UNSEEN_BYTES {
         compare_line(&rt, rt.alloc(), LIMIT, line, kind, None);
     }
 }
 
 // Characters that can't be seen in a table.
+const OF_UNSEEN_CHARACTERS: [(&str, &str, u16, &str); 15] = [
+    ("\u{0}", "InternalError", 0, r"\u0000"),
+    ("\u{8}", "InternalError", 0, r"\b"),
+    ("\u{b}", "InternalError", 0, r"\u000b"),
+    ("\u{c}", "InternalError", 0, r"\f"),
+    ("\u{1f}", "InternalError", 0, r"\u001f"),
+    ("\u{7f}", "InternalError", 0, "\u{7f}"),
+    ("\u{80}", "InternalError", 0, "\u{c2}"),
+    ("\u{feff}1", "InternalError", 0, "\u{ef}"),
+    ("\u{10ffff}", "InternalError", 0, "\u{f4}"),
+    ("[\u{1}]", "ExpectedArrayContent", 1, r"\u0001"),
+    ("{\"a\":null \u{a0}}", "ExpectedMapComma", 10, "\u{c2}"),
+    ("[123 \t\r", "Syntax", 1, "1"),
+    ("true\u{c}", "ExpectedTrue", 0, "t"),
+    ("{\"a\":null\u{a0}}", "ExpectedNull", 5, "n"),
+    ("9\u{663}", "InvalidNumber", 0, "9"),
+];
+
 #[test]
 fn of_unseen_characters(rt: HostRuntime) {
-    let rows = [
-        ("\u{0}", "InternalError", 0, r"\u0000"),
-        ("\u{8}", "InternalError", 0, r"\b"),
-        ("\u{b}", "InternalError", 0, r"\u000b"),
-        ("\u{c}", "InternalError", 0, r"\f"),
-        ("\u{1f}", "InternalError", 0, r"\u001f"),
-        ("\u{7f}", "InternalError", 0, "\u{7f}"),
-        ("\u{80}", "InternalError", 0, "\u{c2}"),
-        ("\u{feff}1", "InternalError", 0, "\u{ef}"),
-        ("\u{10ffff}", "InternalError", 0, "\u{f4}"),
-        ("[\u{1}]", "ExpectedArrayContent", 1, r"\u0001"),
-        ("{\"a\":null \u{a0}}", "ExpectedMapComma", 10, "\u{c2}"),
-        ("[123 \t\r", "Syntax", 1, "1"),
-        ("true\u{c}", "ExpectedTrue", 0, "t"),
-        ("{\"a\":null\u{a0}}", "ExpectedNull", 5, "n"),
-        ("9\u{663}", "InvalidNumber", 0, "9"),
-    ];
-    for (line, kind, index, character) in &rows {
+    for (line, kind, index, character) in &OF_UNSEEN_CHARACTERS {
         let place = Some((*index, *character));
         compare_line(&rt, rt.alloc(), LIMIT, line.as_bytes(), kind, place);
     }

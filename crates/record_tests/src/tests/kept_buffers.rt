@@ -1,7 +1,7 @@
 //! Runs that use the same buffers, one after the other.
 
 use super::readers::Pieces;
-use super::{FORMS, expect_eq, script_of};
+use super::{FORMS, expect_at, expect_eq, script_of};
 use sj_base::Counted;
 use sj_parse::Buffers;
 use sj_records::{Form, Repeats, RunError, Script, run_with};
@@ -41,11 +41,7 @@ fn expect_with(
     let input = Pieces::new(stream.as_bytes(), 65536);
     let result = run_with_on(alloc, input, &mut output, &script, form, buffers);
     expect_eq(rt, result, Ok(()));
-    assert_eq!(rt;
-        output.as_slice(),
-        records.as_bytes(),
-        "{stream} in {form:?}"
-    );
+    expect_at(rt, &(stream, form), output.as_slice(), records.as_bytes());
 }
 
 // Two runs of three lines, with a run of no line behind each.
@@ -77,7 +73,7 @@ fn expect_positions(rt: &impl Abort, alloc: Global, form: Form, record: &str, po
     let script = r#"[["reload"],["len",[]]]"#;
     let line = r#"{"a":1,"a":2}"#;
     expect_with(rt, alloc, &mut buffers, form, script, line, record);
-    assert_eq!(rt; buffers.structural_indexes(), positions, "{form:?}");
+    expect_at(rt, &form, buffers.structural_indexes(), positions);
 }
 
 // The positions are those of the text that was read last, which is that of the reload.

@@ -1,6 +1,6 @@
 //! Readers and writers that give and take their bytes in pieces, and that fail, and runs on them.
 
-use super::{LIMIT, expect_eq, expect_that, script_of};
+use super::{LIMIT, expect_at, expect_eq, expect_that, script_of};
 use sj_base::Counted;
 use sj_parse::Buffers;
 use sj_records::{Form, Repeats, RunError, Script, run, run_within};
@@ -207,9 +207,10 @@ fn run_narrow(rt: &impl Abort, alloc: Global, refusal: Refusal, step: usize, roo
     } else {
         Err(RunError::Write)
     };
+    let row = (refusal, room);
+    expect_at(rt, &row, result, ended);
     let written = Some(output.taken.as_slice());
-    let first = BOTH.as_bytes().get(..room);
-    assert_eq!(rt; (result, written), (ended, first), "{refusal:?} at {room}");
+    expect_at(rt, &row, written, BOTH.as_bytes().get(..room));
 }
 
 #[test]

@@ -1,7 +1,7 @@
 //! Runs of a script on a stream or on one line, and what they are to write.
 
 use super::readers::{Pieces, run_by};
-use super::{LIMIT, expect_eq, script_of};
+use super::{LIMIT, expect_at, expect_eq, script_of};
 use sj_records::{Form, Repeats};
 use std::alloc::Global;
 use std::process::Abort;
@@ -48,11 +48,10 @@ impl<'a> Run<'a> {
 
     // Looks for the records in each of these forms.
     pub(super) fn expect(self, rt: &impl Abort, alloc: Global, forms: &[Form], records: &str) {
-        let step = self.step;
         for form in forms {
             let output = self.output(rt, alloc, *form);
             let written = std::str::from_utf8(&output);
-            assert_eq!(rt; written, Ok(records), "by {step} in {form:?}");
+            expect_at(rt, &(self.step, *form), written, Ok(records));
         }
     }
 

@@ -244,20 +244,23 @@ fn forty_equal_hashes_twice(rt: HostRuntime) {
 }
 
 // A write call on a document appends its reply and hands out an inverse.
+fn expect_write(rt: &impl Abort, alloc: Global, command: &Command) {
+    let Command::Insert(path, key, value) = command else {
+        panic!(rt; "another command");
+    };
+    let mut text = *br#"{"a":{"k":"old"}}"#;
+    let mut document = to_owned_value(alloc, &mut text).expect(rt, "a document");
+    let mut out = b"> ".to_vec(alloc).expect(rt, "memory");
+    let inverse = Document::insert(&mut document, path, key, value, LIMIT, &mut out);
+    let has_inverse = inverse.expect(rt, "memory").is_some();
+    expect_that(rt, "an inverse", has_inverse);
+    expect_eq(rt, out.as_slice(), br#"> ["old"]"#.as_slice());
+}
+
 #[test]
 fn write_call(rt: HostRuntime) {
     let alloc = rt.alloc();
     let script = script_of(alloc, r#"[["insert",["a"],"k",["new"]]]"#).expect(&rt, "a script");
     assert_eq!(rt; script.len(), 1);
-    let Command::Insert(path, key, value) = script.command(0) else {
-        panic!(rt; "another command");
-    };
-    let mut text = *br#"{"a":{"k":"old"}}"#;
-    let mut document = to_owned_value(alloc, &mut text).expect(&rt, "a document");
-    let mut out = b"> ".to_vec(alloc).expect(&rt, "memory");
-    let inverse = Document::insert(&mut document, path, key, value, LIMIT, &mut out).expect(
-        &rt, "memory",
-    );
-    expect_that(&rt, "an inverse", inverse.is_some());
-    expect_eq(&rt, out.as_slice(), br#"> ["old"]"#.as_slice());
+    expect_write(&rt, alloc, script.command(0));
 }
