@@ -303,23 +303,23 @@ fn run_on_tape<'s>(
     let alloc = *out.allocator();
     match task.form {
         Form::Owned => {
-            let mut document = build::<String, DecimalBuf>(alloc, tape)?;
-            run_commands(&mut document, task, commands, is_first, history, text, out)
+            let document = build::<String, DecimalBuf>(alloc, tape)?;
+            run_commands(document, task, commands, is_first, history, text, out)
         }
         Form::Borrowed => {
-            let mut document = build::<CowStr<'_>, DecimalCow<'_>>(alloc, tape)?;
-            run_commands(&mut document, task, commands, is_first, history, text, out)
+            let document = build::<CowStr<'_>, DecimalCow<'_>>(alloc, tape)?;
+            run_commands(document, task, commands, is_first, history, text, out)
         }
         Form::Lazy => {
-            let mut document = LazyDocument::new(tape.as_value());
-            run_commands(&mut document, task, commands, is_first, history, text, out)
+            let document = LazyDocument::new(tape.as_value());
+            run_commands(document, task, commands, is_first, history, text, out)
         }
     }
 }
 
-/// Runs commands on a document, as `run_on_tape`.
-fn run_commands<'s, T: Document>(
-    document: &mut T,
+/// Runs commands on a document, as `run_on_tape`. The document is dropped.
+fn run_commands<'s, T: Document + Drop>(
+    mut document: T,
     task: Task<'_>,
     commands: &'s [Command],
     is_first: bool,
@@ -328,14 +328,14 @@ fn run_commands<'s, T: Document>(
     out: &mut Vec<u8>,
 ) -> Result<Option<&'s [Command]>, AllocError>
     requires { T.keeping ≡ (task_job task).keeping }
-    ensures { IfOk result (λ left. (s : State) → StandFor T.keeping (T.tree document.old) history.old.items s
+    ensures { IfOk result (λ left. (s : State) → StandFor T.keeping (T.tree document) history.old.items s
         → Runs (task_job task.entry) s (commands_view commands.now) is_first (option_copied left) history.new.items text.new.items out.old.items out.new.items []) }
 {
     let mut left = commands;
     let mut is_next_first = is_first;
     while let Some((command, behind)) = left.split_first() {
         put_separator(is_next_first, out)?;
-        let is_read_again = run_command(document, history, command, task.depth, text, out)?;
+        let is_read_again = run_command(&mut document, history, command, task.depth, text, out)?;
         left = behind;
         is_next_first = false;
         if is_read_again {

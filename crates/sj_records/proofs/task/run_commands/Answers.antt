@@ -13,7 +13,7 @@ use Rattle.sj_records.proofs.task.run_commands.Goals as goal
 pub loop-command-init : goal.loop-command-init
 loop-command-init g c = λ s at.
     let begin = Running-begin (task_job c.args.task) s (commands_view c.args.commands.now) c.args.is_first c.args.out.now.items in
-    (begin.0, subst (λ (u : State). StandFor g.T.Document.keeping (g.T.Document.tree c.args.document.now) c.args.history.now.items u) (sym begin.1) at)
+    (begin.0, subst (λ (u : State). StandFor g.T.Document.keeping (g.T.Document.tree c.args.document) c.args.history.now.items u) (sym begin.1) at)
 
 pub loop-command-preserved : goal.loop-command-preserved
 loop-command-preserved g c = λ s at.
