@@ -37,7 +37,7 @@ fn seen<T: Drop, R, F: FnOnce(&mut T) -> R + Drop>(mut value: T, look: F) -> R
 }
 
 // Makes a check on the lazy value of a text. The check holds nothing that has to be dropped.
-fn on_text<F: FnOnce(&mut Value<'_, '_, '_>) -> Result<(), Fail> + Drop>(
+fn try_on_text<F: FnOnce(&mut Value<'_, '_, '_>) -> Result<(), Fail> + Drop>(
     alloc: Global,
     json: &str,
     check: F,
@@ -50,6 +50,24 @@ fn on_text<F: FnOnce(&mut Value<'_, '_, '_>) -> Result<(), Fail> + Drop>(
     check(&mut value)
 }
 
+// The same where there is memory.
+fn on_text<F: FnOnce(&mut Value<'_, '_, '_>) + Drop>(
+    rt: &impl Abort,
+    alloc: Global,
+    json: &str,
+    check: F,
+)
+    requires { F.IsAlwaysCallable check }
+{
+    let mut text = bytes(alloc, json).expect(rt, "memory");
+    let tape = to_tape(alloc, &mut text).expect(rt, "a tape");
+    if tape.is_empty() {
+        panic!(rt; "no document");
+    }
+    let mut value = Value::from_tape(tape.as_value());
+    check(&mut value);
+}
+
 // Fails unless both are equal. It is proved once, and an `assert_eq!` with all that its test holds.
 fn expect_eq<T: PartialEq + Debug + Drop>(rt: &impl Abort, found: T, expected: T) {
     assert_eq!(rt; found, expected);
@@ -60,8 +78,13 @@ fn expect_at<T: PartialEq + Debug + Drop>(rt: &impl Abort, row: &str, found: T, 
     assert_eq!(rt; found, expected, "at {row}");
 }
 
+// Fails, and says what was wanted, unless it holds.
+fn expect_that(rt: &impl Abort, wanted: &str, holds: bool) {
+    assert!(rt; holds, "{wanted}");
+}
+
 // Fails unless this is the compact text of the value.
-fn expect_text(
+fn try_expect_text(
     rt: &impl Abort,
     alloc: Global,
     value: &Value<'_, '_, '_>,
@@ -69,49 +92,45 @@ fn expect_text(
 ) -> Result<(), AllocError> {
     let mut out = Vec::new(alloc);
     value.encode(&mut out)?;
-    assert_eq!(rt; out.as_slice(), text.as_bytes());
+    expect_eq(rt, out.as_slice(), text.as_bytes());
     Ok(())
+}
+
+// The same where there is memory.
+fn expect_text(rt: &impl Abort, alloc: Global, value: &Value<'_, '_, '_>, text: &str) {
+    try_expect_text(rt, alloc, value, text).expect(rt, "memory");
 }
 
 // The same of a value that isn't used again.
-fn expect_made(
-    rt: &impl Abort,
-    alloc: Global,
-    value: Value<'_, '_, '_>,
-    text: &str,
-) -> Result<(), AllocError> {
-    expect_text(rt, alloc, &value, text)
+fn expect_made(rt: &impl Abort, alloc: Global, value: Value<'_, '_, '_>, text: &str) {
+    expect_text(rt, alloc, &value, text);
 }
 
 // Fails unless the value is displayed like this.
-fn expect_shown(
-    rt: &impl Abort,
-    alloc: Global,
-    value: &Value<'_, '_, '_>,
-    shown: &str,
-) -> Result<(), AllocError> {
-    expect_eq(rt, value.to_string(alloc)?.as_str(), shown);
-    Ok(())
+fn expect_shown(rt: &impl Abort, alloc: Global, value: &Value<'_, '_, '_>, shown: &str) {
+    let text = value.to_string(alloc).expect(rt, "memory");
+    expect_eq(rt, text.as_str(), shown);
 }
 
 #[test]
-fn upgrade_on_insert(rt: HostRuntime) -> Result<(), Fail> {
+fn upgrade_on_insert(rt: HostRuntime) {
     let alloc = rt.alloc();
-    on_text(alloc, r#"{"key": "value", "snot": 42}"#, |value| {
+    on_text(&rt, alloc, r#"{"key": "value", "snot": 42}"#, |value| {
         expect_eq(&rt, value.get_str("key"), Some("value"));
-        assert!(rt; value.is_tape() && !value.is_value());
-        value.insert(alloc, CowStr::Borrowed("new"), BorrowedValue::from(42u64))?;
-        assert!(rt; value.is_value() && !value.is_tape());
+        expect_eq(&rt, (value.is_tape(), value.is_value()), (true, false));
+        let inserted = value.insert(alloc, CowStr::Borrowed("new"), BorrowedValue::from(42u64));
+        expect_that(&rt, "a new key", is_nothing(inserted));
+        expect_eq(&rt, (value.is_tape(), value.is_value()), (false, true));
         expect_eq(&rt, value.get_str("key"), Some("value"));
         expect_eq(&rt, value.get_u64("new"), Some(42));
-        expect_text(&rt, alloc, value, r#"{"key":"value","snot":42,"new":42}"#)?;
-        Ok(())
-    })
+        expect_text(&rt, alloc, value, r#"{"key":"value","snot":42,"new":42}"#);
+    });
 }
 
 #[test]
-fn typed_reads(rt: HostRuntime) -> Result<(), Fail> {
-    on_text(rt.alloc(), r#"{"snot": 1, "badger":[2, 2.5]}"#, |value| {
+fn typed_reads(rt: HostRuntime) {
+    let alloc = rt.alloc();
+    on_text(&rt, alloc, r#"{"snot": 1, "badger":[2, 2.5]}"#, |value| {
         expect_eq(&rt, value.get_u64("snot"), Some(1));
         expect_eq(&rt, value.get_i8("badger"), None);
         let number_met = TryTypeError {
@@ -120,39 +139,36 @@ fn typed_reads(rt: HostRuntime) -> Result<(), Fail> {
         };
         expect_eq(&rt, value.try_get_str("snot"), Err(number_met));
         expect_eq(&rt, value.try_get_bool("x"), Ok(None));
-        Ok(())
-    })?;
-    on_text(rt.alloc(), "[]", |value| {
+    });
+    on_text(&rt, alloc, "[]", |value| {
         let array_met = TryTypeError {
             expected: ValueType::Object,
             got: ValueType::Array,
         };
         expect_eq(&rt, value.try_get_bool("x"), Err(array_met));
-        Ok(())
-    })
+    });
 }
 
 #[test]
-fn refused_writes(rt: HostRuntime) -> Result<(), Fail> {
+fn refused_writes(rt: HostRuntime) {
     let alloc = rt.alloc();
-    on_text(alloc, "7", |value| {
-        assert!(rt; value.as_array_mut(alloc)?.is_none());
-        assert!(rt; value.is_value());
-        assert!(rt; value.as_object_mut(alloc)?.is_none());
-        assert!(rt; value.get_mut(alloc, "a")?.is_none() && value.get_idx_mut(alloc, 0)?.is_none());
+    on_text(&rt, alloc, "7", |value| {
+        expect_that(&rt, "no array", is_nothing(value.as_array_mut(alloc)));
+        expect_that(&rt, "a document", value.is_value());
+        expect_that(&rt, "no object", is_nothing(value.as_object_mut(alloc)));
+        expect_that(&rt, "no member", is_nothing(value.get_mut(alloc, "a")));
+        expect_that(&rt, "no item", is_nothing(value.get_idx_mut(alloc, 0)));
         let refused = value.remove(alloc, "a").err();
         expect_eq(&rt, refused, Some(AccessError::NotAnObject));
         expect_eq(&rt, value.pop(alloc).err(), Some(AccessError::NotAnArray));
-        Ok(())
-    })?;
+    });
     // A write that is refused drops repeated members too.
-    on_text(alloc, r#"{"a":1,"a":2}"#, |value| {
-        expect_text(&rt, alloc, value, r#"{"a":1,"a":2}"#)?;
+    on_text(&rt, alloc, r#"{"a":1,"a":2}"#, |value| {
+        expect_text(&rt, alloc, value, r#"{"a":1,"a":2}"#);
         let pushed = value.push(alloc, BorrowedValue::from(0u64));
         expect_eq(&rt, pushed, Err(AccessError::NotAnArray));
-        expect_text(&rt, alloc, value, r#"{"a":1}"#)?;
-        Ok(())
-    })
+        expect_text(&rt, alloc, value, r#"{"a":1}"#);
+    });
 }
 
 // The calls that lend a part for writing.
@@ -194,16 +210,14 @@ fn expect_upgraded(
     value: &mut Value<'_, '_, '_>,
 ) -> Result<(), AllocError> {
     let is_made = call.is_made(value, alloc);
-    assert!(rt;
-        value.is_value() == is_made && value.is_tape() != is_made,
-        "{call:?}"
-    );
+    let forms = (value.is_value(), value.is_tape());
+    assert_eq!(rt; forms, (is_made, !is_made), "{call:?}");
     let left = if is_made {
         r#"{"a":1}"#
     } else {
         r#"{"a":1,"a":2}"#
     };
-    expect_text(rt, alloc, value, left)
+    try_expect_text(rt, alloc, value, left)
 }
 
 // Each of these calls as the first one on a tape, whatever it finds. If the upgrade lacks memory, as
@@ -212,7 +226,7 @@ fn expect_upgraded(
 fn first_writes(rt: HostRuntime) -> Result<(), Fail> {
     let alloc = rt.alloc();
     for call in LENDINGS {
-        on_text(alloc, r#"{"a":1,"a":2}"#, |value| {
+        try_on_text(alloc, r#"{"a":1,"a":2}"#, |value| {
             expect_upgraded(&rt, alloc, call, value)?;
             Ok(())
         })?;
@@ -221,25 +235,20 @@ fn first_writes(rt: HostRuntime) -> Result<(), Fail> {
 }
 
 // The parts of {"a":[1,2],"s":"x"}.
-fn expect_parts(rt: &impl Abort, value: &Value<'_, '_, '_>) -> Result<(), Fail> {
-    let items = value.get_array("a").ok_or("no array")?;
+fn expect_parts(rt: &impl Abort, value: &Value<'_, '_, '_>) {
+    let items = value.get_array("a").expect(rt, "an array");
     expect_eq(rt, items.len(), 2);
-    let string = value.get("s").ok_or("no member")?;
-    let copied = string.into_string()?.ok_or("no string")?;
+    let string = value.get("s").expect(rt, "a member").into_string();
+    let copied = string.expect(rt, "memory").expect(rt, "a string");
     expect_eq(rt, copied.as_str(), "x");
-    Ok(())
 }
 
 // Reads the parts of that document, and removes one.
-fn expect_removed(
-    rt: &impl Abort,
-    alloc: Global,
-    value: &mut Value<'_, '_, '_>,
-) -> Result<(), Fail> {
-    expect_parts(rt, value)?;
-    value.remove(alloc, "a")?;
-    expect_text(rt, alloc, value, r#"{"s":"x"}"#)?;
-    Ok(())
+fn expect_removed(rt: &impl Abort, alloc: Global, value: &mut Value<'_, '_, '_>) {
+    expect_parts(rt, value);
+    let removed = seen(value.remove(alloc, "a"), |removed| removed.is_ok());
+    expect_that(rt, "a member", removed);
+    expect_text(rt, alloc, value, r#"{"s":"x"}"#);
 }
 
 // Whether `into_owned` gives a document of its own.
@@ -255,24 +264,19 @@ fn held<'b, 'i>(document: &'b BorrowedValue<'i>) -> Value<'b, 'b, 'i> {
 }
 
 // Writes to a value that borrows the document {"a":[1,2],"s":"x"}, and makes others.
-fn expect_original(
-    rt: &impl Abort,
-    alloc: Global,
-    document: &BorrowedValue<'_>,
-) -> Result<(), Fail> {
-    seen(held(document), |value| expect_removed(rt, alloc, value))?;
-    expect_made(rt, alloc, held(document), r#"{"a":[1,2],"s":"x"}"#)?;
-    assert!(rt; owns_document(held(document), alloc));
-    Ok(())
+fn expect_original(rt: &impl Abort, alloc: Global, document: &BorrowedValue<'_>) {
+    seen(held(document), |value| expect_removed(rt, alloc, value));
+    expect_made(rt, alloc, held(document), r#"{"a":[1,2],"s":"x"}"#);
+    expect_that(rt, "an owner", owns_document(held(document), alloc));
 }
 
 // The original of a document that is only borrowed stays as it is.
 #[test]
-fn borrowed_document(rt: HostRuntime) -> Result<(), Fail> {
+fn borrowed_document(rt: HostRuntime) {
     let alloc = rt.alloc();
     let mut text = *br#"{"a":[1,2],"s":"x"}"#;
-    let document = to_borrowed_value(alloc, &mut text)?;
-    expect_original(&rt, alloc, &document)
+    let document = to_borrowed_value(alloc, &mut text).expect(&rt, "a document");
+    expect_original(&rt, alloc, &document);
 }
 
 // Makes one of these calls on a value that borrows a document.
@@ -284,8 +288,8 @@ fn expect_copied(
 ) -> Result<(), AllocError> {
     let is_made = call.is_made(value, alloc);
     let is_owned = matches!(value, Value::Value(Held::Owned(_)));
-    assert!(rt; is_owned == is_made, "{call:?}");
-    expect_text(rt, alloc, value, r#"{"a":[1,2],"s":"x"}"#)
+    assert_eq!(rt; is_owned, is_made, "{call:?}");
+    try_expect_text(rt, alloc, value, r#"{"a":[1,2],"s":"x"}"#)
 }
 
 // The same for each call.
@@ -313,10 +317,12 @@ fn first_writes_to_copies(rt: HostRuntime) -> Result<(), Fail> {
     expect_all_copied(&rt, alloc, &document)
 }
 
-// Appends a null and takes the last item away again, and returns whether that was a null.
-fn pops_null(alloc: Global, value: &mut Value<'_, '_, '_>) -> Result<bool, Fail> {
-    value.push(alloc, BorrowedValue::null())?;
-    Ok(is_null_in(value.pop(alloc)?))
+// Appends a null and takes the last item away again, which is to be that null.
+fn push_and_pop_null(rt: &impl Abort, alloc: Global, value: &mut Value<'_, '_, '_>) {
+    let pushed = value.push(alloc, BorrowedValue::null());
+    expect_eq(rt, pushed, Ok(()));
+    let popped = value.pop(alloc).expect(rt, "an array");
+    expect_that(rt, "a null", is_null_in(popped));
 }
 
 fn is_null_in<T: ValueAsScalar + Drop>(item: Option<T>) -> bool {
@@ -324,31 +330,31 @@ fn is_null_in<T: ValueAsScalar + Drop>(item: Option<T>) -> bool {
 }
 
 // The number that is removed from the second item.
-fn removed_number(alloc: Global, value: &mut Value<'_, '_, '_>) -> Result<Option<u64>, Fail> {
-    let item = value.get_idx_mut(alloc, 1)?.ok_or("no item")?;
-    Ok(number_in(item.remove("b")?))
+fn removed_number(rt: &impl Abort, alloc: Global, value: &mut Value<'_, '_, '_>) -> Option<u64> {
+    let item = value.get_idx_mut(alloc, 1).expect(rt, "memory");
+    let removed = item.expect(rt, "an item").remove("b");
+    number_in(removed.expect(rt, "an object"))
 }
 
 fn number_in<T: ValueAsScalar + Drop>(member: Option<T>) -> Option<u64> {
     member?.as_u64()
 }
 
-fn clear_items(alloc: Global, value: &mut Value<'_, '_, '_>) -> Result<(), Fail> {
-    value.as_array_mut(alloc)?.ok_or("no array")?.clear();
-    Ok(())
+fn clear_items(rt: &impl Abort, alloc: Global, value: &mut Value<'_, '_, '_>) {
+    let items = value.as_array_mut(alloc).expect(rt, "memory");
+    items.expect(rt, "an array").clear();
 }
 
 #[test]
-fn writes_to_items(rt: HostRuntime) -> Result<(), Fail> {
+fn writes_to_items(rt: HostRuntime) {
     let alloc = rt.alloc();
-    on_text(alloc, r#"[1,{"b":2}]"#, |value| {
-        assert!(rt; pops_null(alloc, value)?);
-        expect_eq(&rt, removed_number(alloc, value)?, Some(2));
-        expect_text(&rt, alloc, value, "[1,{}]")?;
-        clear_items(alloc, value)?;
-        expect_text(&rt, alloc, value, "[]")?;
-        Ok(())
-    })
+    on_text(&rt, alloc, r#"[1,{"b":2}]"#, |value| {
+        push_and_pop_null(&rt, alloc, value);
+        expect_eq(&rt, removed_number(&rt, alloc, value), Some(2));
+        expect_text(&rt, alloc, value, "[1,{}]");
+        clear_items(&rt, alloc, value);
+        expect_text(&rt, alloc, value, "[]");
+    });
 }
 
 // A write through `value_mut`. Its clauses say what is left.
@@ -364,40 +370,30 @@ fn put_document<'i>(
     Ok(())
 }
 
-// Inserts a null, and returns whether its key is new.
-fn inserts_null(alloc: Global, value: &mut Value<'_, '_, '_>) -> Result<bool, Fail> {
-    let members = value.as_object_mut(alloc)?.ok_or("no object")?;
+// Inserts a null under a new key.
+fn insert_null(rt: &impl Abort, alloc: Global, value: &mut Value<'_, '_, '_>) {
+    let members = value.as_object_mut(alloc).expect(rt, "memory");
+    let members = members.expect(rt, "an object");
     let inserted = members.insert(CowStr::Borrowed("k"), BorrowedValue::null());
-    Ok(is_nothing(inserted))
+    expect_that(rt, "a new key", is_nothing(inserted));
 }
 
 fn is_nothing<T: Drop, E: Drop>(answer: Result<Option<T>, E>) -> bool {
     matches!(answer, Ok(None))
 }
 
-fn write_true(alloc: Global, value: &mut Value<'_, '_, '_>) -> Result<(), Fail> {
-    *value.get_mut(alloc, "k")?.ok_or("no member")? = BorrowedValue::from(true);
-    Ok(())
+fn write_true(rt: &impl Abort, alloc: Global, value: &mut Value<'_, '_, '_>) {
+    let member = value.get_mut(alloc, "k").expect(rt, "memory");
+    *member.expect(rt, "a member") = BorrowedValue::from(true);
 }
 
 // Makes the value {"k":true}.
-fn write_members(
-    rt: &impl Abort,
-    alloc: Global,
-    value: &mut Value<'_, '_, '_>,
-) -> Result<(), Fail> {
-    put_document(alloc, value, BorrowedValue::object(alloc))?;
-    assert!(rt; inserts_null(alloc, value)?);
-    write_true(alloc, value)?;
-    expect_text(rt, alloc, value, r#"{"k":true}"#)?;
-    Ok(())
-}
-
-// That value, made of null.
-fn members(rt: &impl Abort, alloc: Global) -> Result<Value<'static, 'static, 'static>, Fail> {
-    let mut value = Value::null();
-    write_members(rt, alloc, &mut value)?;
-    Ok(value)
+fn write_members(rt: &impl Abort, alloc: Global, value: &mut Value<'_, '_, '_>) {
+    let put = put_document(alloc, value, BorrowedValue::object(alloc));
+    expect_eq(rt, put, Ok(()));
+    insert_null(rt, alloc, value);
+    write_true(rt, alloc, value);
+    expect_text(rt, alloc, value, r#"{"k":true}"#);
 }
 
 // Looks for the tape of {"a":1,"a":2}, which is no document.
@@ -406,8 +402,8 @@ fn expect_left(
     alloc: Global,
     value: &Value<'_, '_, '_>,
 ) -> Result<bool, AllocError> {
-    assert!(rt; value.is_tape());
-    expect_text(rt, alloc, value, r#"{"a":1,"a":2}"#)?;
+    expect_that(rt, "a tape", value.is_tape());
+    try_expect_text(rt, alloc, value, r#"{"a":1,"a":2}"#)?;
     Ok(false)
 }
 
@@ -446,94 +442,116 @@ fn bool_in<T: ValueGetScalar + Drop, E: Drop>(document: Result<T, E>, name: &str
 }
 
 #[test]
-fn writes_to_members(rt: HostRuntime) -> Result<(), Fail> {
-    let alloc = rt.alloc();
-    let value = members(&rt, alloc)?;
-    expect_eq(&rt, bool_of(alloc, value, "k"), Some(true));
-    Ok(())
+fn writes_to_members(rt: HostRuntime) {
+    let mut value = Value::null();
+    write_members(&rt, rt.alloc(), &mut value);
+    expect_eq(&rt, bool_of(rt.alloc(), value, "k"), Some(true));
 }
 
 // Looks for a tape, and for the indented text of the member of {"o":{"k":null}}.
-fn expect_indented(rt: &impl Abort, alloc: Global, value: &Value<'_, '_, '_>) -> Result<(), Fail> {
-    assert!(rt; value.is_tape());
+fn expect_indented(rt: &impl Abort, alloc: Global, value: &Value<'_, '_, '_>) {
+    expect_that(rt, "a tape", value.is_tape());
     let mut out = Vec::new(alloc);
-    value.get("o").ok_or("no member")?.encode_pp(&mut out)?;
+    let member = value.get("o").expect(rt, "a member");
+    member.encode_pp(&mut out).expect(rt, "memory");
     expect_eq(rt, out.as_slice(), b"{\n  \"k\": null\n}".as_slice());
-    Ok(())
 }
 
 // Looks for a tape of that text.
-fn expect_kept_tape(rt: &impl Abort, alloc: Global, value: Value<'_, '_, '_>) -> Result<(), Fail> {
+fn expect_kept_tape(rt: &impl Abort, alloc: Global, value: Value<'_, '_, '_>) {
     match value.into_owned(alloc) {
         Ok(kept) => expect_indented(rt, alloc, &kept),
-        Err(_) => Err(Fail::new("no value")),
+        Err(_) => panic!(rt; "no value"),
     }
 }
 
 // A copy of a tape is that tape.
 #[test]
-fn copies(rt: HostRuntime) -> Result<(), Fail> {
+fn copies(rt: HostRuntime) {
     let alloc = rt.alloc();
-    on_text(alloc, r#"{"o":{"k":null}}"#, |value| {
-        let copy = value.try_clone()?;
-        let is_upgraded = value.value_mut(alloc).is_ok();
-        expect_kept_tape(&rt, alloc, copy)?;
-        assert!(rt; is_upgraded);
-        expect_made(&rt, alloc, value.try_clone()?, r#"{"o":{"k":null}}"#)?;
-        Ok(())
-    })
+    on_text(&rt, alloc, r#"{"o":{"k":null}}"#, |value| {
+        let copy = value.try_clone().expect(&rt, "memory");
+        value.value_mut(alloc).expect(&rt, "memory");
+        expect_kept_tape(&rt, alloc, copy);
+        let copy = value.try_clone().expect(&rt, "memory");
+        expect_made(&rt, alloc, copy, r#"{"o":{"k":null}}"#);
+    });
+}
+
+// The same of what a call makes that can lack memory.
+fn expect_some(
+    rt: &impl Abort,
+    alloc: Global,
+    made: Result<Value<'_, '_, '_>, AllocError>,
+    text: &str,
+) {
+    expect_made(rt, alloc, made.expect(rt, "memory"), text);
 }
 
 #[test]
-fn made_of_others(rt: HostRuntime) -> Result<(), Fail> {
+fn made_of_others(rt: HostRuntime) {
     let alloc = rt.alloc();
-    assert!(rt; Value::null().is_tape() && Value::default().is_null());
-    expect_made(&rt, alloc, Value::array(alloc), "[]")?;
-    expect_made(&rt, alloc, Value::object(alloc), "{}")?;
-    expect_made(&rt, alloc, Value::array_with_capacity(alloc, 1)?, "[]")?;
-    expect_made(&rt, alloc, Value::object_with_capacity(alloc, 1)?, "{}")?;
-    expect_made(&rt, alloc, Value::from(StaticNode::I64(-1)), "-1")?;
-    expect_made(&rt, alloc, Value::from("x"), r#""x""#)?;
-    expect_made(&rt, alloc, Value::from(Some(true)), "true")?;
-    expect_made(&rt, alloc, Value::from_text(alloc, "y")?, r#""y""#)?;
+    expect_that(&rt, "a tape", Value::null().is_tape());
+    expect_that(&rt, "null", Value::default().is_null());
+    expect_made(&rt, alloc, Value::array(alloc), "[]");
+    expect_made(&rt, alloc, Value::object(alloc), "{}");
+    expect_some(&rt, alloc, Value::array_with_capacity(alloc, 1), "[]");
+    expect_some(&rt, alloc, Value::object_with_capacity(alloc, 1), "{}");
+    expect_made(&rt, alloc, Value::from(StaticNode::I64(-1)), "-1");
+    expect_made(&rt, alloc, Value::from("x"), r#""x""#);
+    expect_made(&rt, alloc, Value::from(Some(true)), "true");
+    expect_some(&rt, alloc, Value::from_text(alloc, "y"), r#""y""#);
+}
+
+// Adds a key to a map.
+fn put<V: Drop>(
+    alloc: Global,
+    map: &mut HashMap<String, V>,
+    key: &str,
+    value: V,
+) -> Result<(), AllocError> {
+    map.insert(String::from_str(alloc, key)?, value)?;
     Ok(())
 }
 
 // A map of one key.
-fn map_of<V: Drop>(alloc: Global, key: &str, value: V) -> Result<HashMap<String, V>, AllocError> {
+fn map_of<V: Drop>(rt: &impl Abort, alloc: Global, key: &str, value: V) -> HashMap<String, V> {
     let mut map = HashMap::new(alloc);
-    map.insert(String::from_str(alloc, key)?, value)?;
-    Ok(map)
+    put(alloc, &mut map, key, value).expect(rt, "memory");
+    map
 }
 
 #[test]
-fn made_of_containers(rt: HostRuntime) -> Result<(), Fail> {
+fn made_of_containers(rt: HostRuntime) {
     let alloc = rt.alloc();
-    let list = Vec::from_slice(alloc, &[1u8, 2])?;
-    expect_made(&rt, alloc, Value::from_list(alloc, list)?, "[1,2]")?;
-    expect_made(&rt, alloc, Value::from_values(alloc, 0u8..2)?, "[0,1]")?;
-    let pairs = Vec::from_array(alloc, [(CowStr::Borrowed("a"), 1u8)])?;
-    expect_made(&rt, alloc, Value::from_pairs(alloc, pairs)?, r#"{"a":1}"#)?;
-    let map = map_of(alloc, "k", BorrowedValue::null())?;
-    expect_made(&rt, alloc, Value::from_map(alloc, map)?, r#"{"k":null}"#)?;
+    let list = Vec::from_slice(alloc, &[1u8, 2]).expect(&rt, "memory");
+    expect_some(&rt, alloc, Value::from_list(alloc, list), "[1,2]");
+    expect_some(&rt, alloc, Value::from_values(alloc, 0u8..2), "[0,1]");
+    let pairs = Vec::from_array(alloc, [(CowStr::Borrowed("a"), 1u8)]).expect(&rt, "memory");
+    expect_some(&rt, alloc, Value::from_pairs(alloc, pairs), r#"{"a":1}"#);
+    let map = map_of(&rt, alloc, "k", BorrowedValue::null());
+    expect_some(&rt, alloc, Value::from_map(alloc, map), r#"{"k":null}"#);
     let owned = OwnedValue::from(3u8);
-    expect_made(&rt, alloc, Value::from_owned(alloc, owned)?, "3")?;
-    Ok(())
+    expect_some(&rt, alloc, Value::from_owned(alloc, owned), "3");
 }
 
-fn is_document<'i>(tape: &Tape<'i>, document: BorrowedValue<'i>) -> Result<bool, Fail> {
-    Ok(lazy(tape)? == Value::from(document))
+fn is_equal<T: PartialEq + Drop>(value: T, other: T) -> bool {
+    value == other
 }
 
 // A tape equals the document of the same bytes, which keeps the first of two equal keys.
 #[test]
-fn equal_to_its_document(rt: HostRuntime) -> Result<(), Fail> {
+fn equal_to_its_document(rt: HostRuntime) {
     let mut texts = *br#"{"a":1,"a":2}{"a":1,"a":2}"#;
     let half = texts.len() / 2;
     let (left, right) = texts.split_at_mut(half);
-    let tape = to_tape(rt.alloc(), left)?;
-    assert!(rt; is_document(&tape, to_borrowed_value(rt.alloc(), right)?)?);
-    Ok(())
+    let tape = to_tape(rt.alloc(), left).expect(&rt, "a tape");
+    let document = to_borrowed_value(rt.alloc(), right).expect(&rt, "a document");
+    if tape.is_empty() {
+        panic!(rt; "no document");
+    }
+    let value = Value::from_tape(tape.as_value());
+    expect_that(&rt, "the document", is_equal(value, Value::from(document)));
 }
 
 // Compares the value of a text with another value, as a tape and as a document.
@@ -543,22 +561,21 @@ fn same_as<T: LazyComparand>(
     json: &str,
     other: &T,
     is_same: (bool, bool),
-) -> Result<(), Fail> {
-    on_text(alloc, json, |value| {
+) {
+    on_text(rt, alloc, json, |value| {
         let of_tape = value.same_as(other);
-        assert!(rt; value.is_tape());
-        value.value_mut(alloc)?;
+        expect_that(rt, "a tape", value.is_tape());
+        value.value_mut(alloc).expect(rt, "memory");
         expect_at(rt, json, (of_tape, value.same_as(other)), is_same);
-        Ok(())
-    })
+    });
 }
 
 // Each key of the map is sought in the object. A repeated key of a tape counts as a member, and is none of the document.
 #[test]
-fn same_as_maps(rt: HostRuntime) -> Result<(), Fail> {
+fn same_as_maps(rt: HostRuntime) {
     let alloc = rt.alloc();
-    let one = map_of(alloc, "a", 1i32)?;
-    for (json, of_tape, of_document) in [
+    let mut map = map_of(&rt, alloc, "a", 1i32);
+    for (json, of_tape, of_document) in &[
         (r#"{"a":1}"#, true, true),
         (r#"{"a":2}"#, false, false),
         (r#"{"b":1}"#, false, false),
@@ -566,50 +583,39 @@ fn same_as_maps(rt: HostRuntime) -> Result<(), Fail> {
         (r#"{"a":1,"a":1}"#, false, true),
         ("[1]", false, false),
     ] {
-        same_as(&rt, alloc, json, &one, (of_tape, of_document))?;
+        same_as(&rt, alloc, json, &map, (*of_tape, *of_document));
     }
-    let mut two = one;
-    two.insert(String::from_str(alloc, "b")?, 2)?;
-    same_as(&rt, alloc, r#"{"b":2,"a":1}"#, &two, (true, true))?;
-    same_as(&rt, alloc, r#"{"a":1,"a":1}"#, &two, (false, false))
+    put(alloc, &mut map, "b", 2).expect(&rt, "memory");
+    same_as(&rt, alloc, r#"{"b":2,"a":1}"#, &map, (true, true));
+    same_as(&rt, alloc, r#"{"a":1,"a":1}"#, &map, (false, false));
 }
 
 // Fails unless the value of a text is displayed like this, as a tape and as a document.
-fn expect_both_shown(
-    rt: &impl Abort,
-    alloc: Global,
-    json: &str,
-    of_tape: &str,
-    of_document: &str,
-) -> Result<(), Fail> {
-    on_text(alloc, json, |value| {
-        expect_shown(rt, alloc, value, of_tape)?;
-        value.value_mut(alloc)?;
-        expect_shown(rt, alloc, value, of_document)?;
-        Ok(())
-    })
+fn expect_both_shown(rt: &impl Abort, alloc: Global, json: &str, of_tape: &str, of_document: &str) {
+    on_text(rt, alloc, json, |value| {
+        expect_shown(rt, alloc, value, of_tape);
+        value.value_mut(alloc).expect(rt, "memory");
+        expect_shown(rt, alloc, value, of_document);
+    });
 }
 
 #[test]
-fn shown_values(rt: HostRuntime) -> Result<(), Fail> {
+fn shown_values(rt: HostRuntime) {
     let alloc = rt.alloc();
-    for (json, shown) in [
-        ("null", "null"),
-        (" -1 ", "-1"),
-        ("1.50", "1.50"),
-        (r#""a\n\"b""#, "a\n\"b"),
-        ("[ ]", "[]"),
-        (r#"[1, "x\n", {"k": null}]"#, r#"[1,"x\n",{"k":null}]"#),
+    for (json, of_tape, of_document) in &[
+        ("null", "null", "null"),
+        (" -1 ", "-1", "-1"),
+        ("1.50", "1.50", "1.50"),
+        (r#""a\n\"b""#, "a\n\"b", "a\n\"b"),
+        ("[ ]", "[]", "[]"),
+        (
+            r#"[1, "x\n", {"k": null}]"#,
+            r#"[1,"x\n",{"k":null}]"#,
+            r#"[1,"x\n",{"k":null}]"#,
+        ),
+        (r#"{"a": 1, "a": 2}"#, r#"{"a":1,"a":2}"#, r#"{"a":1}"#),
     ] {
-        expect_both_shown(&rt, alloc, json, shown, shown)?;
+        expect_both_shown(&rt, alloc, json, of_tape, of_document);
     }
-    expect_both_shown(
-        &rt,
-        alloc,
-        r#"{"a": 1, "a": 2}"#,
-        r#"{"a":1,"a":2}"#,
-        r#"{"a":1}"#,
-    )?;
-    expect_shown(&rt, alloc, &Value::null(), "null")?;
-    Ok(())
+    expect_shown(&rt, alloc, &Value::null(), "null");
 }
