@@ -1,6 +1,6 @@
 //! The arguments of the command line.
 use clap::error::ErrorKind;
-use clap::{Arg, ArgAction, Command, Error, value_parser};
+use clap::{Arg, ArgAction, ArgMatches, Command, Error, value_parser};
 use std::alloc::{AllocError, Global};
 use std::str::FromStr;
 use std::time::Duration;
@@ -84,47 +84,57 @@ pub(crate) fn parse_arguments<'a>(
     words: &'a [String],
 ) -> Result<Arguments<'a>, Error> {
     let matches = command(alloc)?.try_get_matches_from(words)?;
-    let task = matches.get_one::<Task>("KIND");
-    let milliseconds = matches.get_one::<u64>("MILLISECONDS");
-    if let (Some(task), Some(file), Some(milliseconds)) = (
-        task,
-        matches.get_str("FILE"),
-        milliseconds,
-    ) {
-        let duration = Duration::from_millis(milliseconds);
-        return Ok(Arguments {
-            task,
-            file,
-            duration,
-        });
+    match arguments_of(&matches) {
+        Some(arguments) => Ok(arguments),
+        None => Err(missing(alloc)?),
     }
-    // Not reached: `clap` requires all three.
-    Err(command(alloc)?.error(ErrorKind::MissingRequiredArgument, "an argument is missing")?)
+}
+
+/// Returns the arguments that the matches have the values of.
+fn arguments_of<'a>(matches: &ArgMatches<'a>) -> Option<Arguments<'a>> {
+    Some(Arguments {
+        task: matches.get_one::<Task>("KIND")?,
+        file: matches.get_str("FILE")?,
+        duration: Duration::from_millis(matches.get_one::<u64>("MILLISECONDS")?),
+    })
+}
+
+/// The error of an argument that is missing. It isn't met: `clap` requires all three.
+fn missing(alloc: Global) -> Result<Error, AllocError> {
+    command(alloc)?.error(ErrorKind::MissingRequiredArgument, "an argument is missing")
 }
 
 /// The program's command. Its texts say `read_bench`, whatever the name of the program's file is.
 fn command<'a>(alloc: Global) -> Result<Command<'a>, AllocError> {
-    let kind = Arg::new(alloc, "KIND")
+    Command::new(alloc, "read_bench")
+        .bin_name("read_bench")?
+        .about(ABOUT)
+        .arg(kind_argument(alloc))?
+        .arg(file_argument(alloc))?
+        .arg(milliseconds_argument(alloc))
+}
+
+fn kind_argument<'a>(alloc: Global) -> Arg<'a> {
+    Arg::new(alloc, "KIND")
         .required(true)
         .action(ArgAction::Set)
         .value_parser(TASKS.as_slice())
         .help(
             "What a pass does with each document. compare prints one number, that of the cuts at which the two scans differ",
-        );
-    let file = Arg::new(alloc, "FILE")
+        )
+}
+
+fn file_argument<'a>(alloc: Global) -> Arg<'a> {
+    Arg::new(alloc, "FILE")
         .required(true)
         .action(ArgAction::Set)
-        .help("The documents: one if the name ends in .json, and else one a line");
-    let milliseconds = Arg::new(alloc, "MILLISECONDS")
+        .help("The documents: one if the name ends in .json, and else one a line")
+}
+
+fn milliseconds_argument<'a>(alloc: Global) -> Arg<'a> {
+    Arg::new(alloc, "MILLISECONDS")
         .required(true)
         .action(ArgAction::Set)
         .value_parser(value_parser!(u64))
-        .help("For how long passes begin");
-    let command = Command::new(alloc, "read_bench")
-        .bin_name("read_bench")?
-        .about(ABOUT)
-        .arg(kind)?
-        .arg(file)?
-        .arg(milliseconds)?;
-    Ok(command)
+        .help("For how long passes begin")
 }

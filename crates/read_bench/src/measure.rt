@@ -1,12 +1,12 @@
 //! Passes that are made again and again.
 ghost use Rattle.std.specs.Prelude.{◌≡◌, IfOk};
-ghost use Rattle.read_bench.specs.Refused.{refused_by};
+ghost use Rattle.read_bench.specs.Refused.{refused_by, tapes_refused};
 
 use crate::arguments::Kind;
 use crate::build::Form;
 use crate::passes::{Pass, PrintPass, ReadPass, ScanPass};
 use crate::stats::Stats;
-use sj_scan::{BlockScan, PlainScan};
+use sj_scan::{BlockScan, PlainScan, Stage1};
 use std::alloc::Global;
 use std::io;
 use std::time::{Clock, Duration, Instant};
@@ -38,37 +38,47 @@ pub(crate) fn measure<R: Clock>(
     ensures { IfOk result (λ m. m.refused ≡ refused_by kind documents.items) }
 {
     match kind {
-        Kind::Tape => repeat(
-            rt,
-            alloc,
-            &mut ReadPass::new(alloc, documents, BlockScan, None)?,
-            duration,
-        ),
-        Kind::Plain => repeat(
-            rt,
-            alloc,
-            &mut ReadPass::new(alloc, documents, PlainScan, None)?,
-            duration,
-        ),
-        Kind::Owned => repeat(
-            rt,
-            alloc,
-            &mut ReadPass::new(alloc, documents, BlockScan, Some(Form::Owned))?,
-            duration,
-        ),
-        Kind::Borrowed => repeat(
-            rt,
-            alloc,
-            &mut ReadPass::new(alloc, documents, BlockScan, Some(Form::Borrowed))?,
-            duration,
-        ),
-        Kind::Scan => repeat(rt, alloc, &mut ScanPass::new(alloc, documents), duration),
-        Kind::Print => {
-            let mut documents = documents;
-            let mut pass = PrintPass::read(alloc, &mut documents)?;
-            repeat(rt, alloc, &mut pass, duration)
+        Kind::Tape => time_reading(rt, alloc, BlockScan, None, documents, duration),
+        Kind::Plain => time_reading(rt, alloc, PlainScan, None, documents, duration),
+        Kind::Owned => {
+            let form = Some(Form::Owned);
+            time_reading(rt, alloc, BlockScan, form, documents, duration)
         }
+        Kind::Borrowed => {
+            let form = Some(Form::Borrowed);
+            time_reading(rt, alloc, BlockScan, form, documents, duration)
+        }
+        Kind::Scan => repeat(rt, alloc, &mut ScanPass::new(alloc, documents), duration),
+        Kind::Print => time_printing(rt, alloc, documents, duration),
     }
+}
+
+/// Makes passes that read each document with this scanner, and build a document in the form, if there is one.
+fn time_reading<R: Clock, S: Stage1 + Drop>(
+    rt: &R,
+    alloc: Global,
+    scanner: S,
+    form: Option<Form>,
+    documents: Vec<Vec<u8>>,
+    duration: Duration,
+) -> io::Result<Measured>
+    ensures { IfOk result (λ m. m.refused ≡ tapes_refused documents.items) }
+{
+    let mut pass = ReadPass::new(alloc, documents, scanner, form)?;
+    repeat(rt, alloc, &mut pass, duration)
+}
+
+/// Makes passes that print the tape of each document.
+fn time_printing<R: Clock>(
+    rt: &R,
+    alloc: Global,
+    mut documents: Vec<Vec<u8>>,
+    duration: Duration,
+) -> io::Result<Measured>
+    ensures { IfOk result (λ m. m.refused ≡ tapes_refused documents.items) }
+{
+    let mut pass = PrintPass::read(alloc, &mut documents)?;
+    repeat(rt, alloc, &mut pass, duration)
 }
 
 /// Makes the pass until the duration has gone by, at least once.
