@@ -104,9 +104,9 @@ tape_tests tests::objects::refused_pairs
 tape_tests tests::tapes::second_text_of_a_kind
 document_tests tests::keys::made_for_new_keys
 document_tests tests::keys::made_for_new_members
-lazy_tests tests::first_writes
-lazy_tests tests::first_writes_to_copies
-lazy_tests tests::value_of_a_tape
+document_tests tests::lazy::first_writes
+document_tests tests::lazy::first_writes_to_copies
+document_tests tests::lazy::value_of_a_tape
 record_tests tests::memory::edits_without_memory
 record_tests tests::memory::reloads_without_memory
 END

@@ -1,7 +1,8 @@
-//! Documents: read, edited, copied, converted, compared and shown; and known keys.
+//! Documents: read, edited, copied, converted, compared and shown; known keys; and lazy values.
 mod copies;
 mod depths;
 mod keys;
+mod lazy;
 mod members;
 mod owned;
 mod slices;
@@ -63,8 +64,8 @@ fn owned_of(rt: &impl Abort, alloc: Global, json: &str) -> OwnedValue {
     to_owned_value(alloc, &mut text).expect(rt, "a document")
 }
 
-// Looks at a value, and lets it go. It is proved once, for values of any type: code that lets a document go has to be proved for
-// each kind of document, at each place where it returns.
+// Looks at a value, and lets it go. It is proved once, for values of any type: code that lets a document or a lazy value go has to
+// be proved for each form of it, at each place where it returns.
 fn seen<T: Drop, R, F: FnOnce(&mut T) -> R + Drop>(mut value: T, look: F) -> R
     requires { F.IsAlwaysCallable look }
 {

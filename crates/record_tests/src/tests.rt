@@ -1,10 +1,11 @@
-//! Worked lines and scripts, and the display texts of errors.
+//! Worked lines and scripts, the display texts of errors, and the program.
 mod documents;
 mod faults;
 mod hostile;
 mod kept_buffers;
 mod long_lines;
 mod memory;
+mod program;
 mod readers;
 mod reloads;
 mod repeats;

@@ -2,6 +2,7 @@
 ghost use Rattle.std.specs.Prelude.{◌≡◌, Some, OnOk, OnErr};
 ghost use Rattle.sj_lazy.specs.Contents.{own_document};
 
+use super::{expect_at, expect_eq, expect_that, number_in, seen};
 use sj_base::{AccessError, StaticNode, TryCopy, TryTypeError, ValueType};
 use sj_lazy::{Held, LazyComparand, Value};
 use sj_owned::{OwnedValue, SameAs};
@@ -12,7 +13,6 @@ use sj_values::{BorrowedValue, to_borrowed_value};
 use std::alloc::{AllocError, Global};
 use std::borrow::CowStr;
 use std::collections::HashMap;
-use std::fmt::Debug;
 use std::process::Abort;
 use std::test::Fail;
 
@@ -26,14 +26,6 @@ fn lazy<'t, 'i>(tape: &'t Tape<'i>) -> Result<Value<'t, 't, 'i>, Fail> {
         return Err(Fail::new("no document"));
     }
     Ok(Value::from_tape(tape.as_value()))
-}
-
-// Looks at a value, and lets it go. It is proved once, for values of any type: code that lets a lazy value or a document go has to
-// be proved for each form of it, at each place where it returns.
-fn seen<T: Drop, R, F: FnOnce(&mut T) -> R + Drop>(mut value: T, look: F) -> R
-    requires { F.IsAlwaysCallable look }
-{
-    look(&mut value)
 }
 
 // Makes a check on the lazy value of a text. The check holds nothing that has to be dropped.
@@ -66,21 +58,6 @@ fn on_text<F: FnOnce(&mut Value<'_, '_, '_>) + Drop>(
     }
     let mut value = Value::from_tape(tape.as_value());
     check(&mut value);
-}
-
-// Fails unless both are equal. It is proved once, and an `assert_eq!` with all that its test holds.
-fn expect_eq<T: PartialEq + Debug + Drop>(rt: &impl Abort, found: T, expected: T) {
-    assert_eq!(rt; found, expected);
-}
-
-// The same of a row of a table, which it names.
-fn expect_at<T: PartialEq + Debug + Drop>(rt: &impl Abort, row: &str, found: T, expected: T) {
-    assert_eq!(rt; found, expected, "at {row}");
-}
-
-// Fails, and says what was wanted, unless it holds.
-fn expect_that(rt: &impl Abort, wanted: &str, holds: bool) {
-    assert!(rt; holds, "{wanted}");
 }
 
 // Fails unless this is the compact text of the value.
@@ -334,10 +311,6 @@ fn removed_number(rt: &impl Abort, alloc: Global, value: &mut Value<'_, '_, '_>)
     let item = value.get_idx_mut(alloc, 1).expect(rt, "memory");
     let removed = item.expect(rt, "an item").remove("b");
     number_in(removed.expect(rt, "an object"))
-}
-
-fn number_in<T: ValueAsScalar + Drop>(member: Option<T>) -> Option<u64> {
-    member?.as_u64()
 }
 
 fn clear_items(rt: &impl Abort, alloc: Global, value: &mut Value<'_, '_, '_>) {

@@ -3,11 +3,11 @@
 mod cookbook;
 mod system;
 
+use super::{expect_eq, expect_that};
 use records_program::program::program;
 use records_program::{LoadFault, read_rest};
 use sj_base::Counted;
 use std::alloc::Global;
-use std::fmt::Debug;
 use std::io;
 use std::io::{ErrorKind, Read, Write};
 use std::process::Abort;
@@ -166,16 +166,6 @@ impl<'a> Given<'a> {
         let script = self.script?;
         Ok(Vec::from_slice(alloc, script.as_bytes())?)
     }
-}
-
-// Fails unless both are equal. It is proved once, and an `assert_eq!` with all that its test holds.
-fn expect_eq<T: PartialEq + Debug + Drop>(rt: &impl Abort, found: T, expected: T) {
-    assert_eq!(rt; found, expected);
-}
-
-// Fails, and says what was wanted, unless it holds.
-fn expect_that(rt: &impl Abort, wanted: &str, holds: bool) {
-    assert!(rt; holds, "{wanted}");
 }
 
 const RUN: &[&str] = &["records", "get.json"];

@@ -1,5 +1,5 @@
 //! The words and the file that the system gives.
-use super::{expect_eq, expect_that};
+use crate::tests::{expect_eq, expect_that};
 use records_program::{LoadFault, command_line, read_file};
 use std::env::{Env, FillError};
 

@@ -1,7 +1,0 @@
-//! Tests of lazy values: worked calls, texts, and calls with ample memory.
-//!
-//! They stand in a crate of their own, since a crate with tests is proved once more with them. It has no other code.
-#![tactic(auto)]
-
-#[cfg(test)]
-mod tests;
