@@ -50,7 +50,8 @@ def watch(command):
     running = subprocess.Popen(command)
     while running.poll() is None:
         for words, start, seconds in processes():
-            seen[start] = work_of(words), seconds
+            if "--crate-name" in words:
+                seen[start] = work_of(words), seconds
         time.sleep(0.5)
     parts, edits = collections.defaultdict(collections.Counter), collections.Counter()
     for (crate, part, number), seconds in seen.values():
