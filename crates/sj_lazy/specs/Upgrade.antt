@@ -50,6 +50,11 @@ UpgradesBy of_tape of_borrowed (lazy.Value (Owned e)) d = d ≡ e
 abbrev pub Upgrades : Value → Document → Type 0
 Upgrades = UpgradesBy built_of copied_of
 
+-- What a write call leaves that is not refused: the value is made a document e first, and then has a document d of its own, and P
+-- holds of both.
+abbrev pub WritesBy : (Document → Document → Type 0) → Value → Value → Type 0
+WritesBy P old new = (e : Document) × Upgrades old e × OwnsSuch (P e) new
+
 -- the value has a document of its own with the tree of the upgrade
 abbrev pub IsUpgraded : Value → Value → Type 0
 IsUpgraded old new = OwnsSuch (λ d. document_tree d ≡ upgraded old) new

@@ -1,8 +1,8 @@
 //! Arrays of lazy values.
-ghost use Rattle.std.specs.Prelude.{◌≡◌, ◌↔◌, false, IsTrue, IfSome, Some, option_map, slice_get, length, map};
+ghost use Rattle.std.specs.Prelude.{◌≡◌, ◌↔◌, ⊤, false, IsTrue, IfSome, Some, option_map, slice_get, length, map};
 ghost use Rattle.std.specs.Cow.{cow_str_bytes};
 ghost use Rattle.std.specs.Option.{option_copied};
-ghost use Rattle.std.specs.Iterator.{YieldsFirstBy, UpTo, item_count};
+ghost use Rattle.std.specs.Iterator.{YieldsFirstBy, MakesProgress, UpTo, item_count};
 ghost use Rattle.std.specs.Iterator.SizeHint.{IsWithinCount};
 ghost use Rattle.sj_base.specs.Containers.{items_len, item_trees};
 ghost use Rattle.sj_base.specs.Path.{item_at};
@@ -112,12 +112,17 @@ impl<'b, 't, 'i> Iterator for Iter<'b, 't, 'i> {
 
     ghost use Rattle.sj_lazy.specs.Contents.{contents};
     ghost use Rattle.sj_lazy.specs.Parts.{items_left};
+    ghost use Rattle.sj_lazy.specs.Upgrade.{owns};
 
     ghost next_gives = { YieldsFirstBy contents items_left };
 
     ghost remaining = { item_count items_left };
 
-    fn next(&mut self) -> Option<Value<'b, 't, 'i>> {
+    fn next(&mut self) -> Option<Value<'b, 't, 'i>>
+        ensures steps { YieldsFirstBy contents items_left self.old result self.new }
+        ensures goes { MakesProgress (λ _. ⊤) (item_count items_left) self.old result self.new }
+        ensures held { IfSome result (λ v. owns v ≡ false) }
+    {
         match self {
             Iter::Tape(items) => Some(Value::Tape(items.next()?)),
             Iter::Value(items) => Some(Value::borrowed(items.next()?)),

@@ -1,14 +1,15 @@
 //! Write calls. Each makes a document of a tape first, and copies a document that is only borrowed.
-ghost use Rattle.std.specs.Prelude.{◌≡◌, false, Some, Err, IsNone, IfOk, IfErr, OnOk, OnErr, option_map};
+ghost use Rattle.std.specs.Prelude.{◌≡◌, ◌∷◌, [], ◌++◌, false, Some, Err, IsNone, IfOk, IfErr, OnOk, OnErr, option_map};
 ghost use Rattle.std.specs.Cow.{cow_str_bytes};
 ghost use Rattle.std.specs.Borrow.{sem};
 ghost use Rattle.std.specs.Option.{option_copied_mut};
 ghost use Rattle.sj_base.specs.Containers.{items_in, members_in};
 ghost use Rattle.sj_base.specs.Edit.{last_item};
 ghost use Rattle.sj_base.specs.Path.{child, key as key_part};
+ghost use Rattle.sj_object.specs.Pairs.{value_at, put_key, drop_key};
 ghost use Rattle.sj_owned.specs.Parts.{member_of, item_of};
-ghost use Rattle.sj_owned.specs.Views.{array_inside, members_inside};
-ghost use Rattle.sj_owned.specs.Edits.{with_member, without_member, with_item, without_last, refusal};
+ghost use Rattle.sj_owned.specs.Views.{array_inside, items_inside, members_inside};
+ghost use Rattle.sj_owned.specs.Edits.{with_member, without_member, with_item, without_last, refusal, last_of, before_last};
 
 use crate::held::Held;
 use crate::value::{TapeOrDocument, Value};
@@ -128,7 +129,7 @@ fn refuse<T: Drop, U>(_handed_in: T, error: AccessError) -> Result<U, AccessErro
 
 impl<'i> Value<'_, '_, 'i> {
     ghost use Rattle.sj_lazy.specs.Contents.{Document};
-    ghost use Rattle.sj_lazy.specs.Upgrade.{OwnsSuch, Upgrades, Refuses, upgraded};
+    ghost use Rattle.sj_lazy.specs.Upgrade.{OwnsSuch, Upgrades, WritesBy, Refuses, upgraded};
     ghost use Rattle.sj_lazy.specs.Views.{document_tree};
 
     /// Replaces the value of this key and returns the old one. A new key goes last, and the result is `None`.
@@ -148,6 +149,8 @@ impl<'i> Value<'_, '_, 'i> {
             ≡ with_member (upgraded self.old) (cow_str_bytes key.entry) (document_tree value.entry)) self.new) }
         ensures replaced { IfOk result (λ old. option_map document_tree old
             ≡ child (upgraded self.old) (key_part (cow_str_bytes key.entry))) }
+        ensures document { IfOk result (λ old. WritesBy (λ e d. (old ≡ member_of cow_str_bytes e (cow_str_bytes key.entry))
+            × (members_inside d ≡ option_map (λ es. put_key cow_str_bytes es key.entry value.entry) (members_inside e))) self.old self.new) }
         ensures err { IfErr result (Refuses (λ e. e ≡ refusal AccessError.NotAnObject (members_in (upgraded self.old))) self.old self.new) }
     {
         let Ok(document) = self.value_mut(alloc) else {
@@ -171,6 +174,8 @@ impl<'i> Value<'_, '_, 'i> {
             ≡ without_member (upgraded self.old) key.now) self.new) }
         ensures value { IfOk result (λ old. option_map document_tree old
             ≡ child (upgraded self.old) (key_part key.now)) }
+        ensures document { IfOk result (λ old. WritesBy (λ e d. (Some old ≡ option_map (λ es. value_at cow_str_bytes es key.now) (members_inside e))
+            × (members_inside d ≡ option_map (λ es. drop_key cow_str_bytes es key.now) (members_inside e))) self.old self.new) }
         ensures err { IfErr result (Refuses (λ e. (e ≡ AccessError.NotAnObject) × IsNone (members_in (upgraded self.old))) self.old self.new) }
     {
         let Ok(document) = self.value_mut(alloc) else {
@@ -188,6 +193,8 @@ impl<'i> Value<'_, '_, 'i> {
     pub fn push(&mut self, alloc: Global, value: BorrowedValue<'i>) -> Result<(), AccessError>
         ensures ok { OnOk result (OwnsSuch (λ d. Some (document_tree d)
             ≡ with_item (upgraded self.old) (document_tree value.entry)) self.new) }
+        ensures document { OnOk result (WritesBy (λ e d. items_inside d
+            ≡ option_map (λ vs. vs ++ value.entry ∷ []) (items_inside e)) self.old self.new) }
         ensures err { IfErr result (Refuses (λ e. e ≡ refusal AccessError.NotAnArray (items_in (upgraded self.old))) self.old self.new) }
     {
         let Ok(document) = self.value_mut(alloc) else {
@@ -207,6 +214,8 @@ impl<'i> Value<'_, '_, 'i> {
             ≡ without_last (upgraded self.old)) self.new) }
         ensures value { IfOk result (λ old. Some (option_map document_tree old)
             ≡ option_map last_item (items_in (upgraded self.old))) }
+        ensures document { IfOk result (λ old. WritesBy (λ e d. (Some old ≡ option_map last_of (items_inside e))
+            × (items_inside d ≡ option_map before_last (items_inside e))) self.old self.new) }
         ensures err { IfErr result (Refuses (λ e. (e ≡ AccessError.NotAnArray) × IsNone (items_in (upgraded self.old))) self.old self.new) }
     {
         let Ok(document) = self.value_mut(alloc) else {

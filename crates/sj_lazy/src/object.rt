@@ -1,8 +1,8 @@
 //! Objects of lazy values.
-ghost use Rattle.std.specs.Prelude.{◌≡◌, ◌↔◌, false, IsTrue, IfSome, Some, option_map, length, map};
+ghost use Rattle.std.specs.Prelude.{◌≡◌, ◌↔◌, ⊤, false, IsTrue, IfSome, Some, option_map, length, map};
 ghost use Rattle.std.specs.Cow.{cow_str_bytes};
 ghost use Rattle.std.specs.Option.{option_copied};
-ghost use Rattle.std.specs.Iterator.{YieldsFirstBy, UpTo, item_count};
+ghost use Rattle.std.specs.Iterator.{YieldsFirstBy, MakesProgress, UpTo, item_count};
 ghost use Rattle.std.specs.Iterator.SizeHint.{IsWithinCount};
 ghost use Rattle.sj_base.specs.Containers.{members_len, member_pairs};
 ghost use Rattle.sj_base.specs.Path.{member_at};
@@ -139,12 +139,17 @@ impl<'b, 't, 'i: 'b> Iterator for Iter<'b, 't, 'i> {
 
     ghost use Rattle.sj_lazy.specs.Contents.{contents};
     ghost use Rattle.sj_lazy.specs.Parts.{pairs_left};
+    ghost use Rattle.sj_lazy.specs.Upgrade.{owns};
 
     ghost next_gives = { YieldsFirstBy (λ p. (p.0.now, contents p.1)) pairs_left };
 
     ghost remaining = { item_count pairs_left };
 
-    fn next(&mut self) -> Option<(&'b str, Value<'b, 't, 'i>)> {
+    fn next(&mut self) -> Option<(&'b str, Value<'b, 't, 'i>)>
+        ensures steps { YieldsFirstBy (λ p. (p.0.now, contents p.1)) pairs_left self.old result self.new }
+        ensures goes { MakesProgress (λ _. ⊤) (item_count pairs_left) self.old result self.new }
+        ensures held { IfSome result (λ p. owns p.1 ≡ false) }
+    {
         match self {
             Iter::Tape(members) => {
                 let (key, value) = members.next()?;
@@ -238,12 +243,17 @@ impl<'b, 't, 'i: 'b> Iterator for Values<'b, 't, 'i> {
 
     ghost use Rattle.sj_lazy.specs.Contents.{contents};
     ghost use Rattle.sj_lazy.specs.Parts.{values_left};
+    ghost use Rattle.sj_lazy.specs.Upgrade.{owns};
 
     ghost next_gives = { YieldsFirstBy contents values_left };
 
     ghost remaining = { item_count values_left };
 
-    fn next(&mut self) -> Option<Value<'b, 't, 'i>> {
+    fn next(&mut self) -> Option<Value<'b, 't, 'i>>
+        ensures steps { YieldsFirstBy contents values_left self.old result self.new }
+        ensures goes { MakesProgress (λ _. ⊤) (item_count values_left) self.old result self.new }
+        ensures held { IfSome result (λ v. owns v ≡ false) }
+    {
         match self {
             Values::Tape(values) => Some(Value::Tape(values.next()?)),
             Values::Value(values) => Some(Value::borrowed(values.next()?)),

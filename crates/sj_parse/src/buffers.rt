@@ -26,8 +26,8 @@ pub struct Buffers {
 impl Buffers {
     /// Creates buffers with the limit [`DEFAULT_MAX_DEPTH`], in levels. Port of `simd_json::Buffers::new`.
     ///
-    /// `input_len` is the expected length of a text in bytes. Room for one position in 128 bytes is reserved at once;
-    /// reading a text that has more reserves more.
+    /// `input_len` is the expected length of a text in bytes. Room for one position in 128 bytes is reserved at once.
+    /// Reading a text reserves room for as many positions as it has bytes.
     ///
     /// # Errors
     ///

@@ -45,6 +45,9 @@ returns-in-Err-2-clause-stands g c = Running-failed (task_job c.args.task) _ _ _
 pub returns-in-Err-2-clause-at_end : goal.returns-in-Err-2-clause-at_end
 returns-in-Err-2-clause-at_end g c = tt
 
+pub returns-in-Err-2-clause-texts : goal.returns-in-Err-2-clause-texts
+returns-in-Err-2-clause-texts g c = tt
+
 pub returns-in-Err-2-clause-reads : goal.returns-in-Err-2-clause-reads
 returns-in-Err-2-clause-reads g c = search rules
 
