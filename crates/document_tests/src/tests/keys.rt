@@ -73,6 +73,31 @@ fn lookup_or_insert(rt: HostRuntime) {
     });
 }
 
+// Writes through what each look-up returns, of a key that is there and of one that is new: first in the document {"a":1}, and
+// then in its object.
+fn expect_put(rt: &impl Abort, alloc: Global, document: &mut BorrowedValue<'_>) {
+    for &(text, number) in &[("a", 2u8), ("b", 3)] {
+        let key = KnownKey::from(text);
+        let found = key.lookup_or_insert_mut(alloc, document, || BorrowedValue::null());
+        overwrite(found.expect(rt, "memory"), BorrowedValue::from(number));
+    }
+    expect_text(rt, alloc, document, r#"{"a":2,"b":3}"#);
+    let members = document.as_object_mut().expect(rt, "an object");
+    for &(text, number) in &[("a", 4u8), ("c", 5)] {
+        let key = KnownKey::from(text);
+        let found = key.map_lookup_or_insert_mut(alloc, members, || BorrowedValue::null());
+        overwrite(found.expect(rt, "memory"), BorrowedValue::from(number));
+    }
+    expect_text(rt, alloc, document, r#"{"a":4,"b":3,"c":5}"#);
+}
+
+#[test]
+fn written_where_looked_up(rt: HostRuntime) {
+    on_borrowed(&rt, rt.alloc(), r#"{"a":1}"#, |document| {
+        expect_put(&rt, rt.alloc(), document);
+    });
+}
+
 #[test]
 fn look_up_in_no_object(rt: HostRuntime) {
     let key = KnownKey::from("b");

@@ -83,6 +83,11 @@ fn expect_made(rt: &impl Abort, alloc: Global, value: Value<'_, '_, '_>, text: &
     expect_text(rt, alloc, &value, text);
 }
 
+// The same of the member that `get` finds.
+fn expect_member(rt: &impl Abort, alloc: Global, value: &Value<'_, '_, '_>, key: &str, text: &str) {
+    expect_made(rt, alloc, value.get(key).expect(rt, "a member"), text);
+}
+
 // Fails unless the value is displayed like this.
 fn expect_shown(rt: &impl Abort, alloc: Global, value: &Value<'_, '_, '_>, shown: &str) {
     let text = value.to_string(alloc).expect(rt, "memory");
@@ -93,13 +98,13 @@ fn expect_shown(rt: &impl Abort, alloc: Global, value: &Value<'_, '_, '_>, shown
 fn upgrade_on_insert(rt: HostRuntime) {
     let alloc = rt.alloc();
     on_text(&rt, alloc, r#"{"key": "value", "snot": 42}"#, |value| {
-        expect_eq(&rt, value.get_str("key"), Some("value"));
+        expect_member(&rt, alloc, value, "key", r#""value""#);
         expect_eq(&rt, (value.is_tape(), value.is_value()), (true, false));
         let inserted = value.insert(alloc, CowStr::Borrowed("new"), BorrowedValue::from(42u64));
         expect_that(&rt, "a new key", is_nothing(inserted));
         expect_eq(&rt, (value.is_tape(), value.is_value()), (false, true));
-        expect_eq(&rt, value.get_str("key"), Some("value"));
-        expect_eq(&rt, value.get_u64("new"), Some(42));
+        expect_member(&rt, alloc, value, "key", r#""value""#);
+        expect_member(&rt, alloc, value, "new", "42");
         expect_text(&rt, alloc, value, r#"{"key":"value","snot":42,"new":42}"#);
     });
 }
@@ -123,6 +128,31 @@ fn typed_reads(rt: HostRuntime) {
             got: ValueType::Array,
         };
         expect_eq(&rt, value.try_get_bool("x"), Err(array_met));
+    });
+}
+
+// The types of the items of [5,-5,1.5,"a"].
+fn expect_types(rt: &impl Abort, value: &Value<'_, '_, '_>) {
+    for &(place, kind) in &[
+        (0, ValueType::U64),
+        (1, ValueType::I64),
+        (2, ValueType::Decimal),
+        (3, ValueType::String),
+    ] {
+        let item = value.get_idx(place).expect(rt, "an item");
+        expect_eq(rt, item.value_type(), kind);
+    }
+}
+
+// An upgrade leaves each integer in its carrier.
+#[test]
+fn upgrade_keeps_types(rt: HostRuntime) {
+    let alloc = rt.alloc();
+    on_text(&rt, alloc, r#"[5,-5,1.5,"a"]"#, |value| {
+        expect_types(&rt, value);
+        value.value_mut(alloc).expect(&rt, "memory");
+        expect_that(&rt, "a document", value.is_value());
+        expect_types(&rt, value);
     });
 }
 
@@ -179,22 +209,19 @@ impl Lending {
     }
 }
 
-// Makes one of these calls on the tape of {"a":1,"a":2}.
+// Makes one of these calls on the tape of a text, which leaves the document of another one.
 fn expect_upgraded(
     rt: &impl Abort,
     alloc: Global,
     call: Lending,
     value: &mut Value<'_, '_, '_>,
+    text: &str,
+    left: &str,
 ) -> Result<(), AllocError> {
     let is_made = call.is_made(value, alloc);
     let forms = (value.is_value(), value.is_tape());
-    assert_eq!(rt; forms, (is_made, !is_made), "{call:?}");
-    let left = if is_made {
-        r#"{"a":1}"#
-    } else {
-        r#"{"a":1,"a":2}"#
-    };
-    try_expect_text(rt, alloc, value, left)
+    assert_eq!(rt; forms, (is_made, !is_made), "{call:?} on {text}");
+    try_expect_text(rt, alloc, value, if is_made { left } else { text })
 }
 
 // Each of these calls as the first one on a tape, whatever it finds. If the upgrade lacks memory, as
@@ -202,11 +229,16 @@ fn expect_upgraded(
 #[test]
 fn first_writes(rt: HostRuntime) -> Result<(), Fail> {
     let alloc = rt.alloc();
-    for call in LENDINGS {
-        try_on_text(alloc, r#"{"a":1,"a":2}"#, |value| {
-            expect_upgraded(&rt, alloc, call, value)?;
-            Ok(())
-        })?;
+    for &(text, left) in &[
+        (r#"{"a":1,"a":2}"#, r#"{"a":1}"#),
+        (r#"[{"a":1,"a":2}]"#, r#"[{"a":1}]"#),
+    ] {
+        for &call in &LENDINGS {
+            try_on_text(alloc, text, |value| {
+                expect_upgraded(&rt, alloc, call, value, text, left)?;
+                Ok(())
+            })?;
+        }
     }
     Ok(())
 }

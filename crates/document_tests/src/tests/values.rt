@@ -11,6 +11,7 @@ use sj_parse::{Buffers, Deserializer};
 use sj_reads::ValueAsScalar;
 use sj_values::{BorrowDeserializer, BorrowedValue, to_borrowed_value_with_buffers};
 use std::alloc::Global;
+use std::borrow::CowStr;
 use std::process::Abort;
 
 #[test]
@@ -132,10 +133,21 @@ fn expect_as_they_stand(rt: &impl Abort, value: &BorrowedValue<'_>) {
     expect_that(rt, "a borrowed literal", is_borrowed);
 }
 
+// So has each key.
+fn expect_keys_as_they_stand(rt: &impl Abort, value: &BorrowedValue<'_>) {
+    let members = value.as_object().expect(rt, "an object");
+    for key in members.keys() {
+        expect_that(rt, "a borrowed key", matches!(key, CowStr::Borrowed(_)));
+    }
+}
+
 #[test]
 fn read_as_they_stand(rt: HostRuntime) {
     on_borrowed(&rt, rt.alloc(), r#"[5,-5,"a","\u0061",1.5]"#, |value| {
         expect_as_they_stand(&rt, value);
+    });
+    on_borrowed(&rt, rt.alloc(), r#"{"a":1,"\u0062":2}"#, |value| {
+        expect_keys_as_they_stand(&rt, value);
     });
 }
 

@@ -200,14 +200,17 @@ fn padding_of_any_bytes(rt: HostRuntime) {
 }
 
 #[test]
-fn padding_that_is_missing(rt: HostRuntime) {
+fn lengths_that_are_refused(rt: HostRuntime) {
     let mut buffers = Buffers::new(rt.alloc(), 2).expect(&rt, "memory");
-    for (size, len) in &[(65, 2), (66, 70)] {
-        let mut text = padded(rt.alloc(), *size, b' ').expect(&rt, "memory");
+    for &(size, len, kind) in &[
+        (65, 2, ErrorType::InsufficientPadding),
+        (66, 70, ErrorType::InsufficientPadding),
+        (66, 4294967296, ErrorType::InputTooLarge),
+    ] {
+        let mut text = padded(rt.alloc(), size, b' ').expect(&rt, "memory");
         let mut tape = Tape::empty(rt.alloc());
-        let fault = fill_tape_padded(&mut text, *len, &mut buffers, &mut tape).err();
-        let missing = Error::generic(ErrorType::InsufficientPadding);
-        expect_eq(&rt, fault, Some(missing));
+        let fault = fill_tape_padded(&mut text, len, &mut buffers, &mut tape).err();
+        expect_eq(&rt, fault, Some(Error::generic(kind)));
     }
 }
 
