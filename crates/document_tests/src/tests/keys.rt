@@ -7,7 +7,8 @@ ghost use Rattle.sj_owned.specs.Parts.{member_of};
 ghost use Rattle.sj_owned.specs.Views.{value_tree};
 
 use super::{
-    expect_eq, expect_text, expect_that, is_nothing, number_in, on_borrowed, overwrite, seen,
+    expect_eq, expect_text, expect_that, is_nothing, number_in, on_borrowed, overwrite, owned_of,
+    seen,
 };
 use sj_base::{TryCopy, ValueType};
 use sj_keys::{KnownKey, KnownKeyError, KnownKeyTarget, KnownKeyTargetMut};
@@ -75,25 +76,25 @@ fn lookup_or_insert(rt: HostRuntime) {
 
 // Writes through what each look-up returns, of a key that is there and of one that is new: first in the document {"a":1}, and
 // then in its object.
-fn expect_put(rt: &impl Abort, alloc: Global, document: &mut BorrowedValue<'_>) {
+fn expect_put(rt: &impl Abort, alloc: Global, document: &mut OwnedValue) {
     for &(text, number) in &[("a", 2u8), ("b", 3)] {
         let key = KnownKey::from(text);
-        let found = key.lookup_or_insert_mut(alloc, document, || BorrowedValue::null());
-        overwrite(found.expect(rt, "memory"), BorrowedValue::from(number));
+        let found = key.lookup_or_insert_mut(alloc, document, || OwnedValue::null());
+        overwrite(found.expect(rt, "memory"), OwnedValue::from(number));
     }
     expect_text(rt, alloc, document, r#"{"a":2,"b":3}"#);
     let members = document.as_object_mut().expect(rt, "an object");
     for &(text, number) in &[("a", 4u8), ("c", 5)] {
         let key = KnownKey::from(text);
-        let found = key.map_lookup_or_insert_mut(alloc, members, || BorrowedValue::null());
-        overwrite(found.expect(rt, "memory"), BorrowedValue::from(number));
+        let found = key.map_lookup_or_insert_mut(alloc, members, || OwnedValue::null());
+        overwrite(found.expect(rt, "memory"), OwnedValue::from(number));
     }
     expect_text(rt, alloc, document, r#"{"a":4,"b":3,"c":5}"#);
 }
 
 #[test]
 fn written_where_looked_up(rt: HostRuntime) {
-    on_borrowed(&rt, rt.alloc(), r#"{"a":1}"#, |document| {
+    seen(owned_of(&rt, rt.alloc(), r#"{"a":1}"#), |document| {
         expect_put(&rt, rt.alloc(), document);
     });
 }
