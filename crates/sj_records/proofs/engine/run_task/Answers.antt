@@ -42,15 +42,6 @@ returns-in_err-process_piece-in-Ok-clause-stands g c =
 pub returns-in-Err-2-clause-stands : goal.returns-in-Err-2-clause-stands
 returns-in-Err-2-clause-stands g c = Running-failed (task_job c.args.task) _ _ _ _ _ _ _ c.loop.pending.line.items c.loop.invariant.running c.in-Err-2.ensures.bytes
 
-pub returns-in-Err-2-clause-at_end : goal.returns-in-Err-2-clause-at_end
-returns-in-Err-2-clause-at_end g c = tt
-
-pub returns-in-Err-2-clause-texts : goal.returns-in-Err-2-clause-texts
-returns-in-Err-2-clause-texts g c = tt
-
-pub returns-in-Err-2-clause-reads : goal.returns-in-Err-2-clause-reads
-returns-in-Err-2-clause-reads g c = search rules
-
 pub loop-preserved : goal.loop-preserved
 loop-preserved g c =
     let so_far = c.loop.invariant in
