@@ -168,4 +168,3 @@ returns-in_ok-node-in-Literal-clause-carriers c = λ ts before.
 pub returns-in_ok-node-in-Number-clause-carriers : goal.returns-in_ok-node-in-Number-clause-carriers
 returns-in_ok-node-in-Number-clause-carriers c = λ ts before.
     c.add_scalar-in-Number.ensures.carriers ts (the_token c.args.place c.args.skip before c.args.rest.now c.requires.within) (number_makes c.args.place c.args.skip before c.args.rest.now c.requires.within c.in-Number.ensures.2) (word_node c.args.place c.args.skip before c.args.rest.now c.requires.within _ c.in_ok-node-in-Number.node c.in-Number.ensures.2 c.take_word-shape.ensures.word c.in_ok-node-in-Number.ensures).carries
-
