@@ -1,6 +1,6 @@
 -- The letter says which escape it is.
 use Rattle.std.proofs.Common.{◌≡◌, ◌≢◌, ℕ, List, [], ◌∷◌, length, refl, ap, sym, ◌∙◌, subst, arith}
-use Rattle.std.specs.Prelude.{Result, Ok, Err, Option, Some, None, MatchResult}
+use Rattle.std.specs.Prelude.{Result, Ok, Err, Some, None, MatchResult}
 use Rattle.std.proofs.lemmas.Bool.{ne_eqb}
 use Rattle.sj_base.specs.Characters.{short_character}
 use Rattle.sj_parse.specs.declared.descent_fault.DescentKind.{DescentKind}
