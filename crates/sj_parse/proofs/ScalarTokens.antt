@@ -80,7 +80,7 @@ string_fault t s is bad = string_stop t is ∙ ap (λ (p : ℕ). bad_escape p t.
 abbrev pub BeginsNumber : ℕ → Type 0
 BeginsNumber b = (b ≡ 0x2d) ⊎ (is_ascii_digit b ≡ true)
 
-number_range : (b : ℕ) → BeginsNumber b → (45 ≤ b) × (b ≤ 57)
+pub number_range : (b : ℕ) → BeginsNumber b → (45 ≤ b) × (b ≤ 57)
 number_range b (inl is) = (omega arith, omega arith)
 number_range b (inr is) = let digit = from_test b is in (omega arith, omega arith)
 

@@ -11,7 +11,6 @@ use Rattle.sj_parse.specs.declared.stage_two.State.TheVariants.{Value, FirstItem
 use Rattle.sj_parse.specs.declared.stage_two.Role.{Role}
 use Rattle.sj_parse.specs.declared.stage_two.Role.TheVariants as role
 use Rattle.sj_parse.specs.Token.{Token}
-use Rattle.sj_parse.specs.Escapes.{stop}
 use Rattle.sj_parse.specs.Descent.{scalar_stop}
 use Rattle.sj_parse.specs.Nodes.{makes_node}
 use Rattle.sj_parse.specs.inside.Trees.{Reading, decoded}

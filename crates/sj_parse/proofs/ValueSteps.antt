@@ -1,8 +1,8 @@
 -- What the code reads of a value is a case of the descent.
 use Rattle.std.proofs.Common.{◌≡◌, ◌⊎◌, inl, inr, ℕ, suc, ◌+◌, ◌<◌, ◌≤◌, ◌-◌, Bool, true, false, List, length, drop, take, length-drop, Some, None, Err, refl, sym, ap, ◌∙◌, arith, subst}
-use Rattle.std.specs.Prelude.{◌==◌, if◌then◌else◌, slice_index}
+use Rattle.std.specs.Prelude.{◌||◌, not, ◌==◌, if◌then◌else◌, slice_index}
 use Rattle.std.proofs.Math.Seq.{take-length}
-use Rattle.std.proofs.lemmas.Bool.{eq-eqb}
+use Rattle.std.proofs.lemmas.Bool.{eq-eqb, ne_eqb}
 use Rattle.sj_parse.specs.declared.descent_fault.DescentKind.{DescentKind}
 use Rattle.sj_parse.specs.declared.descent_fault.DescentKind.TheVariants.{Syntax, InvalidNumber}
 use Rattle.sj_tape.specs.Listing.{string_entry}
@@ -13,13 +13,13 @@ use Rattle.sj_parse.specs.Token.{Token, word}
 use Rattle.sj_parse.specs.Escapes.{stop, bad_escape}
 use Rattle.sj_base.specs.NumberTests.{is_number, is_negative}
 use Rattle.sj_parse.specs.Descent.{begins_scalar, scalar_stop}
-use Rattle.sj_parse.specs.Nodes.{HasCarrier}
+use Rattle.sj_parse.specs.Nodes.{makes_node, HasCarrier}
 use Rattle.sj_parse.specs.inside.Trees.{decoded, token_tree}
 use Rattle.sj_parse.specs.inside.NumberNode.{IsNumberNode}
 use Rattle.sj_parse.specs.inside.Machine.{Waiting, first_item, first_member, after_value, reading}
 use Rattle.sj_parse.specs.inside.Step.{string_body, token_of, value_from, IsScalarNode, reach}
 use Rattle.sj_parse.proofs.Machine.{value-list, value-deep_list, value-object, value-deep_object, value-scalar, value-bad_scalar, value-none, resume-after_value}
-use Rattle.sj_parse.proofs.ScalarTokens.{token_byte, string_text, word_text, string_node, string_fault, BeginsNumber, number_no_operator, number_no_quote, number_node-is, number_fault, first_of_word, node_number}
+use Rattle.sj_parse.proofs.ScalarTokens.{token_byte, string_text, word_text, string_node, string_fault, BeginsNumber, number_range, number_no_operator, number_no_quote, number_node-is, number_fault, first_of_word, node_number}
 
 module _ (place skip : ℕ) (before bs : List ℕ) (within : skip < length bs) where
   abbrev pub the_token : Token
@@ -33,6 +33,25 @@ module _ (place skip : ℕ) (before bs : List ℕ) (within : skip < length bs) w
 
   pub same_test : (k : ℕ) (v : Bool) → (first == k) ≡ v → ((the_token).byte == k) ≡ v
   same_test k v is = ap (λ (b : ℕ). b == k) same ∙ is
+
+  -- ---- nodes
+
+  abbrev byte_makes : ℕ → Bool
+  byte_makes b = not (b == 0x5d || b == 0x7d || b == 0x3a || b == 0x2c)
+
+  pub makes : (k : ℕ) → first ≡ k → byte_makes k ≡ true → makes_node the_token ≡ true
+  makes k is one = ap byte_makes (same ∙ is) ∙ one
+
+  pub letter_makes : (first ≡ 0x74) ⊎ ((first ≡ 0x66) ⊎ (first ≡ 0x6e)) → makes_node the_token ≡ true
+  letter_makes (inl is) = makes 0x74 is refl
+  letter_makes (inr (inl is)) = makes 0x66 is refl
+  letter_makes (inr (inr is)) = makes 0x6e is refl
+
+  pub number_makes : BeginsNumber first → makes_node the_token ≡ true
+  number_makes is =
+      let r = number_range first is in
+      ap byte_makes same
+      ∙ rw (ne_eqb first 0x5d (λ e. omega arith), ne_eqb first 0x7d (λ e. omega arith), ne_eqb first 0x3a (λ e. omega arith), ne_eqb first 0x2c (λ e. omega arith)) refl
 
   -- ---- strings
 
