@@ -1,9 +1,8 @@
 -- The search for a repeated key.
-use Rattle.std.proofs.Common.{◌≡◌, ℕ, ◌+◌, Bool, true, false, cond, ◌||◌, List, [], ◌∷◌, ◌++◌, Option, Some, None, map, bytes_eq, add-one, refl, sym, ap, ◌∙◌}
+use Rattle.std.proofs.Common.{◌≡◌, ℕ, ◌+◌, Bool, true, false, cond, ◌||◌, List, [], ◌∷◌, ◌++◌, Option, None, map, bytes_eq, add-one, refl, sym, ap, ◌∙◌}
 use Rattle.std.specs.List.{list_any}
-use Rattle.std.specs.Prelude.{Result, Ok, Err, IfOk, option_map, reverse}
+use Rattle.std.specs.Prelude.{reverse}
 use Rattle.std.proofs.lemmas.List.{map-append, reverse-append}
-use Rattle.sj_base.specs.Path.{key, place}
 use Rattle.sj_base.specs.Tree.{Tree, Items, item, Members, member}
 use Rattle.sj_tape.specs.Repeats.{Repetition, is_among, repeated, repeated_in_items, repeated_in_members}
 
@@ -41,29 +40,6 @@ pub next_member : (earlier later : List (List ℕ)) (all : Option Repetition) (u
 next_member earlier later all us k t ms e is new none last =
     let past : repeated_in_members earlier (member k t ms) ≡ repeated_in_members (earlier ++ k ∷ []) ms = rw (new, none) refl in
     e ∙ ap (λ (vs : Members). repeated_in_members earlier vs) is ∙ past ∙ ap (λ (ks : List (List ℕ)). repeated_in_members ks ms) (sym last)
-
--- ---- what is found in a child is found in the value
-
-pub found_item : (n : ℕ) (all : Option Repetition) (us : Items) (t : Tree) (ts : Items) (r : Repetition) → all ≡ repeated_in_items n us → us ≡ item t ts → repeated t ≡ Some r → all ≡ Some (place n ∷ r.0, r.1)
-found_item n all us t ts r e is found =
-    let here : repeated_in_items n (item t ts) ≡ Some (place n ∷ r.0, r.1) = rw found refl in
-    e ∙ ap (λ (vs : Items). repeated_in_items n vs) is ∙ here
-
-pub found_member : (earlier : List (List ℕ)) (all : Option Repetition) (us : Members) (k : List ℕ) (t : Tree) (ms : Members) (r : Repetition) → all ≡ repeated_in_members earlier us → us ≡ member k t ms → is_among k earlier ≡ false → repeated t ≡ Some r → all ≡ Some (key k ∷ r.0, r.1)
-found_member earlier all us k t ms r e is new found =
-    let here : repeated_in_members earlier (member k t ms) ≡ Some (key k ∷ r.0, r.1) = rw (new, found) refl in
-    e ∙ ap (λ (vs : Members). repeated_in_members earlier vs) is ∙ here
-
-pub found_key : (earlier : List (List ℕ)) (all : Option Repetition) (us : Members) (k : List ℕ) (t : Tree) (ms : Members) → all ≡ repeated_in_members earlier us → us ≡ member k t ms → is_among k earlier ≡ true → all ≡ Some ([], k)
-found_key earlier all us k t ms e is met =
-    let here : repeated_in_members earlier (member k t ms) ≡ Some ([], k) = rw met refl in
-    e ∙ ap (λ (vs : Members). repeated_in_members earlier vs) is ∙ here
-
--- a result that is something says nothing about the case of `None`
-pub if_none : {A B E : Type 0} (P : Type 0) (f : A → B) (r : Result (Option A) E) (y : B) → IfOk r (λ found. option_map f found ≡ Some y) → IfOk r (λ found. found ≡ None → P)
-if_none P f (Ok None) y some = absurd cc
-if_none P f (Ok (Some x)) y some = λ none. absurd cc
-if_none P f (Err e) y some = tt
 
 -- ---- paths
 

@@ -1,5 +1,4 @@
-use Rattle.std.proofs.Common.{arith, Option, Some, None, sym, ap, ◌≡◌, ◌∙◌}
-use Rattle.std.proofs.lemmas.Result.{IfOk-from_err, IfOk-weaker}
+use Rattle.std.proofs.Common.{arith, Option, None, sym, ap, ◌≡◌, ◌∙◌}
 use Rattle.std.specs.Prelude.{drop, option_map}
 use Rattle.sj_base.specs.Tree.{Items, Members}
 use Rattle.sj_base.specs.Containers.{items_len}
@@ -8,7 +7,7 @@ use Rattle.sj_tape.specs.Repeats.{repeated, repeated_in_items, repeated_in_membe
 use Rattle.sj_tape.specs.Views.{value_tree, array_items, object_members}
 use Rattle.sj_tape.specs.inside.Earlier.{growing, texts}
 use Rattle.sj_tape.proofs.Printing.{fewer_items, fewer_members, nested_item, nested_member}
-use Rattle.sj_tape.proofs.Repeating.{next_item, next_member, found_item, found_member, found_key, if_none}
+use Rattle.sj_tape.proofs.Repeating.{next_item, next_member}
 use Rattle.sj_tape.proofs.repeat.+search.Goals as goal
 
 pub first_in_items-first_in-requires : goal.first_in_items-first_in-requires
@@ -65,51 +64,3 @@ first_in_members-returns-clause-found t c =
 
 pub first_in_members-returns-clause-keys : goal.first_in_members-returns-clause-keys
 first_in_members-returns-clause-keys t c = λ _. c.truncate.ensures.items ∙ c.loop-key.invariant.2
-
-pub first_in_items-returns-in_err-found : goal.first_in_items-returns-in_err-found
-first_in_items-returns-in_err-found t c = record {
-  found = IfOk-from_err _ _ c.from_residual.ensures.0;
-  keys = IfOk-from_err _ _ c.from_residual.ensures.0;
-}
-
-pub first_in_members-returns-in_err-listed : goal.first_in_members-returns-in_err-listed
-first_in_members-returns-in_err-listed t c = record {
-  found = IfOk-from_err _ _ c.from_residual.ensures.0;
-  keys = IfOk-from_err _ _ c.from_residual.ensures.0;
-}
-
-pub first_in_members-returns-in_err-repeat : goal.first_in_members-returns-in_err-repeat
-first_in_members-returns-in_err-repeat t c = record {
-  found = IfOk-from_err _ _ c.from_residual-in_err-repeat.ensures.0;
-  keys = IfOk-from_err _ _ c.from_residual-in_err-repeat.ensures.0;
-}
-
-pub first_in_members-returns-in_err-found : goal.first_in_members-returns-in_err-found
-first_in_members-returns-in_err-found t c = record {
-  found = IfOk-from_err _ _ c.from_residual-in_err-found.ensures.0;
-  keys = IfOk-from_err _ _ c.from_residual-in_err-found.ensures.0;
-}
-
-pub first_in_items-returns-in-Some-2 : goal.first_in_items-returns-in-Some-2
-first_in_items-returns-in-Some-2 t c =
-    let some : repeated (value_tree c.in-Some.item) ≡ Some (growing c.in-Some-2.found) = sym c.in_ok-found.ensures.found ∙ ap (λ (found : Option Repeat). option_map growing found) c.in-Some-2.is in
-    let here = found_item c.loop-item.place _ (array_items c.loop-item.rest) (value_tree c.in-Some.item) (array_items c.in-Some.behind) (growing c.in-Some-2.found) c.loop-item.invariant.3 c.in-Some.ensures.items some in record {
-      found = IfOk-weaker c.inside.result _ _ (λ found is. is ∙ sym here) c.inside.ensures;
-      keys = if_none _ growing c.inside.result _ c.inside.ensures;
-    }
-
-pub first_in_members-returns-in-Some-2-clause-found : goal.first_in_members-returns-in-Some-2-clause-found
-first_in_members-returns-in-Some-2-clause-found t c =
-    let earlier = texts (drop c.len-start.result c.loop-key.keys.items) in
-    let met = rw c.in-Some-2.is at c.in_ok-repeat.ensures in
-    ap Some met.0 ∙ sym (found_key earlier _ (object_members c.loop-key.rest) c.in-Some.key.now (value_tree c.in-Some.value) (object_members c.in-Some.behind) c.loop-key.invariant.4 c.in-Some.ensures.members met.1)
-
-pub first_in_members-returns-in-Some-3 : goal.first_in_members-returns-in-Some-3
-first_in_members-returns-in-Some-3 t c =
-    let earlier = texts (drop c.len-start.result c.loop-key.keys.items) in
-    let added = rw c.in_default-2.is at c.in_ok-repeat.ensures in
-    let some : repeated (value_tree c.in-Some.value) ≡ Some (growing c.in-Some-3.found) = sym c.in_ok-found.ensures.found ∙ ap (λ (found : Option Repeat). option_map growing found) c.in-Some-3.is in
-    let here = found_member earlier _ (object_members c.loop-key.rest) c.in-Some.key.now (value_tree c.in-Some.value) (object_members c.in-Some.behind) (growing c.in-Some-3.found) c.loop-key.invariant.4 c.in-Some.ensures.members added.is_new some in record {
-      found = IfOk-weaker c.inside.result _ _ (λ found is. is ∙ sym here) c.inside.ensures;
-      keys = if_none _ growing c.inside.result _ c.inside.ensures;
-    }
