@@ -9,13 +9,11 @@ use Rattle.sj_object.specs.declared.entry.Entry.{Entry}
 use Rattle.sj_owned.specs.declared.value.Value.{Value, the_lemmas}
 use Rattle.sj_owned.specs.inside.Copying.{Kept, kept_key, kept_value, converted}
 use Rattle.sj_owned.proofs.Copies.{array_converted, object_converted, next_copied, next_is_new}
+use Rattle.sj_owned.proofs.Pieces.{shorter}
 use Rattle.sj_owned.proofs.convert.+convert.Goals as goal
 
 less : (m n : ℕ) → m + 1 ≡ n → m < n
 less m n h = omega arith
-
-shorter : {A : Type 0} (x : A) (xs ys : List A) → ys ≡ x ∷ xs → length xs < length ys
-shorter x xs ys h = rw h (omega arith)
 
 all_done : {A : Type 0} (done left all : List A) (n : ℕ) → all ≡ done ++ left → n ≡ length left → n ≡ 0 → done ≡ all
 all_done done [] all n h k z = sym (h ∙ search rules)

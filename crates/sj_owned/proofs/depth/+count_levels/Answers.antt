@@ -13,10 +13,8 @@ use Rattle.sj_owned.specs.declared.value.Value.{Value}
 use Rattle.sj_owned.specs.inside.Depths.{KeepItems}
 use Rattle.sj_owned.proofs.Layers.{tree-Array, tree-Object}
 use Rattle.sj_owned.proofs.Depths.{KeepEach, one_member_more, distinct_kept}
+use Rattle.sj_owned.proofs.Pieces.{shorter}
 use Rattle.sj_owned.proofs.depth.+count_levels.Goals as goal
-
-shorter : {A : Type 0} (x : A) (xs ys : List A) → ys ≡ x ∷ xs → length xs < length ys
-shorter x xs ys h = rw h (omega arith)
 
 none_deeper : (n : ℕ) → max 0 n ≡ n
 none_deeper n = omega arith

@@ -11,14 +11,11 @@ use Rattle.sj_base.specs.Output.{Prints}
 use Rattle.sj_owned.specs.declared.value.Value.{the_lemmas}
 use Rattle.sj_base.proofs.Towards.{Toward, fault, list_fault, list_opened, object_fault, object_opened, next_item, next_member, value_fault, value_printed}
 use Rattle.sj_tape.proofs.Printing.{fewer_items, fewer_members}
-use Rattle.sj_owned.proofs.Pieces.{cut_at}
+use Rattle.sj_owned.proofs.Pieces.{cut_at, shorter}
 use Rattle.sj_object.specs.Iterators.{entries_left}
 use Rattle.sj_tape.specs.Listing.{members_listing}
 use Rattle.sj_owned.specs.Views.{value_tree, items_view, members_view}
 use Rattle.sj_owned.proofs.encode.+print.Goals as goal
-
-shorter : {A : Type 0} (x : A) (xs ys : List A) → ys ≡ x ∷ xs → length xs < length ys
-shorter x xs ys h = rw h (omega arith)
 
 printed_to : {S X E : Type 0} (A B : S → S → List ℕ → Type 0) (r : Result X E) (start now end : S) (left whole : List ℕ) → Toward A B start now left whole → Prints A B r now end left → Prints A B r start end whole
 printed_to A B (Ok x) start now end left whole h a = h.appended end a
