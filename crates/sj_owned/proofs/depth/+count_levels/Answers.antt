@@ -1,5 +1,5 @@
 use Rattle.std.specs.Prelude.{IsUtf8}
-use Rattle.std.proofs.Common.{◌≡◌, Result, Ok, Err, OnOk, IfOk, ℕ, ◌+◌, ◌<◌, suc, List, length, [], ◌∷◌, ◌++◌, drop, max, refl, sym, ap, ap₂, subst, ◌∙◌, append_assoc, add-one, arith, rules}
+use Rattle.std.proofs.Common.{◌≡◌, Result, Ok, Err, OnOk, IfOk, ℕ, ◌+◌, suc, length, [], ◌∷◌, ◌++◌, drop, max, refl, sym, ap, ap₂, subst, ◌∙◌, append_assoc, add-one, arith, rules}
 use Rattle.std.proofs.Math.Seq.{drop-cons}
 use Rattle.std.proofs.lemmas.List.{drop_all}
 use Rattle.std.proofs.lemmas.Result.{IfOk-from_err}
