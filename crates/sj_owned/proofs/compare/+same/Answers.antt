@@ -1,12 +1,19 @@
-use Rattle.std.proofs.Common.{◌≡◌, ◌+◌, ◌<◌, ◌≤◌, length, List, [], ◌∷◌, ◌++◌, drop, sym, ap, ◌∙◌, append_assoc, arith, rules}
+use Rattle.std.proofs.Common.{◌≡◌, Bool, ◌+◌, ◌<◌, ◌≤◌, length, List, [], ◌∷◌, ◌++◌, drop, sym, ap, ◌∙◌, append_assoc, arith, rules}
 use Rattle.std.proofs.lemmas.List.{drop_all}
+use borrow.Author.Count.{falls}
 use Rattle.sj_object.specs.Iterators.{entries_left}
 use Rattle.sj_object.specs.declared.entry.Entry.{Entry}
-use Rattle.sj_owned.specs.Views.{value_tree}
+use Rattle.sj_base.specs.Tree.{Tree, list}
+use Rattle.sj_owned.specs.inside.Comparing.{Compares}
+use Rattle.sj_owned.specs.Views.{value_tree, items_view}
 use Rattle.sj_owned.specs.declared.value.Value.{Value}
 use Rattle.sj_owned.proofs.Comparing.{all_left, lists_of_other_lengths, lists_differ, lists_equal, items_passed, objects_of_other_lengths, objects_of_other_keys, objects_differ, objects_equal, members_passed}
-use Rattle.sj_owned.proofs.Pieces.{cut_at}
+use Rattle.sj_owned.proofs.Layers.{tree-Array, tree-Object}
+use Rattle.sj_owned.proofs.Pieces.{cut_at, shorter}
 use Rattle.sj_owned.proofs.compare.+same.Goals as goal
+
+same_trees : (r : Bool) (s t u v : Tree) → s ≡ u → t ≡ v → Compares r u v → Compares r s t
+same_trees r s t u v left right h = rw (left, right) h
 
 pub same_items-returns-then-items-others : goal.same_items-returns-then-items-others
 same_items-returns-then-items-others g t c =
@@ -102,3 +109,21 @@ same_members-returns g t c =
     let none : at ≡ [] = c.in-None.ensures.steps.0 in
     objects_equal g.K.ObjectKey.text g.L.ObjectKey.text (value_tree g.K.ObjectKey.text g.D.Literal.literal) (value_tree g.L.ObjectKey.text g.E.Literal.literal) c.args.members.now c.args.others.now
     c.len.ensures.distinct c.len-2.ensures.distinct at c.loop-key.invariant.3 none (sym c.len.ensures.len ∙ c.if-len.false ∙ c.len-2.ensures.len)
+
+pub same_items-loop-i-smaller : goal.same_items-loop-i-smaller
+same_items-loop-i-smaller g t c = falls _ _ c.loop-i-test.true
+
+pub same_members-loop-key-smaller : goal.same_members-loop-key-smaller
+same_members-loop-key-smaller g t c = shorter _ _ _ c.in-Some.ensures.steps
+
+pub same_values-returns-in-Array-b : goal.same_values-returns-in-Array-b
+same_values-returns-in-Array-b g t c =
+    same_trees _ _ _ _ _ (ap (value_tree g.K.ObjectKey.text g.D.Literal.literal) c.in-Array.is ∙ tree-Array g.K.ObjectKey.text g.D.Literal.literal c.in-Array.items ∙ ap (λ vs. list (items_view g.K.ObjectKey.text g.D.Literal.literal vs)) (sym c.deref.ensures.value))
+    (ap (value_tree g.L.ObjectKey.text g.E.Literal.literal) c.in-Array-b.is ∙ tree-Array g.L.ObjectKey.text g.E.Literal.literal c.in-Array-b.others ∙ ap (λ vs. list (items_view g.L.ObjectKey.text g.E.Literal.literal vs)) (sym c.deref-in-Array-b.ensures.value))
+    c.same_items.ensures
+
+pub same_values-returns-in-Object-b : goal.same_values-returns-in-Object-b
+same_values-returns-in-Object-b g t c =
+    same_trees _ _ _ _ _ (ap (value_tree g.K.ObjectKey.text g.D.Literal.literal) c.in-Object.is ∙ tree-Object g.K.ObjectKey.text g.D.Literal.literal c.in-Object.members)
+    (ap (value_tree g.L.ObjectKey.text g.E.Literal.literal) c.in-Object-b.is ∙ tree-Object g.L.ObjectKey.text g.E.Literal.literal c.in-Object-b.others)
+    c.same_members.ensures

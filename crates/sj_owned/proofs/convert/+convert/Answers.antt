@@ -1,5 +1,6 @@
-use Rattle.std.proofs.Common.{◌≡◌, ◌∷◌, [], ◌++◌, length, map, refl, sym, ap, ap₂, subst, ◌∙◌, append_assoc, arith, rules}
+use Rattle.std.proofs.Common.{◌≡◌, ℕ, ◌+◌, ◌<◌, List, ◌∷◌, [], ◌++◌, length, map, refl, sym, ap, ap₂, subst, ◌∙◌, append_assoc, arith, rules}
 use Rattle.std.proofs.lemmas.List.{map_push}
+use Rattle.std.proofs.lemmas.Result.{IfOk-from_err}
 use Rattle.std.specs.Vec.Iter.{into_iter_items}
 use Rattle.sj_object.specs.Copies.{copied_pairs}
 use Rattle.sj_object.specs.Iterators.{owned_left}
@@ -8,7 +9,15 @@ use Rattle.sj_object.specs.declared.entry.Entry.{Entry}
 use Rattle.sj_owned.specs.declared.value.Value.{Value, the_lemmas}
 use Rattle.sj_owned.specs.inside.Copying.{Kept, kept_key, kept_value, converted}
 use Rattle.sj_owned.proofs.Copies.{array_converted, object_converted, next_copied, next_is_new}
+use Rattle.sj_owned.proofs.Pieces.{shorter}
 use Rattle.sj_owned.proofs.convert.+convert.Goals as goal
+
+less : (m n : ℕ) → m + 1 ≡ n → m < n
+less m n h = omega arith
+
+all_done : {A : Type 0} (done left all : List A) (n : ℕ) → all ≡ done ++ left → n ≡ length left → n ≡ 0 → done ≡ all
+all_done done [] all n h k z = sym (h ∙ search rules)
+all_done done (x ∷ left) all n h k z = absurd (omega arith)
 
 pub convert-returns-in-Static : goal.convert-returns-in-Static
 convert-returns-in-Static g t c = search (rules, the_lemmas)
@@ -97,3 +106,67 @@ convert_members-append_converted-requires g t c =
     let all : c.args.members ≡ done ++ e ∷ left = at.invariant.3 ∙ ap (λ es. done ++ es) first in
     let distinct = subst (λ es. AreDistinct (keys_of text es)) all c.len.ensures.distinct in
     next_is_new text key old new_text new_key new at.converted done left e (text e.key) distinct at.invariant.4 refl
+
+pub convert-returns-in_err-into_literal-in-Decimal :
+    goal.convert-returns-in_err-into_literal-in-Decimal
+convert-returns-in_err-into_literal-in-Decimal g t c = IfOk-from_err c.from_residual.result _ c.from_residual.ensures.0
+
+pub convert-returns-in_err-into_key-in-String : goal.convert-returns-in_err-into_key-in-String
+convert-returns-in_err-into_key-in-String g t c = IfOk-from_err c.from_residual-in_err-into_key-in-String.result _ c.from_residual-in_err-into_key-in-String.ensures.0
+
+pub convert-returns-in_err-convert_items-in-Array :
+    goal.convert-returns-in_err-convert_items-in-Array
+convert-returns-in_err-convert_items-in-Array g t c = IfOk-from_err c.from_residual-in_err-convert_items-in-Array.result _ c.from_residual-in_err-convert_items-in-Array.ensures.0
+
+pub convert-returns-in_err-convert_members-in-Object :
+    goal.convert-returns-in_err-convert_members-in-Object
+convert-returns-in_err-convert_members-in-Object g t c = IfOk-from_err c.from_residual-in_err-convert_members-in-Object.result _ c.from_residual-in_err-convert_members-in-Object.ensures.0
+
+pub convert-returns-in_ok-into_literal-in-Decimal :
+    goal.convert-returns-in_ok-into_literal-in-Decimal
+convert-returns-in_ok-into_literal-in-Decimal g t c = search (rules, the_lemmas)
+
+pub convert-returns-in_ok-into_key-in-String : goal.convert-returns-in_ok-into_key-in-String
+convert-returns-in_ok-into_key-in-String g t c = search (rules, the_lemmas)
+
+pub convert_items-returns-in_err-converted : goal.convert_items-returns-in_err-converted
+convert_items-returns-in_err-converted g t c = IfOk-from_err c.from_residual.result _ c.from_residual.ensures.0
+
+pub convert_items-loop-item-init : goal.convert_items-loop-item-init
+convert_items-loop-item-init g t c =
+    let new = kept_value g.L.ObjectKey.text g.E.Literal.literal g.K.IntoKey.after g.D.IntoLiteral.after in
+    let gives = c.into_iter-item-iterator.ensures.into_iter_gives in
+    (tt, tt, [], sym gives.0, gives.1 ∙ c.args.items.ok.0 ∙ ap length (sym gives.0), ap (map new) c.in_ok-converted.ensures.items)
+
+pub convert_items-loop-item-smaller : goal.convert_items-loop-item-smaller
+convert_items-loop-item-smaller g t c = less _ _ c.in-Some.ensures.steps.1
+
+pub convert_items-returns-in_err-push_made : goal.convert_items-returns-in_err-push_made
+convert_items-returns-in_err-push_made g t c = IfOk-from_err c.from_residual-in_err-push_made.result _ c.from_residual-in_err-push_made.ensures.0
+
+pub convert_items-returns : goal.convert_items-returns
+convert_items-returns g t c =
+    let old : Value g.row.K.Denot g.row.D.Denot → Kept g.K.IntoKey.After g.D.IntoLiteral.After =
+    λ v. converted g.K.IntoKey.change g.D.IntoLiteral.change (kept_value g.K.ObjectKey.text g.D.Literal.literal g.K.IntoKey.before g.D.IntoLiteral.before v) in
+    let at = c.loop-item in
+    at.invariant.5 ∙ ap (map old) (all_done at.invariant.2 (into_iter_items at.item-iterator) c.args.items.items _ at.invariant.3 at.invariant.4 c.in-None.ensures.steps.0)
+
+pub convert_members-loop-key-smaller : goal.convert_members-loop-key-smaller
+convert_members-loop-key-smaller g t c = shorter _ _ _ c.in-Some.ensures.steps
+
+pub convert_members-returns-in_err-converted : goal.convert_members-returns-in_err-converted
+convert_members-returns-in_err-converted g t c = IfOk-from_err c.from_residual.result _ c.from_residual.ensures.0
+
+pub convert_members-returns-in_err-append_converted :
+    goal.convert_members-returns-in_err-append_converted
+convert_members-returns-in_err-append_converted g t c = IfOk-from_err c.from_residual-in_err-append_converted.result _ c.from_residual-in_err-append_converted.ensures.0
+
+pub convert_members-returns : goal.convert_members-returns
+convert_members-returns g t c =
+    let new = kept_value g.L.ObjectKey.text g.E.Literal.literal g.K.IntoKey.after g.D.IntoLiteral.after in
+    let old : Value g.row.K.Denot g.row.D.Denot → Kept g.K.IntoKey.After g.D.IntoLiteral.After =
+    λ v. converted g.K.IntoKey.change g.D.IntoLiteral.change (kept_value g.K.ObjectKey.text g.D.Literal.literal g.K.IntoKey.before g.D.IntoLiteral.before v) in
+    let key : g.row.K.Denot → List ℕ × g.K.IntoKey.After = kept_key g.K.ObjectKey.text (λ k. g.K.IntoKey.change (g.K.IntoKey.before k)) in
+    let at = c.loop-key in
+    let all = all_done at.invariant.2 (owned_left at.key-iterator) c.args.members _ at.invariant.3 refl (ap length c.in-None.ensures.steps.0) in
+    at.invariant.4 ∙ ap (λ es. copied_pairs key old es) all

@@ -1,5 +1,7 @@
-use Rattle.std.proofs.Common.{◌≡◌, ◌+◌, ◌∷◌, [], ◌++◌, map, take, refl, sym, ap, ap₂, subst, ◌∙◌, append_assoc, rules}
-use Rattle.std.proofs.lemmas.List.{take_more, map_push}
+use Rattle.std.proofs.Common.{◌≡◌, ◌+◌, ◌∷◌, [], ◌++◌, length, map, take, refl, sym, ap, ap₂, subst, ◌∙◌, append_assoc, rules}
+use Rattle.std.proofs.lemmas.List.{append-nil, take_all, take_more, map_push}
+use Rattle.std.proofs.lemmas.Result.{IfOk-from_err}
+use borrow.Author.Count.{falls}
 use Rattle.sj_object.specs.Copies.{copied_pairs}
 use Rattle.sj_object.specs.Iterators.{entries_left}
 use Rattle.sj_object.specs.Pairs.{keys_of, AreDistinct}
@@ -7,6 +9,7 @@ use Rattle.sj_object.specs.declared.entry.Entry.{Entry}
 use Rattle.sj_owned.specs.declared.value.Value.{Value, the_lemmas}
 use Rattle.sj_owned.specs.inside.Copying.{kept_key, kept_value}
 use Rattle.sj_owned.proofs.Copies.{array_copied, object_copied, next_copied, next_is_new}
+use Rattle.sj_owned.proofs.Pieces.{shorter}
 use Rattle.sj_owned.proofs.copy.+copy.Goals as goal
 
 pub copy-returns-in-Static : goal.copy-returns-in-Static
@@ -70,3 +73,55 @@ pub copy-returns-in_ok-copy_members-in-Object : goal.copy-returns-in_ok-copy_mem
 copy-returns-in_ok-copy_members-in-Object g t c =
     let at = c.in_ok-copy_members-in-Object in
     object_copied g.K.ObjectKey.text g.D.Literal.literal g.K.TryCopy.copied g.D.TryCopy.copied c.args.value.now c.in-Object.members at.field-0 c.in-Object.is at.ensures
+
+pub copy-returns-in_err-try_clone-in-Decimal : goal.copy-returns-in_err-try_clone-in-Decimal
+copy-returns-in_err-try_clone-in-Decimal g t c = IfOk-from_err c.from_residual.result _ c.from_residual.ensures.0
+
+pub copy-returns-in_err-try_clone-in-String : goal.copy-returns-in_err-try_clone-in-String
+copy-returns-in_err-try_clone-in-String g t c = IfOk-from_err c.from_residual-in_err-try_clone-in-String.result _ c.from_residual-in_err-try_clone-in-String.ensures.0
+
+pub copy-returns-in_err-copy_items-in-Array : goal.copy-returns-in_err-copy_items-in-Array
+copy-returns-in_err-copy_items-in-Array g t c = IfOk-from_err c.from_residual-in_err-copy_items-in-Array.result _ c.from_residual-in_err-copy_items-in-Array.ensures.0
+
+pub copy-returns-in_err-copy_members-in-Object : goal.copy-returns-in_err-copy_members-in-Object
+copy-returns-in_err-copy_members-in-Object g t c = IfOk-from_err c.from_residual-in_err-copy_members-in-Object.result _ c.from_residual-in_err-copy_members-in-Object.ensures.0
+
+pub copy_items-returns-in_err-copies : goal.copy_items-returns-in_err-copies
+copy_items-returns-in_err-copies g t c = IfOk-from_err c.from_residual.result _ c.from_residual.ensures.0
+
+pub copy_items-loop-item-init : goal.copy_items-loop-item-init
+copy_items-loop-item-init g t c =
+    let kept = kept_value g.K.ObjectKey.text g.D.Literal.literal g.K.TryCopy.copied g.D.TryCopy.copied in
+    ap (map kept) c.in_ok-copies.ensures.items
+
+pub copy_items-returns-in_err-push_made : goal.copy_items-returns-in_err-push_made
+copy_items-returns-in_err-push_made g t c = IfOk-from_err c.from_residual-in_err-push_made.result _ c.from_residual-in_err-push_made.ensures.0
+
+pub copy_items-loop-item-smaller : goal.copy_items-loop-item-smaller
+copy_items-loop-item-smaller g t c = falls (length c.deref-item-items.result.now) c.loop-item.item-index c.loop-item-test.true
+
+pub copy_items-returns : goal.copy_items-returns
+copy_items-returns g t c =
+    let kept = kept_value g.K.ObjectKey.text g.D.Literal.literal g.K.TryCopy.copied g.D.TryCopy.copied in
+    c.loop-item.invariant ∙ ap (map kept) (take_all c.loop-item.item-index c.deref-item-items.result.now c.loop-item-test.false ∙ c.deref-item-items.ensures.value)
+
+pub copy_members-returns-in_err-copies : goal.copy_members-returns-in_err-copies
+copy_members-returns-in_err-copies g t c = IfOk-from_err c.from_residual.result _ c.from_residual.ensures.0
+
+pub copy_members-returns-in_err-append_copy : goal.copy_members-returns-in_err-append_copy
+copy_members-returns-in_err-append_copy g t c = IfOk-from_err c.from_residual-in_err-append_copy.result _ c.from_residual-in_err-append_copy.ensures.0
+
+pub copy_members-loop-key-smaller : goal.copy_members-loop-key-smaller
+copy_members-loop-key-smaller g t c = shorter _ _ _ c.in-Some.ensures.steps
+
+pub copy_members-loop-key-init : goal.copy_members-loop-key-init
+copy_members-loop-key-init g t c =
+    let kept = copied_pairs (kept_key g.K.ObjectKey.text g.K.TryCopy.copied) (kept_value g.K.ObjectKey.text g.D.Literal.literal g.K.TryCopy.copied g.D.TryCopy.copied) in
+    (tt, tt, [], search rules, ap kept c.in_ok-copies.ensures.empty)
+
+pub copy_members-returns : goal.copy_members-returns
+copy_members-returns g t c =
+    let kept = copied_pairs (kept_key g.K.ObjectKey.text g.K.TryCopy.copied) (kept_value g.K.ObjectKey.text g.D.Literal.literal g.K.TryCopy.copied g.D.TryCopy.copied) in
+    let at = c.loop-key in
+    let done = at.invariant.2 in
+    at.invariant.4 ∙ ap kept (sym (at.invariant.3 ∙ ap (λ es. done ++ es) c.in-None.ensures.steps.0 ∙ append-nil done))

@@ -1,5 +1,7 @@
 use Rattle.std.proofs.Common.{[], ◌∷◌, ◌++◌, subst, sym}
 use Rattle.std.specs.List.{AllZip}
+use Rattle.std.proofs.lemmas.Result.{IfOk-from_err}
+use Rattle.sj_owned.proofs.Layers.{items_inside-Array}
 use Rattle.sj_owned.proofs.Made.{zip_more}
 use Rattle.sj_owned.proofs.value.Value.from_values.Goals as goal
 
@@ -9,3 +11,24 @@ loop-value-preserved g c =
     let xs = c.loop-value.yielded in
     subst (λ vs. AllZip converts (xs ++ c.in-Some.value ∷ []) vs) (sym c.in_ok-push.ensures.items)
     (zip_more converts xs c.loop-value.items.items c.in-Some.value c.into.result c.loop-value.invariant c.into.ensures)
+
+pub loop-value-init : goal.loop-value-init
+loop-value-init g c = rw c.new-items.ensures.items tt
+
+pub next-requires : goal.next-requires
+next-requires g c = c.loop-value.iterator.0
+
+pub returns-in_err-push : goal.returns-in_err-push
+returns-in_err-push g c = IfOk-from_err c.from_residual.result _ c.from_residual.ensures.0
+
+pub returns : goal.returns
+returns g c = (
+  c.into_iter-value-iterator.result,
+  c.loop-value.yielded,
+  c.into_iter-value-iterator.ensures.into_iter_gives,
+  (c.next.new.self, (c.loop-value.value-iterator, c.loop-value.yielded_by, c.in-None.ensures.steps)),
+  (c.loop-value.items.items, c.loop-value.invariant, items_inside-Array g.K.ObjectKey.text g.D.Literal.literal c.loop-value.items),
+)
+
+pub loop-value-smaller : goal.loop-value-smaller
+loop-value-smaller g c = (c.in-Some.ensures.goes.on c.loop-value.iterator.1).2
