@@ -1,5 +1,5 @@
 //! Of `sj_object`: worked rows, and calls with ample memory.
-use super::{expect_at, expect_eq, expect_shown, expect_text, expect_that, is_there};
+use super::{expect_at, expect_eq, expect_shown, expect_text, expect_that};
 use sj_base::{StaticNode, TryCopy};
 use sj_object::{
     CopyKey, Iter, MakeKey, NotSoRandomState, Object, ObjectHasher, ObjectKey, Refused, hash_key,
@@ -57,13 +57,17 @@ fn expect_replaced(rt: &impl Abort, alloc: Global, object: &mut Object<String, u
     expect_eq(rt, insert(rt, alloc, object, "a", 3), Some(1));
 }
 
-// What is in that object, before and after a removal.
-fn expect_removed(rt: &impl Abort, object: &mut Object<String, u64>) {
+// What is in that object.
+fn expect_two(rt: &impl Abort, object: &Object<String, u64>) {
     expect_eq(rt, object.len(), 2);
     expect_eq(rt, object.get("a"), Some(&3));
     expect_eq(rt, object.get("b"), Some(&2));
     expect_that(rt, "a key", object.contains_key("a"));
     expect_that(rt, "no empty key", !object.contains_key(""));
+}
+
+// Removes one of its two pairs.
+fn expect_removed(rt: &impl Abort, object: &mut Object<String, u64>) {
     expect_eq(rt, object.remove("a"), Some(3));
     expect_eq(rt, object.remove("a"), None);
     expect_eq(rt, object.len(), 1);
@@ -75,6 +79,7 @@ fn expect_removed(rt: &impl Abort, object: &mut Object<String, u64>) {
 fn replaced_in_place(rt: HostRuntime) {
     let mut object = Object::with_capacity(rt.alloc(), 2).expect(&rt, "memory");
     expect_replaced(&rt, rt.alloc(), &mut object);
+    expect_two(&rt, &object);
     expect_removed(&rt, &mut object);
     drop(object);
 }
@@ -90,11 +95,15 @@ fn show_pairs(rt: &impl Abort, shown: &mut String, pairs: Iter<'_, String, u64>)
     }
 }
 
-// Appends what those of keys and of values give.
-fn show_parts(rt: &impl Abort, shown: &mut String, object: &Object<String, u64>) {
+// Appends the keys in their order.
+fn show_keys(rt: &impl Abort, shown: &mut String, object: &Object<String, u64>) {
     for key in object.keys() {
         shown.push_str(key).expect(rt, "memory");
     }
+}
+
+// Appends the values.
+fn show_values(rt: &impl Abort, shown: &mut String, object: &Object<String, u64>) {
     for value in object.values() {
         show(rt, shown, "", *value);
     }
@@ -112,7 +121,8 @@ fn expect_pairs(rt: &impl Abort, alloc: Global, object: Object<String, u64>) {
     let mut shown = String::new(alloc);
     show_pairs(rt, &mut shown, object.iter());
     show_pairs(rt, &mut shown, (&object).into_iter());
-    show_parts(rt, &mut shown, &object);
+    show_keys(rt, &mut shown, &object);
+    show_values(rt, &mut shown, &object);
     show_taken(rt, &mut shown, object);
     expect_text(rt, shown, "b2 a5 b2 a5 ba2 5 b2 a5 ");
 }
@@ -140,9 +150,7 @@ fn put_numbered(rt: &impl Abort, alloc: Global, object: &mut Object<String, u64>
 // The order of these keys, where the first stands behind the others.
 fn expect_order(rt: &impl Abort, alloc: Global, object: &Object<String, u64>) {
     let mut keys = String::new(alloc);
-    for key in object.keys() {
-        keys.push_str(key).expect(rt, "memory");
-    }
+    show_keys(rt, &mut keys, object);
     let order =
         "k1k2k3k4k5k6k7k8k9k10k11k12k13k14k15k16k17k18k19k20k21k22k23k24k25k26k27k28k29k30k31k32k0";
     expect_text(rt, keys, order);
@@ -186,7 +194,6 @@ fn expect_four_removed(rt: &impl Abort, object: &mut Object<String, u64>) {
     for (key, value) in &[("k1", 9), ("k2", 2), ("k3", 3), ("k4", 4)] {
         expect_eq(rt, object.remove(key), Some(*value));
     }
-    expect_eq(rt, object.get("k0"), Some(&7));
 }
 
 #[test]
@@ -196,6 +203,7 @@ fn places(rt: HostRuntime) {
     expect_at_the_end(&rt, rt.alloc(), &mut object);
     expect_at_the_front(&rt, rt.alloc(), &mut object);
     expect_four_removed(&rt, &mut object);
+    expect_eq(&rt, object.get("k0"), Some(&7));
     drop(object);
 }
 
@@ -232,23 +240,18 @@ fn expect_refused(
     expect_eq(rt, place, 32);
 }
 
-fn put_letters(rt: &impl Abort, object: &mut Object<CowStr<'_>, usize>) -> Result<(), Fail> {
-    let keys = "a b c d e f g h i j k l m n o p q r s t u v w x y z aa ab ac ad ae af ag ah";
-    for (place, text) in keys.split(' ').enumerate() {
-        if let Err(pair) = object.insert(CowStr::Borrowed(text), place) {
-            expect_refused(rt, object, pair, text, place);
-            return Err(Fail::new("no memory"));
-        }
-    }
-    Ok(())
-}
-
 // A refused pair comes back, and the object is as it was, as `oracle/memory.sh` shows: the 33rd pair needs memory
 // for the table, and the one before it none.
 #[test]
 fn refused_pairs(rt: HostRuntime) -> Result<(), Fail> {
     let mut object: Object<CowStr, usize> = Object::with_capacity(rt.alloc(), 40)?;
-    put_letters(&rt, &mut object)?;
+    let keys = "a b c d e f g h i j k l m n o p q r s t u v w x y z aa ab ac ad ae af ag ah";
+    for (place, text) in keys.split(' ').enumerate() {
+        if let Err(pair) = object.insert(CowStr::Borrowed(text), place) {
+            expect_refused(&rt, &object, pair, text, place);
+            return Err(Fail::new("no memory"));
+        }
+    }
     expect_eq(&rt, object.len(), 34);
     expect_eq(&rt, object.get("ah"), Some(&33));
     Ok(())
@@ -260,16 +263,24 @@ fn refused(rt: HostRuntime) {
     expect_shown(&rt, rt.alloc(), &pair, "Refused");
 }
 
-// The iterators over one pair by reference.
-fn expect_one_pair(rt: &impl Abort, object: &Object<String, u64>) {
-    let mut pairs = object.iter();
-    expect_eq(rt, pairs.len(), 1);
-    expect_eq(rt, pairs.size_hint(), (1, Some(1)));
-    expect_that(rt, "a pair", is_there(pairs.next()));
-    expect_that(rt, "one pair alone", !is_there(pairs.next()));
-    expect_that(rt, "nothing behind it", !is_there(pairs.next()));
+// The lengths of the iterators over one pair by reference.
+fn expect_lengths(rt: &impl Abort, object: &Object<String, u64>) {
+    expect_eq(rt, object.iter().len(), 1);
+    expect_eq(rt, object.iter().size_hint(), (1, Some(1)));
     expect_eq(rt, object.keys().len(), 1);
     expect_eq(rt, object.values().len(), 1);
+}
+
+// What one of them gives.
+fn expect_one_pair(rt: &impl Abort, object: &Object<String, u64>) {
+    let mut pairs = object.iter();
+    expect_that(rt, "a pair", is_pair(pairs.next()));
+    expect_that(rt, "one pair alone", !is_pair(pairs.next()));
+    expect_that(rt, "nothing behind it", !is_pair(pairs.next()));
+}
+
+fn is_pair(pair: Option<(&String, &u64)>) -> bool {
+    pair.is_some()
 }
 
 // The same of the iterator that hands it out.
@@ -277,14 +288,15 @@ fn expect_one_taken(rt: &impl Abort, object: Object<String, u64>) {
     let mut pairs = object.into_iter();
     expect_eq(rt, pairs.len(), 1);
     expect_eq(rt, pairs.size_hint(), (1, Some(1)));
-    expect_that(rt, "a pair", is_there(pairs.next()));
-    expect_that(rt, "one pair alone", !is_there(pairs.next()));
-    expect_that(rt, "nothing behind it", !is_there(pairs.next()));
+    expect_that(rt, "a pair", pairs.next().is_some());
+    expect_that(rt, "one pair alone", pairs.next().is_none());
+    expect_that(rt, "nothing behind it", pairs.next().is_none());
 }
 
 #[test]
 fn ended_iterators(rt: HostRuntime) {
     let object = object_of(&rt, rt.alloc(), &[("a", 1)]);
+    expect_lengths(&rt, &object);
     expect_one_pair(&rt, &object);
     expect_one_taken(&rt, object);
 }
@@ -371,11 +383,12 @@ fn put_forty(rt: &impl Abort, alloc: Global, object: &mut Object<String, u64>) {
     }
 }
 
-// The keys behind the first of forty keys.
+// The values 1 to 39 in their order.
 fn expect_rest(rt: &impl Abort, object: &Object<String, u64>) {
-    expect_eq(rt, object.len(), 39);
-    for (number, value) in (1..40).zip(object.values()) {
-        expect_eq(rt, number, *value);
+    let mut number = 1u64;
+    for value in object.values() {
+        expect_eq(rt, *value, number);
+        number = number.wrapping_add(1);
     }
 }
 
@@ -384,6 +397,7 @@ fn expect_forty(rt: &impl Abort, object: &mut Object<String, u64>) {
     let key = "BBAaAaBBBBBB";
     expect_eq(rt, object.get_hashed(hash_key(key), key), Some(&39));
     expect_eq(rt, object.remove("AaAaAaAaAaAa"), Some(0));
+    expect_eq(rt, object.len(), 39);
     expect_rest(rt, object);
     if let Some(value) = object.get_hashed_mut(hash_key(key), key) {
         *value = 0;

@@ -41,22 +41,17 @@ fn expect_scalar(rt: &impl Abort, alloc: Global, scalar: &Scalar<'_>, text: &str
 
 #[test]
 fn scalars(rt: HostRuntime) {
+    let alloc = rt.alloc();
+    expect_scalar(&rt, alloc, &Scalar::Static(StaticNode::Null), "null");
+    expect_scalar(&rt, alloc, &Scalar::Static(StaticNode::Bool(true)), "true");
+    expect_scalar(&rt, alloc, &Scalar::Static(StaticNode::I64(-3)), "-3");
+    expect_scalar(&rt, alloc, &Scalar::Text("a\"b"), r#""a\"b""#);
     let literal = Decimal::new("1.50").expect(&rt, "a decimal");
-    for (scalar, text) in &[
-        (Scalar::Static(StaticNode::Null), "null"),
-        (Scalar::Static(StaticNode::Bool(true)), "true"),
-        (Scalar::Static(StaticNode::I64(-3)), "-3"),
-        (Scalar::Text("a\"b"), r#""a\"b""#),
-        (Scalar::Literal(literal), "1.50"),
-    ] {
-        expect_scalar(&rt, rt.alloc(), scalar, text);
-    }
+    expect_scalar(&rt, alloc, &Scalar::Literal(literal), "1.50");
 }
 
 // The pieces alone: no value stands behind the key, and no item in the list.
 fn put_pieces(out: &mut Vec<u8>) -> Result<(), AllocError> {
-    put_int(out, i64::MIN)?;
-    put_break(out, 2)?;
     let mut object = Layout::Indented(0).open_object(out)?;
     object.key("a", out)?;
     object.close(out)?;
@@ -69,6 +64,8 @@ fn put_pieces(out: &mut Vec<u8>) -> Result<(), AllocError> {
 #[test]
 fn pieces(rt: HostRuntime) {
     let mut out = Vec::new(rt.alloc());
+    put_int(&mut out, i64::MIN).expect(&rt, "memory");
+    put_break(&mut out, 2).expect(&rt, "memory");
     put_pieces(&mut out).expect(&rt, "memory");
     let text = "-9223372036854775808\n    {\n  \"a\": \n}[]";
     expect_bytes(&rt, out, text);

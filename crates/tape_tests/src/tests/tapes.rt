@@ -138,22 +138,6 @@ fn filled_tape(rt: HostRuntime) {
     expect_document(&rt, rt.alloc(), &tape, "[1]");
 }
 
-// Fills a tape once, and three times with what is refused.
-fn expect_refused<'i>(
-    rt: &impl Abort,
-    buffers: &mut Buffers,
-    tape: &mut Tape<'i>,
-    first: &'i mut [u8],
-    refused: (&'i mut [u8], &'i mut [u8], &'i mut [u8]),
-) {
-    let (second, third, fourth) = refused;
-    fill_tape(first, buffers, tape).expect(rt, "a tape");
-    expect_that(rt, "a fault", fill_tape(second, buffers, tape).is_err());
-    expect_that(rt, "a fault", fill_tape(third, buffers, tape).is_err());
-    let is_refused = fill_tape_padded(fourth, 7, buffers, tape).is_err();
-    expect_that(rt, "a fault", is_refused);
-}
-
 #[test]
 fn room_of_a_tape_is_used_again(rt: HostRuntime) {
     let mut first = *b"[1,2]";
@@ -163,73 +147,47 @@ fn room_of_a_tape_is_used_again(rt: HostRuntime) {
     let mut buffers = Buffers::new(rt.alloc(), 10).expect(&rt, "memory");
     let nodes = Vec::with_capacity(rt.alloc(), 100).expect(&rt, "memory");
     let mut tape = Tape::from_listing(nodes);
-    let refused = (
-        second.as_mut_slice(),
-        third.as_mut_slice(),
-        fourth.as_mut_slice(),
-    );
-    expect_refused(&rt, &mut buffers, &mut tape, &mut first, refused);
+    fill_tape(&mut first, &mut buffers, &mut tape).expect(&rt, "a tape");
+    let fault = fill_tape(&mut second, &mut buffers, &mut tape);
+    expect_that(&rt, "a fault", fault.is_err());
+    let fault = fill_tape(&mut third, &mut buffers, &mut tape);
+    expect_that(&rt, "a fault", fault.is_err());
+    let fault = fill_tape_padded(&mut fourth, 7, &mut buffers, &mut tape);
+    expect_that(&rt, "a fault", fault.is_err());
     expect_eq(&rt, tape.into_nodes().capacity(), 100);
 }
 
-// Twice two hundred bytes of brackets.
+// Two hundred bytes of brackets.
 fn nested(alloc: Global) -> Result<Vec<u8>, AllocError> {
     let mut text = Vec::new(alloc);
     text.resize(100, b'[')?;
     text.resize(200, b']')?;
-    text.resize(300, b'[')?;
-    text.resize(400, b']')?;
     Ok(text)
-}
-
-// The buffers can be used again after a reading that lacked memory, and left no document.
-fn expect_used_again<'i>(
-    rt: &impl Abort,
-    alloc: Global,
-    buffers: &mut Buffers,
-    tape: &mut Tape<'i>,
-    text: &'i mut [u8],
-) -> Result<(), Fail> {
-    expect_that(rt, "an empty tape", tape.is_empty());
-    fill_tape(text, buffers, tape)?;
-    if tape.is_empty() {
-        return Err(Fail::new("no document"));
-    }
-    let mut out = Vec::new(alloc);
-    tape.as_value().encode(&mut out)?;
-    expect_bytes(rt, out, "[1]");
-    Ok(())
-}
-
-// Reads two texts one after the other, or the third where there is no memory for the first.
-fn expect_read<'i>(
-    rt: &impl Abort,
-    alloc: Global,
-    buffers: &mut Buffers,
-    tape: &mut Tape<'i>,
-    texts: (&'i mut [u8], &'i mut [u8], &'i mut [u8]),
-) -> Result<(), Fail> {
-    let (first, second, third) = texts;
-    if let Err(error) = fill_tape(first, buffers, tape) {
-        expect_eq(rt, error, Error::generic(ErrorType::OutOfMemory));
-        return expect_used_again(rt, alloc, buffers, tape, third);
-    }
-    expect_eq(rt, fill_tape(second, buffers, tape), Ok(()));
-    Ok(())
 }
 
 // Reads a text a second time into the room of the first, which takes no memory. If the first reading lacks memory, as
 // `oracle/memory.sh` has it, the tape is empty, and the buffers can be used again.
 #[test]
 fn second_text_of_a_kind(rt: HostRuntime) -> Result<(), Fail> {
-    let mut texts = nested(rt.alloc())?;
+    let (mut first, mut second) = (nested(rt.alloc())?, nested(rt.alloc())?);
     let mut third = *b"[1]";
-    let half = texts.len() / 2;
-    let (first, second) = texts.split_at_mut(half);
     let mut buffers = Buffers::new(rt.alloc(), 0)?;
     let mut tape = Tape::empty(rt.alloc());
-    let texts = (first, second, third.as_mut_slice());
-    expect_read(&rt, rt.alloc(), &mut buffers, &mut tape, texts)
+    if let Err(error) = fill_tape(&mut first, &mut buffers, &mut tape) {
+        expect_eq(&rt, error, Error::generic(ErrorType::OutOfMemory));
+        expect_that(&rt, "an empty tape", tape.is_empty());
+        fill_tape(&mut third, &mut buffers, &mut tape)?;
+        if tape.is_empty() {
+            return Err(Fail::new("no document"));
+        }
+        let mut out = Vec::new(rt.alloc());
+        tape.as_value().encode(&mut out)?;
+        expect_eq(&rt, out.as_slice(), b"[1]".as_slice());
+        return Ok(());
+    }
+    let second = fill_tape(&mut second, &mut buffers, &mut tape);
+    expect_eq(&rt, second, Ok(()));
+    Ok(())
 }
 
 // [] with bytes behind it, each of which is `byte`, `size` bytes in all.
