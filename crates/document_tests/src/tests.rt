@@ -33,9 +33,19 @@ fn expect_that(rt: &impl Abort, wanted: &str, holds: bool) {
     assert!(rt; holds, "{wanted}");
 }
 
+// Fails unless these bytes are the text.
+fn expect_bytes(rt: &impl Abort, found: Vec<u8>, text: &str) {
+    expect_eq(rt, found.as_slice(), text.as_bytes());
+}
+
 // Whether a call hands out nothing.
 fn is_nothing<T: Drop>(found: Option<T>) -> bool {
     found.is_none()
+}
+
+// Whether a call succeeds.
+fn is_made<T: Drop, E: Drop>(made: Result<T, E>) -> bool {
+    made.is_ok()
 }
 
 // The number that a call hands out.
@@ -64,26 +74,9 @@ fn owned_of(rt: &impl Abort, alloc: Global, json: &str) -> OwnedValue {
     to_owned_value(alloc, &mut text).expect(rt, "a document")
 }
 
-// Looks at a value, and lets it go. It is proved once, for values of any type: code that lets a document or a lazy value go has to
-// be proved for each form of it, at each place where it returns.
-fn seen<T: Drop, R, F: FnOnce(&mut T) -> R + Drop>(mut value: T, look: F) -> R
-    requires { F.IsAlwaysCallable look }
-{
-    look(&mut value)
-}
-
-// Makes a check on the borrowed document of a text. The check holds nothing that has to be dropped.
-fn on_borrowed<F: FnOnce(&mut BorrowedValue<'_>) + Drop>(
-    rt: &impl Abort,
-    alloc: Global,
-    json: &str,
-    check: F,
-)
-    requires { F.IsAlwaysCallable check }
-{
-    let mut text = json.as_bytes().to_vec(alloc).expect(rt, "memory");
-    let mut value = to_borrowed_value(alloc, &mut text).expect(rt, "a document");
-    check(&mut value);
+// The borrowed document of a text.
+fn borrowed_of<'v>(rt: &impl Abort, alloc: Global, text: &'v mut [u8]) -> BorrowedValue<'v> {
+    to_borrowed_value(alloc, text).expect(rt, "a document")
 }
 
 // Fails unless this is the compact text of the document.
@@ -95,7 +88,7 @@ fn expect_text<K: ObjectKey, D: Literal>(
 ) {
     let mut out = Vec::new(alloc);
     value.encode(&mut out).expect(rt, "memory");
-    expect_eq(rt, out.as_slice(), text.as_bytes());
+    expect_bytes(rt, out, text);
 }
 
 // The same of a document that was made for this check.
@@ -105,7 +98,7 @@ fn expect_made<K: ObjectKey + Drop, D: Literal + Drop>(
     value: Value<K, D>,
     text: &str,
 ) {
-    seen(value, |value| expect_text(rt, alloc, value, text));
+    expect_text(rt, alloc, &value, text);
 }
 
 // The array with one more item.

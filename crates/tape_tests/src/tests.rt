@@ -26,8 +26,22 @@ fn expect_that(rt: &impl Abort, wanted: &str, holds: bool) {
     assert!(rt; holds, "{wanted}");
 }
 
+// Fails unless these bytes are the text.
+fn expect_bytes(rt: &impl Abort, found: Vec<u8>, text: &str) {
+    expect_eq(rt, found.as_slice(), text.as_bytes());
+}
+
+// Whether a call hands out something.
+fn is_there<T: Drop>(found: Option<T>) -> bool {
+    found.is_some()
+}
+
+// Fails unless this is the text.
+fn expect_text(rt: &impl Abort, found: String, text: &str) {
+    expect_eq(rt, found.as_str(), text);
+}
+
 // Fails unless this is how the value is displayed.
 fn expect_shown(rt: &impl Abort, alloc: Global, value: &impl Display, text: &str) {
-    let shown = format!(in alloc; "{value}").expect(rt, "memory");
-    expect_eq(rt, shown.as_str(), text);
+    expect_text(rt, format!(in alloc; "{value}").expect(rt, "memory"), text);
 }

@@ -7,8 +7,8 @@ ghost use Rattle.sj_owned.specs.Parts.{member_of};
 ghost use Rattle.sj_owned.specs.Views.{value_tree};
 
 use super::{
-    expect_eq, expect_text, expect_that, is_nothing, number_in, on_borrowed, overwrite, owned_of,
-    seen,
+    borrowed_of, expect_eq, expect_made, expect_text, expect_that, is_nothing, number_in,
+    overwrite, owned_of,
 };
 use sj_base::{TryCopy, ValueType};
 use sj_keys::{KnownKey, KnownKeyError, KnownKeyTarget, KnownKeyTargetMut};
@@ -64,53 +64,61 @@ fn expect_numbers(rt: &impl Abort, alloc: Global, document: &mut BorrowedValue<'
         let found = number_at(alloc, document, &key, BorrowedValue::from(value));
         expect_eq(rt, found, Ok(Some(wanted)));
     }
-    expect_text(rt, alloc, document, r#"{"key":1,"cake":3}"#);
 }
 
 #[test]
 fn lookup_or_insert(rt: HostRuntime) {
-    on_borrowed(&rt, rt.alloc(), r#"{"key":1}"#, |document| {
-        expect_numbers(&rt, rt.alloc(), document);
-    });
+    let mut text = *br#"{"key":1}"#;
+    let mut document = borrowed_of(&rt, rt.alloc(), &mut text);
+    expect_numbers(&rt, rt.alloc(), &mut document);
+    expect_made(&rt, rt.alloc(), document, r#"{"key":1,"cake":3}"#);
 }
 
-// Writes through what each look-up returns, of a key that is there and of one that is new: first in the document {"a":1}, and
-// then in its object.
-fn expect_put(rt: &impl Abort, alloc: Global, document: &mut OwnedValue) {
-    for &(text, number) in &[("a", 2u8), ("b", 3)] {
-        let key = KnownKey::from(text);
-        let found = key.lookup_or_insert_mut(alloc, document, || OwnedValue::null());
-        overwrite(found.expect(rt, "memory"), OwnedValue::from(number));
-    }
-    expect_text(rt, alloc, document, r#"{"a":2,"b":3}"#);
+// Writes through what a look-up of a document returns.
+fn put(rt: &impl Abort, alloc: Global, document: &mut OwnedValue, key: &str, number: u8) {
+    let key = KnownKey::from(key);
+    let found = key.lookup_or_insert_mut(alloc, document, || OwnedValue::null());
+    overwrite(found.expect(rt, "memory"), OwnedValue::from(number));
+}
+
+// Writes through what a look-up of its object returns.
+fn put_member(rt: &impl Abort, alloc: Global, document: &mut OwnedValue, key: &str, number: u8) {
     let members = document.as_object_mut().expect(rt, "an object");
-    for &(text, number) in &[("a", 4u8), ("c", 5)] {
-        let key = KnownKey::from(text);
-        let found = key.map_lookup_or_insert_mut(alloc, members, || OwnedValue::null());
-        overwrite(found.expect(rt, "memory"), OwnedValue::from(number));
-    }
-    expect_text(rt, alloc, document, r#"{"a":4,"b":3,"c":5}"#);
+    let key = KnownKey::from(key);
+    let found = key.map_lookup_or_insert_mut(alloc, members, || OwnedValue::null());
+    overwrite(found.expect(rt, "memory"), OwnedValue::from(number));
 }
 
+// Of a key that is there and of one that is new.
 #[test]
 fn written_where_looked_up(rt: HostRuntime) {
-    seen(owned_of(&rt, rt.alloc(), r#"{"a":1}"#), |document| {
-        expect_put(&rt, rt.alloc(), document);
-    });
+    let mut document = owned_of(&rt, rt.alloc(), r#"{"a":1}"#);
+    put(&rt, rt.alloc(), &mut document, "a", 2);
+    put(&rt, rt.alloc(), &mut document, "b", 3);
+    expect_text(&rt, rt.alloc(), &document, r#"{"a":2,"b":3}"#);
+    put_member(&rt, rt.alloc(), &mut document, "a", 4);
+    put_member(&rt, rt.alloc(), &mut document, "c", 5);
+    expect_made(&rt, rt.alloc(), document, r#"{"a":4,"b":3,"c":5}"#);
+}
+
+// Looks up a key where it isn't an object's.
+fn expect_not_found(rt: &impl Abort, alloc: Global, null: &mut BorrowedValue<'_>) {
+    let key = KnownKey::from("key");
+    let refused = number_at(alloc, null, &key, BorrowedValue::from(true));
+    let null_met = KnownKeyError::NotAnObject(ValueType::Null);
+    expect_eq(rt, refused.err(), Some(null_met));
 }
 
 #[test]
 fn look_up_in_no_object(rt: HostRuntime) {
+    let mut value = BorrowedValue::from(true);
     let key = KnownKey::from("b");
-    seen(BorrowedValue::from(true), |value| {
-        expect_that(&rt, "no member", key.lookup_mut(value).is_none());
-    });
-    let key = KnownKey::from("key");
-    seen(BorrowedValue::null(), |null| {
-        let refused = number_at(rt.alloc(), null, &key, BorrowedValue::from(true));
-        let null_met = KnownKeyError::NotAnObject(ValueType::Null);
-        expect_eq(&rt, refused.err(), Some(null_met));
-    });
+    let is_absent = is_nothing(key.lookup_mut(&mut value));
+    drop(value);
+    expect_that(&rt, "no member", is_absent);
+    let mut null = BorrowedValue::null();
+    expect_not_found(&rt, rt.alloc(), &mut null);
+    drop(null);
 }
 
 // Whether a copy of a key, which is let go, equals another one.
@@ -138,8 +146,11 @@ fn expect_equal_keys(rt: &impl Abort, key: &KnownKey<'_>, owned: &KnownKey<'_>) 
 fn expect_texts(rt: &impl Abort, key: &KnownKey<'_>, owned: &KnownKey<'_>) {
     expect_that(rt, "a key unlike BB", !is_key(key, KnownKey::from("BB")));
     expect_that(rt, "a key of text", !is_key(key, KnownKey::from("")));
-    let (CowStr::Borrowed("Aa"), CowStr::Owned(text)) = (key.key(), owned.key()) else {
+    let CowStr::Borrowed("Aa") = key.key() else {
         panic!(rt; "another text");
+    };
+    let CowStr::Owned(text) = owned.key() else {
+        panic!(rt; "a borrowed text");
     };
     expect_eq(rt, text.as_str(), "Aa");
 }
@@ -148,11 +159,11 @@ fn expect_texts(rt: &impl Abort, key: &KnownKey<'_>, owned: &KnownKey<'_>) {
 fn keys(rt: HostRuntime) {
     let text = String::from_str(rt.alloc(), "Aa").expect(&rt, "memory");
     let owned = KnownKey::from(text);
-    seen(owned, |owned| {
-        let key = KnownKey::from("Aa");
-        expect_equal_keys(&rt, &key, owned);
-        expect_texts(&rt, &key, owned);
-    });
+    let key = KnownKey::from("Aa");
+    expect_equal_keys(&rt, &key, &owned);
+    expect_texts(&rt, &key, &owned);
+    drop(owned);
+    drop(key);
 }
 
 // Writes to the member "b" of {"a":1,"b":2}.
@@ -175,65 +186,69 @@ fn expect_written_in_object(
     let members = document.as_object_mut().expect(rt, "an object");
     let member = key.map_lookup_mut(members).expect(rt, "a member");
     overwrite(member, BorrowedValue::from(5u8));
-    expect_that(rt, "no member", other.map_lookup_mut(members).is_none());
+    expect_that(rt, "no member", is_nothing(other.map_lookup_mut(members)));
     expect_eq(rt, document.get_u64("b"), Some(5));
+}
+
+fn expect_all_written(rt: &impl Abort, document: &mut BorrowedValue<'_>) {
+    let key = KnownKey::from("b");
+    expect_written(rt, document, &key);
+    expect_written_in_object(rt, document, &key, &KnownKey::from("c"));
 }
 
 #[test]
 fn written_members(rt: HostRuntime) {
-    on_borrowed(&rt, rt.alloc(), r#"{"a":1,"b":2}"#, |document| {
-        let key = KnownKey::from("b");
-        expect_written(&rt, document, &key);
-        expect_written_in_object(&rt, document, &key, &KnownKey::from("c"));
-    });
+    let mut text = *br#"{"a":1,"b":2}"#;
+    let mut document = borrowed_of(&rt, rt.alloc(), &mut text);
+    expect_all_written(&rt, &mut document);
+    drop(document);
 }
 
-// Inserts the members "b" and "a" into an empty object.
-fn expect_new(
+// Inserts a member, and returns what it replaces.
+fn insert(
     rt: &impl Abort,
     alloc: Global,
     document: &mut OwnedValue,
-    b: &KnownKey<'_>,
-    a: &KnownKey<'_>,
-) {
-    let old = b.insert(alloc, document, OwnedValue::from(1u8));
-    expect_that(rt, "a new member", is_nothing(old.expect(rt, "memory")));
-    let old = a.insert(alloc, document, OwnedValue::null());
-    expect_that(
-        rt,
-        "another new member",
-        is_nothing(old.expect(rt, "memory")),
-    );
+    key: &str,
+    value: OwnedValue,
+) -> Option<OwnedValue> {
+    let inserted = KnownKey::from(key).insert(alloc, document, value);
+    inserted.expect(rt, "memory")
+}
+
+// Inserts the members "b" and "a" into an empty object.
+fn expect_new(rt: &impl Abort, alloc: Global, document: &mut OwnedValue) {
+    let old = insert(rt, alloc, document, "b", OwnedValue::from(1u8));
+    expect_that(rt, "a new member", is_nothing(old));
+    let old = insert(rt, alloc, document, "a", OwnedValue::null());
+    expect_that(rt, "another new member", is_nothing(old));
 }
 
 // Replaces the first of them twice.
-fn expect_replaced(rt: &impl Abort, alloc: Global, document: &mut OwnedValue, key: &KnownKey<'_>) {
-    let old = key.insert(alloc, document, OwnedValue::from(2u8));
-    expect_eq(rt, number_in(old.expect(rt, "memory")), Some(1));
+fn expect_replaced(rt: &impl Abort, alloc: Global, document: &mut OwnedValue) {
+    let old = insert(rt, alloc, document, "b", OwnedValue::from(2u8));
+    expect_eq(rt, number_in(old), Some(1));
     let members = document.as_object_mut().expect(rt, "an object");
-    let old = key.map_insert(alloc, members, OwnedValue::from(3u8));
+    let old = KnownKey::from("b").map_insert(alloc, members, OwnedValue::from(3u8));
     expect_eq(rt, number_in(old.expect(rt, "memory")), Some(2));
-    expect_text(rt, alloc, document, r#"{"b":3,"a":null}"#);
 }
 
 #[test]
 fn inserted_members(rt: HostRuntime) {
-    seen(OwnedValue::object(rt.alloc()), |document| {
-        let key = KnownKey::from("b");
-        expect_new(&rt, rt.alloc(), document, &key, &KnownKey::from("a"));
-        expect_replaced(&rt, rt.alloc(), document, &key);
-    });
+    let mut document = OwnedValue::object(rt.alloc());
+    expect_new(&rt, rt.alloc(), &mut document);
+    expect_replaced(&rt, rt.alloc(), &mut document);
+    expect_made(&rt, rt.alloc(), document, r#"{"b":3,"a":null}"#);
 }
 
 #[test]
 fn insert_into_no_object(rt: HostRuntime) {
+    let mut number = OwnedValue::from(7u8);
     let key = KnownKey::from("b");
-    seen(OwnedValue::from(7u8), |number| {
-        let refused = key.insert(rt.alloc(), number, OwnedValue::null());
-        let number_met = KnownKeyError::NotAnObject(ValueType::U64);
-        expect_eq(&rt, refused.err(), Some(number_met));
-        expect_eq(&rt, number.as_u64(), Some(7));
-    });
+    let refused = key.insert(rt.alloc(), &mut number, OwnedValue::null());
+    let number_met = KnownKeyError::NotAnObject(ValueType::U64);
+    expect_eq(&rt, refused.err(), Some(number_met));
+    expect_eq(&rt, number_in(Some(number)), Some(7));
 }
 
 // Looks up keys of the empty object, each of which is put there with the number of its call if it is new.
@@ -244,7 +259,7 @@ fn put_new_keys(
 ) -> Result<(), Fail> {
     let mut calls = 0u64;
     for &(text, wanted) in &[("key", 1), ("cake", 2), ("key", 1)] {
-        let before = (calls, object.len());
+        let (calls_before, len_before) = (calls, object.len());
         let with = || {
             calls = calls.wrapping_add(1);
             calls
@@ -253,21 +268,24 @@ fn put_new_keys(
             Ok(found) => expect_eq(rt, *found, wanted),
             Err(error) => {
                 expect_eq(rt, error, KnownKeyError::Memory);
-                expect_eq(rt, (calls, object.len()), before);
+                expect_eq(rt, calls, calls_before);
+                expect_eq(rt, object.len(), len_before);
                 return Err(Fail::new("no memory"));
             }
         }
     }
-    expect_eq(rt, (calls, object.len()), (2, 2));
+    expect_eq(rt, calls, 2);
+    expect_eq(rt, object.len(), 2);
     Ok(())
 }
 
 // A closure is called for a new key alone, and not where there is no memory.
 #[test]
 fn made_for_new_keys(rt: HostRuntime) -> Result<(), Fail> {
-    seen(Object::new(rt.alloc()), |object| {
-        put_new_keys(&rt, rt.alloc(), object)
-    })
+    let mut object = Object::new(rt.alloc());
+    let put = put_new_keys(&rt, rt.alloc(), &mut object);
+    drop(object);
+    put
 }
 
 // Looks up the member, and returns its number and how often the closure was called then. Where there is no memory, it wasn't
@@ -304,9 +322,10 @@ fn put_new_members(rt: &impl Abort, alloc: Global, document: &mut OwnedValue) ->
     let mut calls = 0u64;
     for &(text, wanted) in &[("key", 1), ("cake", 2), ("key", 1)] {
         let key = KnownKey::from(text);
-        let (number, calls_now) = seen(document.try_clone()?, |before| {
-            number_of_call(rt, alloc, document, before, &key, calls)
-        })?;
+        let before = document.try_clone()?;
+        let found = number_of_call(rt, alloc, document, &before, &key, calls);
+        drop(before);
+        let (number, calls_now) = found?;
         expect_eq(rt, number, Some(wanted));
         calls = calls_now;
     }
@@ -316,9 +335,10 @@ fn put_new_members(rt: &impl Abort, alloc: Global, document: &mut OwnedValue) ->
 
 #[test]
 fn made_for_new_members(rt: HostRuntime) -> Result<(), Fail> {
-    seen(OwnedValue::object(rt.alloc()), |document| {
-        put_new_members(&rt, rt.alloc(), document)
-    })
+    let mut document = OwnedValue::object(rt.alloc());
+    let put = put_new_members(&rt, rt.alloc(), &mut document);
+    drop(document);
+    put
 }
 
 // Six blocks, one for each binary digit of `number`, highest first. All of them have one hash.
@@ -349,17 +369,21 @@ fn expect_number(rt: &impl Abort, object: &Object<String, u64>, key: &str, expec
     expect_eq(rt, object.get(key), expected);
 }
 
+// Looks up each of these keys, and one that isn't there.
+fn expect_forty(rt: &impl Abort, alloc: Global, object: &Object<String, u64>) {
+    for number in 0..40u64 {
+        let key = colliding_key(rt, alloc, number);
+        expect_number(rt, object, &key, Some(&number));
+    }
+    expect_number(rt, object, &colliding_key(rt, alloc, 40), None);
+}
+
 #[test]
 fn forty_equal_hashes(rt: HostRuntime) {
-    let alloc = rt.alloc();
-    seen(Object::new(alloc), |object| {
-        put_forty(&rt, alloc, object);
-        for number in 0..40u64 {
-            let key = colliding_key(&rt, alloc, number);
-            expect_number(&rt, object, &key, Some(&number));
-        }
-        expect_number(&rt, object, &colliding_key(&rt, alloc, 40), None);
-    });
+    let mut object = Object::new(rt.alloc());
+    put_forty(&rt, rt.alloc(), &mut object);
+    expect_forty(&rt, rt.alloc(), &object);
+    drop(object);
 }
 
 #[test]
@@ -368,8 +392,7 @@ fn shown_errors(rt: HostRuntime) {
         (KnownKeyError::NotAnObject(ValueType::Array), "NotAnObject"),
         (KnownKeyError::Memory, "Memory"),
     ] {
-        seen(error.to_string(rt.alloc()).expect(&rt, "memory"), |shown| {
-            expect_eq(&rt, shown.as_str(), text);
-        });
+        let shown = error.to_string(rt.alloc()).expect(&rt, "memory");
+        expect_eq(&rt, shown.as_str(), text);
     }
 }

@@ -2,7 +2,7 @@
 ghost use Rattle.std.specs.Prelude.{◌≡◌, Some, OnOk, OnErr};
 ghost use Rattle.sj_lazy.specs.Contents.{own_document};
 
-use super::{expect_at, expect_eq, expect_that, number_in, seen};
+use super::{borrowed_of, expect_at, expect_bytes, expect_eq, expect_that, is_made, number_in};
 use sj_base::{AccessError, StaticNode, TryCopy, TryTypeError, ValueType};
 use sj_lazy::{Held, LazyComparand, Value};
 use sj_owned::{OwnedValue, SameAs};
@@ -28,36 +28,22 @@ fn lazy<'t, 'i>(tape: &'t Tape<'i>) -> Result<Value<'t, 't, 'i>, Fail> {
     Ok(Value::from_tape(tape.as_value()))
 }
 
-// Makes a check on the lazy value of a text. The check holds nothing that has to be dropped.
-fn try_on_text<F: FnOnce(&mut Value<'_, '_, '_>) -> Result<(), Fail> + Drop>(
-    alloc: Global,
-    json: &str,
-    check: F,
-) -> Result<(), Fail>
-    requires { F.IsAlwaysCallable check }
-{
-    let mut text = bytes(alloc, json)?;
-    let tape = to_tape(alloc, &mut text)?;
-    let mut value = lazy(&tape)?;
-    check(&mut value)
+// The tape of a text.
+fn tape_of<'i>(rt: &impl Abort, alloc: Global, text: &'i mut [u8]) -> Tape<'i> {
+    to_tape(alloc, text).expect(rt, "a tape")
 }
 
-// The same where there is memory.
-fn on_text<F: FnOnce(&mut Value<'_, '_, '_>) + Drop>(
-    rt: &impl Abort,
-    alloc: Global,
-    json: &str,
-    check: F,
-)
-    requires { F.IsAlwaysCallable check }
-{
-    let mut text = bytes(alloc, json).expect(rt, "memory");
-    let tape = to_tape(alloc, &mut text).expect(rt, "a tape");
+// The lazy value of a tape, where it isn't empty.
+fn lazy_of<'t, 'i>(rt: &impl Abort, tape: &'t Tape<'i>) -> Value<'t, 't, 'i> {
     if tape.is_empty() {
         panic!(rt; "no document");
     }
-    let mut value = Value::from_tape(tape.as_value());
-    check(&mut value);
+    Value::from_tape(tape.as_value())
+}
+
+// The document of the value, from now on.
+fn upgrade(rt: &impl Abort, alloc: Global, value: &mut Value<'_, '_, '_>) {
+    value.value_mut(alloc).expect(rt, "memory");
 }
 
 // Fails unless this is the compact text of the value.
@@ -69,7 +55,7 @@ fn try_expect_text(
 ) -> Result<(), AllocError> {
     let mut out = Vec::new(alloc);
     value.encode(&mut out)?;
-    expect_eq(rt, out.as_slice(), text.as_bytes());
+    expect_bytes(rt, out, text);
     Ok(())
 }
 
@@ -94,88 +80,139 @@ fn expect_shown(rt: &impl Abort, alloc: Global, value: &Value<'_, '_, '_>, shown
     expect_eq(rt, text.as_str(), shown);
 }
 
+// Whether a value is a tape or a document.
+fn expect_form(rt: &impl Abort, value: &Value<'_, '_, '_>, is_tape: bool) {
+    expect_eq(rt, value.is_tape(), is_tape);
+    expect_eq(rt, value.is_value(), !is_tape);
+}
+
+fn insert_new(rt: &impl Abort, alloc: Global, value: &mut Value<'_, '_, '_>) {
+    let inserted = value.insert(alloc, CowStr::Borrowed("new"), BorrowedValue::from(42u64));
+    expect_that(rt, "a new key", is_nothing(inserted));
+}
+
+// Inserts a member into {"key": "value", "snot": 42}.
+fn expect_inserted(rt: &impl Abort, alloc: Global, value: &mut Value<'_, '_, '_>) {
+    expect_member(rt, alloc, value, "key", r#""value""#);
+    expect_form(rt, value, true);
+    insert_new(rt, alloc, value);
+    expect_form(rt, value, false);
+    expect_member(rt, alloc, value, "key", r#""value""#);
+    expect_member(rt, alloc, value, "new", "42");
+}
+
 #[test]
 fn upgrade_on_insert(rt: HostRuntime) {
-    let alloc = rt.alloc();
-    on_text(&rt, alloc, r#"{"key": "value", "snot": 42}"#, |value| {
-        expect_member(&rt, alloc, value, "key", r#""value""#);
-        expect_eq(&rt, (value.is_tape(), value.is_value()), (true, false));
-        let inserted = value.insert(alloc, CowStr::Borrowed("new"), BorrowedValue::from(42u64));
-        expect_that(&rt, "a new key", is_nothing(inserted));
-        expect_eq(&rt, (value.is_tape(), value.is_value()), (false, true));
-        expect_member(&rt, alloc, value, "key", r#""value""#);
-        expect_member(&rt, alloc, value, "new", "42");
-        expect_text(&rt, alloc, value, r#"{"key":"value","snot":42,"new":42}"#);
-    });
+    let mut text = *br#"{"key": "value", "snot": 42}"#;
+    let tape = tape_of(&rt, rt.alloc(), &mut text);
+    let mut value = lazy_of(&rt, &tape);
+    expect_inserted(&rt, rt.alloc(), &mut value);
+    expect_made(
+        &rt,
+        rt.alloc(),
+        value,
+        r#"{"key":"value","snot":42,"new":42}"#,
+    );
+}
+
+fn type_error(expected: ValueType, got: ValueType) -> TryTypeError {
+    TryTypeError { expected, got }
+}
+
+// The members of {"snot": 1, "badger":[2, 2.5]}, by their types.
+fn expect_typed(rt: &impl Abort, value: &Value<'_, '_, '_>) {
+    expect_eq(rt, value.get_u64("snot"), Some(1));
+    expect_eq(rt, value.get_i8("badger"), None);
+    let number_met = type_error(ValueType::String, ValueType::U64);
+    expect_eq(rt, value.try_get_str("snot"), Err(number_met));
+    expect_eq(rt, value.try_get_bool("x"), Ok(None));
 }
 
 #[test]
 fn typed_reads(rt: HostRuntime) {
-    let alloc = rt.alloc();
-    on_text(&rt, alloc, r#"{"snot": 1, "badger":[2, 2.5]}"#, |value| {
-        expect_eq(&rt, value.get_u64("snot"), Some(1));
-        expect_eq(&rt, value.get_i8("badger"), None);
-        let number_met = TryTypeError {
-            expected: ValueType::String,
-            got: ValueType::U64,
-        };
-        expect_eq(&rt, value.try_get_str("snot"), Err(number_met));
-        expect_eq(&rt, value.try_get_bool("x"), Ok(None));
-    });
-    on_text(&rt, alloc, "[]", |value| {
-        let array_met = TryTypeError {
-            expected: ValueType::Object,
-            got: ValueType::Array,
-        };
-        expect_eq(&rt, value.try_get_bool("x"), Err(array_met));
-    });
+    let mut text = *br#"{"snot": 1, "badger":[2, 2.5]}"#;
+    let tape = tape_of(&rt, rt.alloc(), &mut text);
+    let value = lazy_of(&rt, &tape);
+    expect_typed(&rt, &value);
+    drop(value);
+    let mut text = *b"[]";
+    let tape = tape_of(&rt, rt.alloc(), &mut text);
+    let value = lazy_of(&rt, &tape);
+    let array_met = type_error(ValueType::Object, ValueType::Array);
+    expect_eq(&rt, value.try_get_bool("x"), Err(array_met));
+    drop(value);
 }
 
-// The types of the items of [5,-5,1.5,"a"].
+// The type of an item of [5,-5,1.5,"a"].
+fn expect_type(rt: &impl Abort, value: &Value<'_, '_, '_>, place: usize, kind: ValueType) {
+    let item = value.get_idx(place).expect(rt, "an item");
+    expect_eq(rt, item.value_type(), kind);
+    drop(item);
+}
+
+// The types of all.
 fn expect_types(rt: &impl Abort, value: &Value<'_, '_, '_>) {
-    for &(place, kind) in &[
-        (0, ValueType::U64),
-        (1, ValueType::I64),
-        (2, ValueType::Decimal),
-        (3, ValueType::String),
-    ] {
-        let item = value.get_idx(place).expect(rt, "an item");
-        expect_eq(rt, item.value_type(), kind);
-    }
+    expect_type(rt, value, 0, ValueType::U64);
+    expect_type(rt, value, 1, ValueType::I64);
+    expect_type(rt, value, 2, ValueType::Decimal);
+    expect_type(rt, value, 3, ValueType::String);
 }
 
 // An upgrade leaves each integer in its carrier.
 #[test]
 fn upgrade_keeps_types(rt: HostRuntime) {
-    let alloc = rt.alloc();
-    on_text(&rt, alloc, r#"[5,-5,1.5,"a"]"#, |value| {
-        expect_types(&rt, value);
-        value.value_mut(alloc).expect(&rt, "memory");
-        expect_that(&rt, "a document", value.is_value());
-        expect_types(&rt, value);
-    });
+    let mut text = *br#"[5,-5,1.5,"a"]"#;
+    let tape = tape_of(&rt, rt.alloc(), &mut text);
+    let mut value = lazy_of(&rt, &tape);
+    expect_types(&rt, &value);
+    upgrade(&rt, rt.alloc(), &mut value);
+    expect_that(&rt, "a document", value.is_value());
+    expect_types(&rt, &value);
+    drop(value);
+}
+
+// Writes to the value 7, which has no parts.
+fn expect_no_parts(rt: &impl Abort, alloc: Global, value: &mut Value<'_, '_, '_>) {
+    expect_that(rt, "no array", is_nothing(value.as_array_mut(alloc)));
+    expect_that(rt, "a document", value.is_value());
+    expect_that(rt, "no object", is_nothing(value.as_object_mut(alloc)));
+    expect_that(rt, "no member", is_nothing(value.get_mut(alloc, "a")));
+    expect_that(rt, "no item", is_nothing(value.get_idx_mut(alloc, 0)));
+}
+
+// Takes parts away from it.
+fn expect_nothing_taken(rt: &impl Abort, alloc: Global, value: &mut Value<'_, '_, '_>) {
+    let refused = fault_of(value.remove(alloc, "a"));
+    expect_eq(rt, refused, Some(AccessError::NotAnObject));
+    let refused = fault_of(value.pop(alloc));
+    expect_eq(rt, refused, Some(AccessError::NotAnArray));
+}
+
+fn fault_of<T: Drop, E: Drop>(made: Result<T, E>) -> Option<E> {
+    made.err()
+}
+
+// A write that is refused drops repeated members too.
+fn expect_repeat_dropped(rt: &impl Abort, alloc: Global, value: &mut Value<'_, '_, '_>) {
+    expect_text(rt, alloc, value, r#"{"a":1,"a":2}"#);
+    let pushed = value.push(alloc, BorrowedValue::from(0u64));
+    expect_eq(rt, pushed, Err(AccessError::NotAnArray));
+    expect_text(rt, alloc, value, r#"{"a":1}"#);
 }
 
 #[test]
 fn refused_writes(rt: HostRuntime) {
-    let alloc = rt.alloc();
-    on_text(&rt, alloc, "7", |value| {
-        expect_that(&rt, "no array", is_nothing(value.as_array_mut(alloc)));
-        expect_that(&rt, "a document", value.is_value());
-        expect_that(&rt, "no object", is_nothing(value.as_object_mut(alloc)));
-        expect_that(&rt, "no member", is_nothing(value.get_mut(alloc, "a")));
-        expect_that(&rt, "no item", is_nothing(value.get_idx_mut(alloc, 0)));
-        let refused = value.remove(alloc, "a").err();
-        expect_eq(&rt, refused, Some(AccessError::NotAnObject));
-        expect_eq(&rt, value.pop(alloc).err(), Some(AccessError::NotAnArray));
-    });
-    // A write that is refused drops repeated members too.
-    on_text(&rt, alloc, r#"{"a":1,"a":2}"#, |value| {
-        expect_text(&rt, alloc, value, r#"{"a":1,"a":2}"#);
-        let pushed = value.push(alloc, BorrowedValue::from(0u64));
-        expect_eq(&rt, pushed, Err(AccessError::NotAnArray));
-        expect_text(&rt, alloc, value, r#"{"a":1}"#);
-    });
+    let mut text = *b"7";
+    let tape = tape_of(&rt, rt.alloc(), &mut text);
+    let mut value = lazy_of(&rt, &tape);
+    expect_no_parts(&rt, rt.alloc(), &mut value);
+    expect_nothing_taken(&rt, rt.alloc(), &mut value);
+    drop(value);
+    let mut text = *br#"{"a":1,"a":2}"#;
+    let tape = tape_of(&rt, rt.alloc(), &mut text);
+    let mut value = lazy_of(&rt, &tape);
+    expect_repeat_dropped(&rt, rt.alloc(), &mut value);
+    drop(value);
 }
 
 // The calls that lend a part for writing.
@@ -200,13 +237,18 @@ impl Lending {
     // Makes the call, and returns whether there was memory for it.
     fn is_made(self, value: &mut Value<'_, '_, '_>, alloc: Global) -> bool {
         match self {
-            Lending::ValueMut => value.value_mut(alloc).is_ok(),
-            Lending::AsArrayMut => value.as_array_mut(alloc).is_ok(),
-            Lending::AsObjectMut => value.as_object_mut(alloc).is_ok(),
-            Lending::GetMut => value.get_mut(alloc, "b").is_ok(),
-            Lending::GetIdxMut => value.get_idx_mut(alloc, 0).is_ok(),
+            Lending::ValueMut => is_made(value.value_mut(alloc)),
+            Lending::AsArrayMut => is_made(value.as_array_mut(alloc)),
+            Lending::AsObjectMut => is_made(value.as_object_mut(alloc)),
+            Lending::GetMut => is_made(value.get_mut(alloc, "b")),
+            Lending::GetIdxMut => is_made(value.get_idx_mut(alloc, 0)),
         }
     }
+}
+
+// Compares what such a call left, and names both.
+fn expect_of_call(rt: &impl Abort, call: Lending, text: &str, found: bool, expected: bool) {
+    assert_eq!(rt; found, expected, "{call:?} on {text}");
 }
 
 // Makes one of these calls on the tape of a text, which leaves the document of another one.
@@ -219,26 +261,39 @@ fn expect_upgraded(
     left: &str,
 ) -> Result<(), AllocError> {
     let is_made = call.is_made(value, alloc);
-    let forms = (value.is_value(), value.is_tape());
-    assert_eq!(rt; forms, (is_made, !is_made), "{call:?} on {text}");
+    expect_of_call(rt, call, text, value.is_value(), is_made);
+    expect_of_call(rt, call, text, value.is_tape(), !is_made);
     try_expect_text(rt, alloc, value, if is_made { left } else { text })
+}
+
+// Makes each of them.
+fn expect_all_upgraded(
+    rt: &impl Abort,
+    alloc: Global,
+    tape: &Tape<'_>,
+    text: &str,
+    left: &str,
+) -> Result<(), Fail> {
+    for call in LENDINGS {
+        let mut value = lazy(tape)?;
+        let made = expect_upgraded(rt, alloc, call, &mut value, text, left);
+        drop(value);
+        made?;
+    }
+    Ok(())
 }
 
 // Each of these calls as the first one on a tape, whatever it finds. If the upgrade lacks memory, as
 // `oracle/memory.sh` has it, the tape stays.
 #[test]
 fn first_writes(rt: HostRuntime) -> Result<(), Fail> {
-    let alloc = rt.alloc();
     for &(text, left) in &[
         (r#"{"a":1,"a":2}"#, r#"{"a":1}"#),
         (r#"[{"a":1,"a":2}]"#, r#"[{"a":1}]"#),
     ] {
-        for &call in &LENDINGS {
-            try_on_text(alloc, text, |value| {
-                expect_upgraded(&rt, alloc, call, value, text, left)?;
-                Ok(())
-            })?;
-        }
+        let mut json = bytes(rt.alloc(), text)?;
+        let tape = to_tape(rt.alloc(), &mut json)?;
+        expect_all_upgraded(&rt, rt.alloc(), &tape, text, left)?;
     }
     Ok(())
 }
@@ -255,16 +310,16 @@ fn expect_parts(rt: &impl Abort, value: &Value<'_, '_, '_>) {
 // Reads the parts of that document, and removes one.
 fn expect_removed(rt: &impl Abort, alloc: Global, value: &mut Value<'_, '_, '_>) {
     expect_parts(rt, value);
-    let removed = seen(value.remove(alloc, "a"), |removed| removed.is_ok());
-    expect_that(rt, "a member", removed);
+    expect_that(rt, "a member", is_made(value.remove(alloc, "a")));
     expect_text(rt, alloc, value, r#"{"s":"x"}"#);
 }
 
 // Whether `into_owned` gives a document of its own.
 fn owns_document(value: Value<'_, '_, '_>, alloc: Global) -> bool {
-    seen(value.into_owned(alloc), |owned| {
-        matches!(owned, Ok(Value::Value(Held::Owned(_))))
-    })
+    let owned = value.into_owned(alloc);
+    let is_owned = matches!(owned, Ok(Value::Value(Held::Owned(_))));
+    drop(owned);
+    is_owned
 }
 
 // A value that borrows the document.
@@ -274,7 +329,9 @@ fn held<'b, 'i>(document: &'b BorrowedValue<'i>) -> Value<'b, 'b, 'i> {
 
 // Writes to a value that borrows the document {"a":[1,2],"s":"x"}, and makes others.
 fn expect_original(rt: &impl Abort, alloc: Global, document: &BorrowedValue<'_>) {
-    seen(held(document), |value| expect_removed(rt, alloc, value));
+    let mut value = held(document);
+    expect_removed(rt, alloc, &mut value);
+    drop(value);
     expect_made(rt, alloc, held(document), r#"{"a":[1,2],"s":"x"}"#);
     expect_that(rt, "an owner", owns_document(held(document), alloc));
 }
@@ -284,8 +341,9 @@ fn expect_original(rt: &impl Abort, alloc: Global, document: &BorrowedValue<'_>)
 fn borrowed_document(rt: HostRuntime) {
     let alloc = rt.alloc();
     let mut text = *br#"{"a":[1,2],"s":"x"}"#;
-    let document = to_borrowed_value(alloc, &mut text).expect(&rt, "a document");
+    let document = borrowed_of(&rt, alloc, &mut text);
     expect_original(&rt, alloc, &document);
+    drop(document);
 }
 
 // Makes one of these calls on a value that borrows a document.
@@ -297,7 +355,7 @@ fn expect_copied(
 ) -> Result<(), AllocError> {
     let is_made = call.is_made(value, alloc);
     let is_owned = matches!(value, Value::Value(Held::Owned(_)));
-    assert_eq!(rt; is_owned, is_made, "{call:?}");
+    expect_of_call(rt, call, "a borrowed document", is_owned, is_made);
     try_expect_text(rt, alloc, value, r#"{"a":[1,2],"s":"x"}"#)
 }
 
@@ -308,10 +366,10 @@ fn expect_all_copied(
     document: &BorrowedValue<'_>,
 ) -> Result<(), Fail> {
     for call in LENDINGS {
-        seen(
-            held(document),
-            |value| expect_copied(rt, alloc, call, value),
-        )?;
+        let mut value = held(document);
+        let made = expect_copied(rt, alloc, call, &mut value);
+        drop(value);
+        made?;
     }
     Ok(())
 }
@@ -323,7 +381,9 @@ fn first_writes_to_copies(rt: HostRuntime) -> Result<(), Fail> {
     let alloc = rt.alloc();
     let mut text = *br#"{"a":[1,2],"s":"x"}"#;
     let document = to_borrowed_value(alloc, &mut text)?;
-    expect_all_copied(&rt, alloc, &document)
+    let copied = expect_all_copied(&rt, alloc, &document);
+    drop(document);
+    copied
 }
 
 // Appends a null and takes the last item away again, which is to be that null.
@@ -352,14 +412,14 @@ fn clear_items(rt: &impl Abort, alloc: Global, value: &mut Value<'_, '_, '_>) {
 
 #[test]
 fn writes_to_items(rt: HostRuntime) {
-    let alloc = rt.alloc();
-    on_text(&rt, alloc, r#"[1,{"b":2}]"#, |value| {
-        push_and_pop_null(&rt, alloc, value);
-        expect_eq(&rt, removed_number(&rt, alloc, value), Some(2));
-        expect_text(&rt, alloc, value, "[1,{}]");
-        clear_items(&rt, alloc, value);
-        expect_text(&rt, alloc, value, "[]");
-    });
+    let mut text = *br#"[1,{"b":2}]"#;
+    let tape = tape_of(&rt, rt.alloc(), &mut text);
+    let mut value = lazy_of(&rt, &tape);
+    push_and_pop_null(&rt, rt.alloc(), &mut value);
+    expect_eq(&rt, removed_number(&rt, rt.alloc(), &mut value), Some(2));
+    expect_text(&rt, rt.alloc(), &value, "[1,{}]");
+    clear_items(&rt, rt.alloc(), &mut value);
+    expect_made(&rt, rt.alloc(), value, "[]");
 }
 
 // A write through `value_mut`. Its clauses say what is left.
@@ -459,7 +519,8 @@ fn expect_indented(rt: &impl Abort, alloc: Global, value: &Value<'_, '_, '_>) {
     let mut out = Vec::new(alloc);
     let member = value.get("o").expect(rt, "a member");
     member.encode_pp(&mut out).expect(rt, "memory");
-    expect_eq(rt, out.as_slice(), b"{\n  \"k\": null\n}".as_slice());
+    drop(member);
+    expect_bytes(rt, out, "{\n  \"k\": null\n}");
 }
 
 // Looks for a tape of that text.
@@ -473,14 +534,15 @@ fn expect_kept_tape(rt: &impl Abort, alloc: Global, value: Value<'_, '_, '_>) {
 // A copy of a tape is that tape.
 #[test]
 fn copies(rt: HostRuntime) {
-    let alloc = rt.alloc();
-    on_text(&rt, alloc, r#"{"o":{"k":null}}"#, |value| {
-        let copy = value.try_clone().expect(&rt, "memory");
-        value.value_mut(alloc).expect(&rt, "memory");
-        expect_kept_tape(&rt, alloc, copy);
-        let copy = value.try_clone().expect(&rt, "memory");
-        expect_made(&rt, alloc, copy, r#"{"o":{"k":null}}"#);
-    });
+    let mut text = *br#"{"o":{"k":null}}"#;
+    let tape = tape_of(&rt, rt.alloc(), &mut text);
+    let mut value = lazy_of(&rt, &tape);
+    let copy = value.try_clone().expect(&rt, "memory");
+    upgrade(&rt, rt.alloc(), &mut value);
+    expect_kept_tape(&rt, rt.alloc(), copy);
+    let copy = value.try_clone().expect(&rt, "memory");
+    drop(value);
+    expect_made(&rt, rt.alloc(), copy, r#"{"o":{"k":null}}"#);
 }
 
 // The same of what a call makes that can lack memory.
@@ -550,29 +612,42 @@ fn equal_to_its_document(rt: HostRuntime) {
     let mut texts = *br#"{"a":1,"a":2}{"a":1,"a":2}"#;
     let half = texts.len() / 2;
     let (left, right) = texts.split_at_mut(half);
-    let tape = to_tape(rt.alloc(), left).expect(&rt, "a tape");
-    let document = to_borrowed_value(rt.alloc(), right).expect(&rt, "a document");
-    if tape.is_empty() {
-        panic!(rt; "no document");
-    }
-    let value = Value::from_tape(tape.as_value());
+    let tape = tape_of(&rt, rt.alloc(), left);
+    let value = lazy_of(&rt, &tape);
+    let document = borrowed_of(&rt, rt.alloc(), right);
     expect_that(&rt, "the document", is_equal(value, Value::from(document)));
 }
 
-// Compares the value of a text with another value, as a tape and as a document.
+// Compares a tape with another value, and then its document.
+fn expect_same<T: LazyComparand>(
+    rt: &impl Abort,
+    alloc: Global,
+    json: &str,
+    value: &mut Value<'_, '_, '_>,
+    other: &T,
+    of_tape: bool,
+    of_document: bool,
+) {
+    expect_at(rt, json, value.same_as(other), of_tape);
+    expect_that(rt, "a tape", value.is_tape());
+    upgrade(rt, alloc, value);
+    expect_at(rt, json, value.same_as(other), of_document);
+}
+
+// The same of the value of a text.
 fn same_as<T: LazyComparand>(
     rt: &impl Abort,
     alloc: Global,
     json: &str,
     other: &T,
-    is_same: (bool, bool),
+    of_tape: bool,
+    of_document: bool,
 ) {
-    on_text(rt, alloc, json, |value| {
-        let of_tape = value.same_as(other);
-        expect_that(rt, "a tape", value.is_tape());
-        value.value_mut(alloc).expect(rt, "memory");
-        expect_at(rt, json, (of_tape, value.same_as(other)), is_same);
-    });
+    let mut text = bytes(alloc, json).expect(rt, "memory");
+    let tape = tape_of(rt, alloc, &mut text);
+    let mut value = lazy_of(rt, &tape);
+    expect_same(rt, alloc, json, &mut value, other, of_tape, of_document);
+    drop(value);
 }
 
 // Each key of the map is sought in the object. A repeated key of a tape counts as a member, and is none of the document.
@@ -588,20 +663,22 @@ fn same_as_maps(rt: HostRuntime) {
         (r#"{"a":1,"a":1}"#, false, true),
         ("[1]", false, false),
     ] {
-        same_as(&rt, alloc, json, &map, (*of_tape, *of_document));
+        same_as(&rt, alloc, json, &map, *of_tape, *of_document);
     }
     put(alloc, &mut map, "b", 2).expect(&rt, "memory");
-    same_as(&rt, alloc, r#"{"b":2,"a":1}"#, &map, (true, true));
-    same_as(&rt, alloc, r#"{"a":1,"a":1}"#, &map, (false, false));
+    same_as(&rt, alloc, r#"{"b":2,"a":1}"#, &map, true, true);
+    same_as(&rt, alloc, r#"{"a":1,"a":1}"#, &map, false, false);
 }
 
 // Fails unless the value of a text is displayed like this, as a tape and as a document.
 fn expect_both_shown(rt: &impl Abort, alloc: Global, json: &str, of_tape: &str, of_document: &str) {
-    on_text(rt, alloc, json, |value| {
-        expect_shown(rt, alloc, value, of_tape);
-        value.value_mut(alloc).expect(rt, "memory");
-        expect_shown(rt, alloc, value, of_document);
-    });
+    let mut text = bytes(alloc, json).expect(rt, "memory");
+    let tape = tape_of(rt, alloc, &mut text);
+    let mut value = lazy_of(rt, &tape);
+    expect_shown(rt, alloc, &value, of_tape);
+    upgrade(rt, alloc, &mut value);
+    expect_shown(rt, alloc, &value, of_document);
+    drop(value);
 }
 
 #[test]

@@ -6,8 +6,8 @@ ghost use Rattle.sj_owned.specs.Parts.{item_of, member_of};
 ghost use Rattle.sj_owned.specs.Views.{value_tree};
 
 use super::{
-    expect_at, expect_eq, expect_made, expect_text, expect_that, is_equal, is_nothing, number_in,
-    overwrite, owned_of, seen, with_item, with_member,
+    expect_at, expect_bytes, expect_eq, expect_made, expect_text, expect_that, is_equal,
+    is_nothing, number_in, overwrite, owned_of, with_item, with_member,
 };
 use sj_base::{AccessError, Decimal, DecimalBuf, DecimalCow, StaticNode};
 use sj_object::ObjectKey;
@@ -134,42 +134,40 @@ fn edit_by_index(rt: &impl Abort, alloc: Global, o: &mut Value) {
 #[test]
 fn owned_edit_by_index(rt: HostRuntime) {
     let alloc = rt.alloc();
-    seen(Value::object(alloc), |o| {
-        edit_by_index(&rt, alloc, o);
-        expect_text(&rt, alloc, o, r#"{"key":[{"other":"value"}]}"#);
-    });
+    let mut o = Value::object(alloc);
+    edit_by_index(&rt, alloc, &mut o);
+    expect_made(&rt, alloc, o, r#"{"key":[{"other":"value"}]}"#);
 }
 
 // Looks in the sample for parts that it doesn't have.
 fn expect_nothing_lent(rt: &impl Abort, v: &mut Value) {
-    expect_that(rt, "no member", v.get_mut("x").is_none());
-    expect_that(rt, "no item", v.get_idx_mut(0).is_none());
+    expect_that(rt, "no member", is_nothing(v.get_mut("x")));
+    expect_that(rt, "no item", is_nothing(v.get_idx_mut(0)));
     let items = v.get_mut("a").expect(rt, "items");
-    expect_that(rt, "no member of an array", items.get_mut("n").is_none());
-    expect_that(
-        rt,
-        "no item behind the last",
-        items.get_idx_mut(1).is_none(),
-    );
+    expect_that(rt, "no member of an array", is_nothing(items.get_mut("n")));
+    expect_that(rt, "one item alone", is_nothing(items.get_idx_mut(1)));
 }
 
 // A document that has nothing to lend stays as it is.
 #[test]
 fn nothing_to_lend(rt: HostRuntime) {
     let alloc = rt.alloc();
-    seen(owned_of(&rt, alloc, SAMPLE), |v| {
-        expect_nothing_lent(&rt, v);
-        expect_text(&rt, alloc, v, SAMPLE);
-    });
+    let mut v = owned_of(&rt, alloc, SAMPLE);
+    expect_nothing_lent(&rt, &mut v);
+    expect_made(&rt, alloc, v, SAMPLE);
 }
 
-// Puts a member into the empty object, replaces it twice, and removes it.
-fn insert_and_remove(rt: &impl Abort, alloc: Global, v: &mut Value) {
+// Puts a member into the empty object, and replaces it twice.
+fn put_and_replace(rt: &impl Abort, alloc: Global, v: &mut Value) {
     put_new(rt, alloc, v, "key", number(1));
     let old = v.insert(string(rt, alloc, "key"), number(2));
     expect_eq(rt, number_in(old.expect(rt, "memory")), Some(1));
     v.get("key").expect(rt, "a key");
     overwrite(&mut v["key"], number(3));
+}
+
+// Removes that member, which is there once.
+fn expect_removed(rt: &impl Abort, v: &mut Value) {
     let old = v.remove("key").expect(rt, "an object");
     expect_eq(rt, number_in(old), Some(3));
     let old = v.remove("key").expect(rt, "an object");
@@ -178,18 +176,25 @@ fn insert_and_remove(rt: &impl Abort, alloc: Global, v: &mut Value) {
 
 #[test]
 fn owned_insert_remove(rt: HostRuntime) {
-    let alloc = rt.alloc();
-    seen(Value::object(alloc), |v| insert_and_remove(&rt, alloc, v));
+    let mut v = Value::object(rt.alloc());
+    put_and_replace(&rt, rt.alloc(), &mut v);
+    expect_removed(&rt, &mut v);
+    drop(v);
+}
+
+// Writes to a null.
+fn expect_refused(rt: &impl Abort, alloc: Global, null: &mut Value) {
+    let refused = null.insert(string(rt, alloc, "key"), number(1));
+    expect_eq(rt, refused.err(), Some(AccessError::NotAnObject));
+    let refused = null.push(number(1));
+    expect_eq(rt, refused.err(), Some(AccessError::NotAnArray));
 }
 
 #[test]
 fn refused_writes(rt: HostRuntime) {
-    seen(Value::null(), |null| {
-        let refused = null.insert(string(&rt, rt.alloc(), "key"), number(1));
-        expect_eq(&rt, refused.err(), Some(AccessError::NotAnObject));
-        let refused = null.push(number(1));
-        expect_eq(&rt, refused.err(), Some(AccessError::NotAnArray));
-    });
+    let mut null = Value::null();
+    expect_refused(&rt, rt.alloc(), &mut null);
+    drop(null);
 }
 
 // Writes to the number of the sample.
@@ -212,9 +217,12 @@ fn write_to_item(rt: &impl Abort, alloc: Global, items: &mut Value) {
 #[test]
 fn written_parts(rt: HostRuntime) {
     let alloc = rt.alloc();
-    seen(owned_of(&rt, alloc, SAMPLE), |v| write_to_member(&rt, v));
-    let items = with_item(&rt, Value::array(alloc), Value::null());
-    seen(items, |items| write_to_item(&rt, alloc, items));
+    let mut v = owned_of(&rt, alloc, SAMPLE);
+    write_to_member(&rt, &mut v);
+    drop(v);
+    let mut items = with_item(&rt, Value::array(alloc), Value::null());
+    write_to_item(&rt, alloc, &mut items);
+    drop(items);
 }
 
 // {"a":[1]}, in containers that were made with room.
@@ -227,32 +235,39 @@ fn with_room(rt: &impl Abort, alloc: Global) -> Value {
 
 #[test]
 fn room_and_lines(rt: HostRuntime) {
-    seen(with_room(&rt, rt.alloc()), |v| {
-        let mut out = b"> ".to_vec(rt.alloc()).expect(&rt, "memory");
-        v.encode_pp(&mut out).expect(&rt, "memory");
-        let lines = b"> {\n  \"a\": [\n    1\n  ]\n}";
-        expect_eq(&rt, out.as_slice(), lines.as_slice());
-    });
+    let v = with_room(&rt, rt.alloc());
+    let mut out = b"> ".to_vec(rt.alloc()).expect(&rt, "memory");
+    v.encode_pp(&mut out).expect(&rt, "memory");
+    drop(v);
+    expect_bytes(&rt, out, "> {\n  \"a\": [\n    1\n  ]\n}");
 }
 
-// Takes back what an array holds.
-fn pop_all(rt: &impl Abort, v: &mut Value) {
-    expect_eq(rt, v.get_idx(1).expect(rt, "an item").as_u64(), Some(1));
-    expect_eq(rt, number_in(v.pop().expect(rt, "an array")), Some(1));
-    let item = v.pop().expect(rt, "an array").expect(rt, "an item");
-    let is_zero = seen(item, |item| item.as_str() == Some("zero"));
-    expect_that(rt, "the text", is_zero);
-    expect_that(rt, "no item", is_nothing(v.pop().expect(rt, "an array")));
+// Puts two items into the empty array.
+fn push_two(rt: &impl Abort, alloc: Global, v: &mut Value) {
+    v.push(text(rt, alloc, "zero")).expect(rt, "memory");
+    v.push(number(1)).expect(rt, "memory");
+    let item = v.get_idx(1).expect(rt, "an item");
+    expect_eq(rt, item.as_u64(), Some(1));
+}
+
+fn pop(rt: &impl Abort, v: &mut Value) -> Option<Value> {
+    v.pop().expect(rt, "an array")
+}
+
+// Takes back what that array holds.
+fn pop_all(rt: &impl Abort, alloc: Global, v: &mut Value) {
+    expect_eq(rt, number_in(pop(rt, v)), Some(1));
+    let zero = pop(rt, v).expect(rt, "an item");
+    expect_made(rt, alloc, zero, r#""zero""#);
+    expect_that(rt, "no item", is_nothing(pop(rt, v)));
 }
 
 #[test]
 fn owned_push_pop(rt: HostRuntime) {
-    let alloc = rt.alloc();
-    seen(Value::array(alloc), |v| {
-        v.push(text(&rt, alloc, "zero")).expect(&rt, "memory");
-        v.push(number(1)).expect(&rt, "memory");
-        pop_all(&rt, v);
-    });
+    let mut v = Value::array(rt.alloc());
+    push_two(&rt, rt.alloc(), &mut v);
+    pop_all(&rt, rt.alloc(), &mut v);
+    drop(v);
 }
 
 // An object of these members.
@@ -269,16 +284,19 @@ fn decimal(rt: &impl Abort, alloc: Global, text: &str) -> Value {
     Value::Decimal(DecimalBuf::new(alloc, literal).expect(rt, "memory"))
 }
 
+// {"b":2,"a":1}
+fn back(rt: &impl Abort, alloc: Global) -> Value {
+    numbers(rt, alloc, &[("b", 2), ("a", 1)])
+}
+
 #[test]
 fn equal_in_any_order(rt: HostRuntime) {
     let alloc = rt.alloc();
-    let back = [("b", 2), ("a", 1)];
-    seen(numbers(&rt, alloc, &[("a", 1), ("b", 2)]), |there| {
-        let same = numbers(&rt, alloc, &back);
-        expect_that(&rt, "an equal object", is_equal(there, same));
-        expect_text(&rt, alloc, there, r#"{"a":1,"b":2}"#);
-    });
-    expect_made(&rt, alloc, numbers(&rt, alloc, &back), r#"{"b":2,"a":1}"#);
+    let there = numbers(&rt, alloc, &[("a", 1), ("b", 2)]);
+    let is_same = is_equal(&there, back(&rt, alloc));
+    expect_made(&rt, alloc, there, r#"{"a":1,"b":2}"#);
+    expect_that(&rt, "an equal object", is_same);
+    expect_made(&rt, alloc, back(&rt, alloc), r#"{"b":2,"a":1}"#);
 }
 
 // An array of this decimal.
@@ -289,20 +307,21 @@ fn array_of_decimal(rt: &impl Abort, alloc: Global, text: &str) -> Value {
 #[test]
 fn unequal_decimals(rt: HostRuntime) {
     let alloc = rt.alloc();
-    seen(array_of_decimal(&rt, alloc, "1.50"), |long| {
-        let short = array_of_decimal(&rt, alloc, "1.5");
-        expect_that(&rt, "another number", !is_equal(long, short));
-    });
+    let long = array_of_decimal(&rt, alloc, "1.50");
+    let short = array_of_decimal(&rt, alloc, "1.5");
+    let is_same = is_equal(&long, short);
+    drop(long);
+    expect_that(&rt, "another number", !is_same);
 }
 
 #[test]
 fn same_as_others(rt: HostRuntime) {
     let alloc = rt.alloc();
     let borrowed: Document<CowStr<'_>, DecimalCow<'_>> = Document::from("x");
-    seen(borrowed, |borrowed| {
-        let value = text(&rt, alloc, "x");
-        expect_that(&rt, "the same text", is_same(value, borrowed));
-    });
+    let value = text(&rt, alloc, "x");
+    let is_same_text = is_same(value, &borrowed);
+    drop(borrowed);
+    expect_that(&rt, "the same text", is_same_text);
     let value = Value::from_text(alloc, "x").expect(&rt, "memory");
     expect_that(&rt, "the same str", is_same(value, &"x"));
     expect_that(&rt, "the same number", is_same(Value::from(1u8), &1i128));
@@ -332,18 +351,16 @@ fn sample_map(rt: &impl Abort, alloc: Global) -> HashMap<String, Value> {
     map
 }
 
-// Of pairs and of a map.
+// Of pairs and of a map, whose members go by their keys.
 #[test]
 fn made_of_pairs(rt: HostRuntime) {
     let alloc = rt.alloc();
     expect_made(&rt, alloc, object_of_pairs(&rt, alloc), r#"{"a":3,"b":2}"#);
-    seen(sample_map(&rt, alloc), |map| {
-        let object = object_of_pairs(&rt, alloc);
-        expect_that(&rt, "the same members", is_same(object, map));
-    });
-    // The members of a map go by their keys.
-    let object = Value::from_map(alloc, sample_map(&rt, alloc)).expect(&rt, "memory");
+    let map = sample_map(&rt, alloc);
+    let is_same_map = is_same(object_of_pairs(&rt, alloc), &map);
+    let object = Value::from_map(alloc, map).expect(&rt, "memory");
     expect_made(&rt, alloc, object, r#"{"a":3,"b":2}"#);
+    expect_that(&rt, "the same members", is_same_map);
 }
 
 // 404 pairs.
@@ -379,7 +396,8 @@ fn expect_numbers(rt: &impl Abort, object: &Value) {
 fn made_of_many_pairs(rt: HostRuntime) {
     let alloc = rt.alloc();
     let object = Value::from_pairs(alloc, many_pairs(&rt, alloc)).expect(&rt, "memory");
-    seen(object, |object| expect_numbers(&rt, object));
+    expect_numbers(&rt, &object);
+    drop(object);
 }
 
 // Of a list and of values.
@@ -390,19 +408,16 @@ fn made_of_lists(rt: HostRuntime) {
     let list = Value::from_list(alloc, list).expect(&rt, "memory");
     expect_made(&rt, alloc, list, "[1,null]");
     let list = Vec::from_array(alloc, [1u64]).expect(&rt, "memory");
-    seen(list, |list| {
-        let values = Vec::from_array(alloc, [1i64]).expect(&rt, "memory");
-        let values = Value::from_values(alloc, values).expect(&rt, "memory");
-        expect_that(&rt, "the same list", is_same(values, list));
-    });
+    let values = Vec::from_array(alloc, [1i64]).expect(&rt, "memory");
+    let values = Value::from_values(alloc, values).expect(&rt, "memory");
+    expect_that(&rt, "the same list", is_same(values, &list));
 }
 
 // Fails unless the document is displayed like this.
 fn expect_shown(rt: &impl Abort, alloc: Global, value: Value, shown: &str) {
-    seen(value, |value| {
-        let found = value.to_string(alloc).expect(rt, "memory");
-        expect_eq(rt, found.as_str(), shown);
-    });
+    let found = value.to_string(alloc).expect(rt, "memory");
+    drop(value);
+    expect_eq(rt, found.as_str(), shown);
 }
 
 #[test]

@@ -3,10 +3,10 @@ ghost use Rattle.std.specs.Prelude.{IfOk};
 ghost use Rattle.sj_base.specs.Spelling.{Spells};
 ghost use Rattle.sj_owned.specs.Views.{value_tree};
 
-use super::{expect_eq, owned_of, seen};
+use super::{expect_eq, owned_of};
 use sj_base::laws::printing_reads_back;
 use sj_object::ObjectKey;
-use sj_owned::{Literal, Value, to_owned_value};
+use sj_owned::{Literal, OwnedValue, Value, to_owned_value};
 use std::alloc::{AllocError, Global};
 use std::process::Abort;
 
@@ -29,14 +29,12 @@ fn text_of<K: ObjectKey, D: Literal>(
     Ok(text)
 }
 
-fn expect_read_back(rt: &impl Abort, alloc: Global, json: &str) {
-    seen(owned_of(rt, alloc, json), |value| {
-        for &is_indented in &[false, true] {
-            let mut text = text_of(alloc, value, is_indented).expect(rt, "memory");
-            let read = to_owned_value(alloc, &mut text).expect(rt, "a document");
-            seen(read, |read| expect_eq(rt, &*read, &*value));
-        }
-    });
+// Reads the text of a document back.
+fn expect_read_back(rt: &impl Abort, alloc: Global, value: &OwnedValue, is_indented: bool) {
+    let mut text = text_of(alloc, value, is_indented).expect(rt, "memory");
+    let read = to_owned_value(alloc, &mut text).expect(rt, "a document");
+    expect_eq(rt, &read, value);
+    drop(read);
 }
 
 #[test]
@@ -46,6 +44,9 @@ fn read_back(rt: HostRuntime) {
         r#"{"a":[1,-2,1.50,18446744073709551616],"":{"é":null,"\u001f":true}}"#,
         r#"[[],{},"\ud83d\ude00\"\\",{"b":[{"c":[]}]}]"#,
     ] {
-        expect_read_back(&rt, rt.alloc(), json);
+        let value = owned_of(&rt, rt.alloc(), json);
+        expect_read_back(&rt, rt.alloc(), &value, false);
+        expect_read_back(&rt, rt.alloc(), &value, true);
+        drop(value);
     }
 }

@@ -1,7 +1,5 @@
 //! Of `sj_owned` and `sj_values`: documents that are read from bytes, with ample memory.
-use super::{
-    expect_eq, expect_made, expect_text, expect_that, is_borrowed_text, on_borrowed, owned_of, seen,
-};
+use super::{borrowed_of, expect_eq, expect_made, expect_that, is_borrowed_text, owned_of};
 use sj_base::{DecimalCow, ErrorType, ValueType};
 use sj_owned::{
     OwnedDeserializer, OwnedValue, Value, deserialize, deserialize_with_buffers,
@@ -22,9 +20,9 @@ fn read_by_their_own_buffers(rt: HostRuntime) {
     let mut text = *b"[1.50]";
     let value = deserialize::<OwnedValue, String>(alloc, &mut text).expect(&rt, "a document");
     expect_made(&rt, alloc, value, "[1.50]");
-    on_borrowed(&rt, alloc, r#"{"some": ["key", "value", 2]}"#, |value| {
-        expect_text(&rt, alloc, value, r#"{"some":["key","value",2]}"#);
-    });
+    let mut text = *br#"{"some": ["key", "value", 2]}"#;
+    let value = borrowed_of(&rt, alloc, &mut text);
+    expect_made(&rt, alloc, value, r#"{"some":["key","value",2]}"#);
 }
 
 fn expect_owned(rt: &impl Abort, alloc: Global, buffers: &mut Buffers) {
@@ -55,13 +53,12 @@ fn expect_refused(rt: &impl Abort, alloc: Global, buffers: &mut Buffers) {
 #[test]
 fn read_by_buffers(rt: HostRuntime) {
     let alloc = rt.alloc();
-    let buffers = Buffers::with_max_depth(alloc, 0, 1).expect(&rt, "memory");
-    seen(buffers, |buffers| {
-        expect_owned(&rt, alloc, buffers);
-        expect_borrowed(&rt, alloc, buffers);
-        expect_built(&rt, alloc, buffers);
-        expect_refused(&rt, alloc, buffers);
-    });
+    let mut buffers = Buffers::with_max_depth(alloc, 0, 1).expect(&rt, "memory");
+    expect_owned(&rt, alloc, &mut buffers);
+    expect_borrowed(&rt, alloc, &mut buffers);
+    expect_built(&rt, alloc, &mut buffers);
+    expect_refused(&rt, alloc, &mut buffers);
+    drop(buffers);
 }
 
 // Looks for the documents that are left, one after the other.
@@ -113,51 +110,71 @@ fn borrowed_from_a_tape(rt: HostRuntime) {
     let alloc = rt.alloc();
     let mut text = *br#"{"a":1,"a":2}"#;
     let nodes = Deserializer::from_slice(alloc, &mut text).expect(&rt, "a tape");
-    seen(BorrowDeserializer::from_deserializer(nodes), |values| {
-        expect_made(&rt, alloc, only_part(&rt, alloc, values), r#"{"a":1}"#);
-    });
+    let mut values = BorrowDeserializer::from_deserializer(nodes);
+    let part = only_part(&rt, alloc, &mut values);
+    drop(values);
+    expect_made(&rt, alloc, part, r#"{"a":1}"#);
 }
 
-// The integers of [5,-5,"a","\u0061",1.5] have the carriers of their tokens, and each text is a part of the input.
-fn expect_as_they_stand(rt: &impl Abort, value: &BorrowedValue<'_>) {
-    for &(place, kind) in &[(0, ValueType::U64), (1, ValueType::I64)] {
-        let item = value.get_idx(place).expect(rt, "an item");
-        expect_eq(rt, item.value_type(), kind);
-    }
+// The integers of [5,-5,"a","\u0061",1.5] have the carriers of their tokens.
+fn expect_carrier(rt: &impl Abort, value: &BorrowedValue<'_>, place: usize, kind: ValueType) {
+    let item = value.get_idx(place).expect(rt, "an item");
+    expect_eq(rt, item.value_type(), kind);
+}
+
+// Each text of it is a part of the input.
+fn expect_parts_of_input(rt: &impl Abort, value: &BorrowedValue<'_>) {
     for &place in &[2, 3] {
         let text = value.get_idx(place);
         expect_that(rt, "a borrowed text", is_borrowed_text(text, "a"));
     }
     let literal = value.get_idx(4);
-    let is_borrowed = matches!(literal, Some(Value::Decimal(DecimalCow::Borrowed(_))));
-    expect_that(rt, "a borrowed literal", is_borrowed);
+    expect_that(rt, "a borrowed literal", is_borrowed_literal(literal));
 }
 
-// So has each key.
+fn is_borrowed_literal(value: Option<&BorrowedValue<'_>>) -> bool {
+    matches!(value, Some(Value::Decimal(DecimalCow::Borrowed(_))))
+}
+
+fn is_borrowed_key(key: &CowStr<'_>) -> bool {
+    matches!(key, CowStr::Borrowed(_))
+}
+
+// So is each key.
 fn expect_keys_as_they_stand(rt: &impl Abort, value: &BorrowedValue<'_>) {
     let members = value.as_object().expect(rt, "an object");
     for key in members.keys() {
-        expect_that(rt, "a borrowed key", matches!(key, CowStr::Borrowed(_)));
+        expect_that(rt, "a borrowed key", is_borrowed_key(key));
     }
 }
 
 #[test]
 fn read_as_they_stand(rt: HostRuntime) {
-    on_borrowed(&rt, rt.alloc(), r#"[5,-5,"a","\u0061",1.5]"#, |value| {
-        expect_as_they_stand(&rt, value);
-    });
-    on_borrowed(&rt, rt.alloc(), r#"{"a":1,"\u0062":2}"#, |value| {
-        expect_keys_as_they_stand(&rt, value);
-    });
+    let mut text = *br#"[5,-5,"a","\u0061",1.5]"#;
+    let value = borrowed_of(&rt, rt.alloc(), &mut text);
+    expect_carrier(&rt, &value, 0, ValueType::U64);
+    expect_carrier(&rt, &value, 1, ValueType::I64);
+    expect_parts_of_input(&rt, &value);
+    drop(value);
+    let mut text = *br#"{"a":1,"\u0062":2}"#;
+    let value = borrowed_of(&rt, rt.alloc(), &mut text);
+    expect_keys_as_they_stand(&rt, &value);
+    drop(value);
 }
 
 // An integer that no carrier holds is a literal, and no integer read gives it.
+fn expect_literal(rt: &impl Abort, value: &OwnedValue, text: &str) {
+    expect_eq(rt, value.value_type(), ValueType::Decimal);
+    expect_eq(rt, value.as_i128(), None);
+    expect_eq(rt, value.as_u128(), None);
+    let literal = value.as_decimal().expect(rt, "a literal");
+    expect_eq(rt, literal.as_str(), text);
+}
+
 #[test]
 fn read_as_a_literal(rt: HostRuntime) {
-    seen(owned_of(&rt, rt.alloc(), "18446744073709551616"), |value| {
-        expect_eq(&rt, value.value_type(), ValueType::Decimal);
-        expect_eq(&rt, (value.as_i128(), value.as_u128()), (None, None));
-        let literal = value.as_decimal().expect(&rt, "a literal");
-        expect_eq(&rt, literal.as_str(), "18446744073709551616");
-    });
+    let text = "18446744073709551616";
+    let value = owned_of(&rt, rt.alloc(), text);
+    expect_literal(&rt, &value, text);
+    drop(value);
 }

@@ -8,13 +8,14 @@ use sj_tape::Node;
 use std::alloc::Global;
 use std::process::Abort;
 
-// The number of nodes of a text, or its first fault, under a limit of levels.
+// The number of nodes that are read of a text under a limit of levels. The reading is to end like this.
 fn count_nodes(
     rt: &impl Abort,
     alloc: Global,
     text: &mut [u8],
     limit: usize,
-) -> Result<usize, DescentFault> {
+    ended: Result<(), DescentFault>,
+) -> usize {
     if text.len() > u32::MAX as usize {
         panic!(rt; "a long text");
     }
@@ -25,18 +26,19 @@ fn count_nodes(
         rt, "memory",
     );
     let mut places = Reads::new(&positions);
-    descend(text, &mut places, limit, &mut nodes, &mut stack).map(|()| nodes.len())
+    let found = descend(text, &mut places, limit, &mut nodes, &mut stack);
+    expect_eq(rt, found, ended);
+    nodes.len()
 }
 
 #[test]
 fn stage_two_alone(rt: HostRuntime) {
     let mut text = *b"[1,[2,3],4]";
-    expect_eq(&rt, count_nodes(&rt, rt.alloc(), &mut text, 2), Ok(6));
+    expect_eq(&rt, count_nodes(&rt, rt.alloc(), &mut text, 2, Ok(())), 6);
     let too_deep = DescentFault {
         kind: DescentKind::Syntax,
         index: 3,
         byte: b'[',
     };
-    let nodes = count_nodes(&rt, rt.alloc(), &mut text, 1);
-    expect_eq(&rt, nodes, Err(too_deep));
+    count_nodes(&rt, rt.alloc(), &mut text, 1, Err(too_deep));
 }

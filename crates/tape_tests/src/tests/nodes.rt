@@ -3,8 +3,8 @@
 ghost use Rattle.std.specs.Prelude.{◌≡◌, ◌≢◌, []};
 ghost use Rattle.sj_tape.specs.Views.{tape_nodes};
 
-use super::tapes::{document, expect_answer, expect_items};
-use super::{expect_at, expect_eq, expect_that};
+use super::tapes::{expect_answer, expect_items, put_document};
+use super::{expect_at, expect_bytes, expect_eq, expect_that};
 use sj_base::{Counted, StaticNode, WriteFault};
 use sj_reads::ValueAsScalar;
 use sj_tape::{Node, Tape, Value};
@@ -63,12 +63,13 @@ fn tape_of<'i>(rt: &impl Abort, alloc: Global, words: &'i str) -> Tape<'i>
     Tape::new(nodes_of(rt, alloc, words)).expect(rt, "a tape")
 }
 
-// The compact text of the document, or nothing if the nodes are none.
-fn document_of(rt: &impl Abort, alloc: Global, words: &str) -> Vec<u8> {
-    match Tape::new(nodes_of(rt, alloc, words)) {
-        Some(tape) => document(rt, alloc, &tape),
-        None => Vec::new(alloc),
+// Fails unless this is the compact text of the document. There is none if the nodes are none.
+fn expect_document(rt: &impl Abort, alloc: Global, words: &str, text: &str) {
+    let mut out = Vec::new(alloc);
+    if let Some(tape) = Tape::new(nodes_of(rt, alloc, words)) {
+        put_document(rt, &mut out, &tape);
     }
+    expect_at(rt, words, out.as_slice(), text.as_bytes());
 }
 
 #[test]
@@ -82,8 +83,7 @@ fn preorders_of_one_document(rt: HostRuntime) {
         ("-7", "-7"),
         ("", ""),
     ] {
-        let found = document_of(&rt, rt.alloc(), words);
-        expect_at(&rt, words, found.as_slice(), text.as_bytes());
+        expect_document(&rt, rt.alloc(), words, text);
     }
 }
 
@@ -118,8 +118,8 @@ fn indented_text(rt: HostRuntime) {
     let tape = tape_of(&rt, rt.alloc(), "{2,6 a [2,2 1 {0,0 b [0,0");
     let mut out = Vec::new(rt.alloc());
     tape.as_value().encode_pp(&mut out).expect(&rt, "memory");
-    let text = b"{\n  \"a\": [\n    1,\n    {}\n  ],\n  \"b\": []\n}";
-    expect_eq(&rt, out.as_slice(), text.as_slice());
+    let text = "{\n  \"a\": [\n    1,\n    {}\n  ],\n  \"b\": []\n}";
+    expect_bytes(&rt, out, text);
 }
 
 // Takes one byte a write, and `room` in all. Then it fails with the kind, or takes nothing where there is none.
@@ -149,24 +149,30 @@ impl Write for Narrow {
     }
 }
 
-fn write(value: &Value<'_, '_>, output: &mut Narrow) -> Result<(), WriteFault> {
-    let mut sink = Counted::new(output);
+// Fails where the value can be written behind these three bytes.
+fn expect_no_room(
+    rt: &impl Abort,
+    alloc: Global,
+    value: &Value<'_, '_>,
+    refusal: Option<ErrorKind>,
+) {
+    let mut output = Narrow {
+        taken: Vec::new(alloc),
+        room: 3,
+        refusal,
+    };
+    let mut sink = Counted::new(&mut output);
     let result = value.write(&mut sink);
     let _ = sink.into_inner();
-    result
+    expect_eq(rt, result, Err(WriteFault));
+    expect_bytes(rt, output.taken, r#"{"a"#);
 }
 
 #[test]
 fn sinks_that_refuse(rt: HostRuntime) {
     let tape = tape_of(&rt, rt.alloc(), "{1,2 a null");
-    for refusal in &[Some(ErrorKind::Other), Some(ErrorKind::Interrupted), None] {
-        let mut output = Narrow {
-            taken: Vec::new(rt.alloc()),
-            room: 3,
-            refusal: *refusal,
-        };
-        let result = write(&tape.as_value(), &mut output);
-        expect_eq(&rt, result, Err(WriteFault));
-        expect_eq(&rt, output.taken.as_slice(), br#"{"a"#.as_slice());
-    }
+    let value = tape.as_value();
+    expect_no_room(&rt, rt.alloc(), &value, Some(ErrorKind::Other));
+    expect_no_room(&rt, rt.alloc(), &value, Some(ErrorKind::Interrupted));
+    expect_no_room(&rt, rt.alloc(), &value, None);
 }

@@ -1,12 +1,12 @@
 //! Of `sj_object`: worked rows, and calls with ample memory.
-use super::{expect_at, expect_eq, expect_shown, expect_that};
+use super::{expect_at, expect_eq, expect_shown, expect_text, expect_that};
 use sj_base::{StaticNode, TryCopy};
 use sj_object::{
-    CopyKey, MakeKey, NotSoRandomState, Object, ObjectHasher, ObjectKey, Refused, hash_key,
+    CopyKey, Iter, MakeKey, NotSoRandomState, Object, ObjectHasher, ObjectKey, Refused, hash_key,
 };
 use std::alloc::{AllocError, Global};
 use std::borrow::CowStr;
-use std::fmt::{Debug, Display};
+use std::fmt::Debug;
 use std::process::Abort;
 use std::test::Fail;
 
@@ -36,72 +36,95 @@ fn text(rt: &impl Abort, alloc: Global, text: &str) -> String {
     String::from_str(alloc, text).expect(rt, "memory")
 }
 
+// Inserts a pair, and returns the value that it replaces.
+fn insert(
+    rt: &impl Abort,
+    alloc: Global,
+    object: &mut Object<String, u64>,
+    key: &str,
+    value: u64,
+) -> Option<u64> {
+    object
+        .insert(text(rt, alloc, key), value)
+        .expect(rt, "memory")
+}
+
 // Inserts three values into the empty object, of which the last replaces the first.
 fn expect_replaced(rt: &impl Abort, alloc: Global, object: &mut Object<String, u64>) {
     expect_that(rt, "an empty object", object.is_empty());
-    for (key, value, old) in &[("a", 1, None), ("b", 2, None), ("a", 3, Some(1))] {
-        let found = object.insert(text(rt, alloc, key), *value);
-        expect_eq(rt, found.expect(rt, "memory"), *old);
-    }
+    expect_eq(rt, insert(rt, alloc, object, "a", 1), None);
+    expect_eq(rt, insert(rt, alloc, object, "b", 2), None);
+    expect_eq(rt, insert(rt, alloc, object, "a", 3), Some(1));
 }
 
-// What is in that object, before and after a removal.
-fn expect_removed(rt: &impl Abort, object: &mut Object<String, u64>) {
-    expect_eq(
-        rt,
-        (object.len(), object.get("a"), object.get("b")),
-        (2, Some(&3), Some(&2)),
-    );
+// What is in that object.
+fn expect_two(rt: &impl Abort, object: &Object<String, u64>) {
+    expect_eq(rt, object.len(), 2);
+    expect_eq(rt, object.get("a"), Some(&3));
+    expect_eq(rt, object.get("b"), Some(&2));
     expect_that(rt, "a key", object.contains_key("a"));
     expect_that(rt, "no empty key", !object.contains_key(""));
-    expect_eq(
-        rt,
-        (object.remove("a"), object.remove("a")),
-        (Some(3), None),
-    );
-    expect_eq(
-        rt,
-        (object.len(), object.get("a"), object.get("b")),
-        (1, None, Some(&2)),
-    );
+}
+
+// Removes one of its two pairs.
+fn expect_removed(rt: &impl Abort, object: &mut Object<String, u64>) {
+    expect_eq(rt, object.remove("a"), Some(3));
+    expect_eq(rt, object.remove("a"), None);
+    expect_eq(rt, object.len(), 1);
+    expect_eq(rt, object.get("a"), None);
+    expect_eq(rt, object.get("b"), Some(&2));
 }
 
 #[test]
 fn replaced_in_place(rt: HostRuntime) {
     let mut object = Object::with_capacity(rt.alloc(), 2).expect(&rt, "memory");
     expect_replaced(&rt, rt.alloc(), &mut object);
+    expect_two(&rt, &object);
     expect_removed(&rt, &mut object);
+    drop(object);
 }
 
-fn show(rt: &impl Abort, shown: &mut String, item: impl Display + Drop) {
-    write!(shown, "{item} ").expect(rt, "memory");
+fn show(rt: &impl Abort, shown: &mut String, key: &str, value: u64) {
+    write!(shown, "{key}{value} ").expect(rt, "memory");
 }
 
-fn show_pair(rt: &impl Abort, shown: &mut String, key: &str, value: u64) {
-    show(rt, shown, format_args!("{key}{value}"));
-}
-
-// Appends what the iterators by reference give.
-fn show_pairs(rt: &impl Abort, shown: &mut String, object: &Object<String, u64>) {
-    for (key, value) in object.iter() {
-        show_pair(rt, shown, key, *value);
+// Appends what an iterator by reference gives.
+fn show_pairs(rt: &impl Abort, shown: &mut String, pairs: Iter<'_, String, u64>) {
+    for (key, value) in pairs {
+        show(rt, shown, key, *value);
     }
-    for (key, value) in object {
-        show_pair(rt, shown, key, *value);
-    }
+}
+
+// Appends the keys in their order.
+fn show_keys(rt: &impl Abort, shown: &mut String, object: &Object<String, u64>) {
     for key in object.keys() {
-        show(rt, shown, key);
+        shown.push_str(key).expect(rt, "memory");
     }
+}
+
+// Appends the values.
+fn show_values(rt: &impl Abort, shown: &mut String, object: &Object<String, u64>) {
     for value in object.values() {
-        show(rt, shown, value);
+        show(rt, shown, "", *value);
     }
 }
 
 // Appends the pairs as they are handed out.
 fn show_taken(rt: &impl Abort, shown: &mut String, object: Object<String, u64>) {
     for (key, value) in object {
-        show_pair(rt, shown, &key, value);
+        show(rt, shown, &key, value);
     }
+}
+
+// The pairs b2 and a5, by each iterator.
+fn expect_pairs(rt: &impl Abort, alloc: Global, object: Object<String, u64>) {
+    let mut shown = String::new(alloc);
+    show_pairs(rt, &mut shown, object.iter());
+    show_pairs(rt, &mut shown, (&object).into_iter());
+    show_keys(rt, &mut shown, &object);
+    show_values(rt, &mut shown, &object);
+    show_taken(rt, &mut shown, object);
+    expect_text(rt, shown, "b2 a5 b2 a5 ba2 5 b2 a5 ");
 }
 
 #[test]
@@ -112,11 +135,8 @@ fn pairs_in_order(rt: HostRuntime) {
     }
     expect_eq(&rt, object.get_mut("d"), None);
     let text = format!(in rt.alloc(); "{object:?}").expect(&rt, "memory");
-    expect_eq(&rt, text.as_str(), r#"{"b": 2, "a": 5}"#);
-    let mut shown = String::new(rt.alloc());
-    show_pairs(&rt, &mut shown, &object);
-    show_taken(&rt, &mut shown, object);
-    expect_eq(&rt, shown.as_str(), "b2 a5 b2 a5 b a 2 5 b2 a5 ");
+    expect_text(&rt, text, r#"{"b": 2, "a": 5}"#);
+    expect_pairs(&rt, rt.alloc(), object);
 }
 
 // The keys k0 to k32, without k0 if `first` is 1, each with its number as its value.
@@ -127,36 +147,31 @@ fn put_numbered(rt: &impl Abort, alloc: Global, object: &mut Object<String, u64>
     }
 }
 
-// The places of these keys, where one is removed and put back behind the others.
+// The order of these keys, where the first stands behind the others.
+fn expect_order(rt: &impl Abort, alloc: Global, object: &Object<String, u64>) {
+    let mut keys = String::new(alloc);
+    show_keys(rt, &mut keys, object);
+    let order =
+        "k1k2k3k4k5k6k7k8k9k10k11k12k13k14k15k16k17k18k19k20k21k22k23k24k25k26k27k28k29k30k31k32k0";
+    expect_text(rt, keys, order);
+}
+
+// One of these keys is removed and put back behind the others.
 fn expect_at_the_end(rt: &impl Abort, alloc: Global, object: &mut Object<String, u64>) {
     expect_eq(rt, object.remove("k0"), Some(0));
-    expect_eq(rt, (object.get("k32"), object.len()), (Some(&32), 32));
-    let replaced = object.insert(text(rt, alloc, "k0"), 7);
-    expect_eq(rt, replaced.expect(rt, "memory"), None);
-    let mut keys = String::new(alloc);
-    for key in object.keys() {
-        keys.push_str(key).expect(rt, "memory");
-    }
-    expect_eq(
-        rt,
-        keys.as_str(),
-        "k1k2k3k4k5k6k7k8k9k10k11k12k13k14k15k16k17k18k19k20k21k22k23k24k25k26k27k28k29k30k31k32k0",
-    );
+    expect_eq(rt, object.get("k32"), Some(&32));
+    expect_eq(rt, object.len(), 32);
+    expect_eq(rt, insert(rt, alloc, object, "k0", 7), None);
+    expect_order(rt, alloc, object);
 }
 
 // The next one is removed and put back before them.
 fn expect_at_the_front(rt: &impl Abort, alloc: Global, object: &mut Object<String, u64>) {
-    expect_eq(
-        rt,
-        (object.remove("k1"), object.place("k1")),
-        (Some(1), None),
-    );
+    expect_eq(rt, object.remove("k1"), Some(1));
+    expect_eq(rt, object.place("k1"), None);
     insert_first(rt, alloc, object, "k1", 9);
-    expect_eq(
-        rt,
-        (object.get("k0"), object.place("k1")),
-        (Some(&7), Some(0)),
-    );
+    expect_eq(rt, object.get("k0"), Some(&7));
+    expect_eq(rt, object.place("k1"), Some(0));
 }
 
 // Puts a key before the others, of which it must not be one.
@@ -174,16 +189,30 @@ fn insert_first(
     object.insert_at(0, key, value).expect(rt, "memory");
 }
 
+// Removes the keys k1 to k4.
+fn expect_four_removed(rt: &impl Abort, object: &mut Object<String, u64>) {
+    for (key, value) in &[("k1", 9), ("k2", 2), ("k3", 3), ("k4", 4)] {
+        expect_eq(rt, object.remove(key), Some(*value));
+    }
+}
+
 #[test]
 fn places(rt: HostRuntime) {
     let mut object = Object::new(rt.alloc());
     put_numbered(&rt, rt.alloc(), &mut object, 0);
     expect_at_the_end(&rt, rt.alloc(), &mut object);
     expect_at_the_front(&rt, rt.alloc(), &mut object);
-    for (key, value) in &[("k1", 9), ("k2", 2), ("k3", 3), ("k4", 4)] {
-        expect_eq(&rt, object.remove(key), Some(*value));
-    }
+    expect_four_removed(&rt, &mut object);
     expect_eq(&rt, object.get("k0"), Some(&7));
+    drop(object);
+}
+
+// Looks up the keys k0 to k32.
+fn expect_numbered(rt: &impl Abort, alloc: Global, object: &Object<String, u64>) {
+    for i in 0..33 {
+        let key = format!(in alloc; "k{i}").expect(rt, "memory");
+        expect_eq(rt, object.get(&key), Some(&i));
+    }
 }
 
 // The 33rd pair goes before the others.
@@ -192,10 +221,23 @@ fn table_made_by_insert_at(rt: HostRuntime) {
     let mut object = Object::new(rt.alloc());
     put_numbered(&rt, rt.alloc(), &mut object, 1);
     insert_first(&rt, rt.alloc(), &mut object, "k0", 0);
-    for i in 0..33 {
-        let key = format!(in rt.alloc(); "k{i}").expect(&rt, "memory");
-        expect_eq(&rt, object.get(&key), Some(&i));
-    }
+    expect_numbered(&rt, rt.alloc(), &object);
+    drop(object);
+}
+
+// What comes back of a pair that is refused, and what the object is.
+fn expect_refused(
+    rt: &impl Abort,
+    object: &Object<CowStr<'_>, usize>,
+    pair: Refused<CowStr<'_>, usize>,
+    text: &str,
+    place: usize,
+) {
+    expect_eq(rt, pair.key.as_ref(), text);
+    expect_eq(rt, pair.value, place);
+    expect_eq(rt, object.len(), place);
+    expect_eq(rt, object.place(text), None);
+    expect_eq(rt, place, 32);
 }
 
 // A refused pair comes back, and the object is as it was, as `oracle/memory.sh` shows: the 33rd pair needs memory
@@ -206,13 +248,12 @@ fn refused_pairs(rt: HostRuntime) -> Result<(), Fail> {
     let keys = "a b c d e f g h i j k l m n o p q r s t u v w x y z aa ab ac ad ae af ag ah";
     for (place, text) in keys.split(' ').enumerate() {
         if let Err(pair) = object.insert(CowStr::Borrowed(text), place) {
-            expect_eq(&rt, (pair.key.as_ref(), pair.value), (text, place));
-            expect_eq(&rt, (object.len(), object.place(text)), (place, None));
-            expect_eq(&rt, place, 32);
+            expect_refused(&rt, &object, pair, text, place);
             return Err(Fail::new("no memory"));
         }
     }
-    expect_eq(&rt, (object.len(), object.get("ah")), (34, Some(&33)));
+    expect_eq(&rt, object.len(), 34);
+    expect_eq(&rt, object.get("ah"), Some(&33));
     Ok(())
 }
 
@@ -222,20 +263,31 @@ fn refused(rt: HostRuntime) {
     expect_shown(&rt, rt.alloc(), &pair, "Refused");
 }
 
-// The iterators over one pair by reference.
+// The lengths of the iterators over one pair by reference.
+fn expect_lengths(rt: &impl Abort, object: &Object<String, u64>) {
+    expect_eq(rt, object.iter().len(), 1);
+    expect_eq(rt, object.iter().size_hint(), (1, Some(1)));
+    expect_eq(rt, object.keys().len(), 1);
+    expect_eq(rt, object.values().len(), 1);
+}
+
+// What one of them gives.
 fn expect_one_pair(rt: &impl Abort, object: &Object<String, u64>) {
     let mut pairs = object.iter();
-    expect_eq(rt, (pairs.len(), pairs.size_hint()), (1, (1, Some(1))));
-    expect_that(rt, "a pair", pairs.next().is_some());
-    expect_that(rt, "one pair alone", pairs.next().is_none());
-    expect_that(rt, "nothing behind it", pairs.next().is_none());
-    expect_eq(rt, (object.keys().len(), object.values().len()), (1, 1));
+    expect_that(rt, "a pair", is_pair(pairs.next()));
+    expect_that(rt, "one pair alone", !is_pair(pairs.next()));
+    expect_that(rt, "nothing behind it", !is_pair(pairs.next()));
+}
+
+fn is_pair(pair: Option<(&String, &u64)>) -> bool {
+    pair.is_some()
 }
 
 // The same of the iterator that hands it out.
 fn expect_one_taken(rt: &impl Abort, object: Object<String, u64>) {
     let mut pairs = object.into_iter();
-    expect_eq(rt, (pairs.len(), pairs.size_hint()), (1, (1, Some(1))));
+    expect_eq(rt, pairs.len(), 1);
+    expect_eq(rt, pairs.size_hint(), (1, Some(1)));
     expect_that(rt, "a pair", pairs.next().is_some());
     expect_that(rt, "one pair alone", pairs.next().is_none());
     expect_that(rt, "nothing behind it", pairs.next().is_none());
@@ -244,50 +296,58 @@ fn expect_one_taken(rt: &impl Abort, object: Object<String, u64>) {
 #[test]
 fn ended_iterators(rt: HostRuntime) {
     let object = object_of(&rt, rt.alloc(), &[("a", 1)]);
+    expect_lengths(&rt, &object);
     expect_one_pair(&rt, &object);
     expect_one_taken(&rt, object);
 }
 
 // Whether an object is equal to one of these pairs.
-fn is_equal(
+fn expect_equal(
     rt: &impl Abort,
     alloc: Global,
     object: &Object<String, u64>,
     pairs: &[(&str, u64)],
-) -> bool {
-    *object == object_of(rt, alloc, pairs)
+    is_equal: bool,
+) {
+    let other = object_of(rt, alloc, pairs);
+    expect_eq(rt, *object == other, is_equal);
+}
+
+// An object of the pairs a1 and b2, with others.
+fn expect_equal_as_map(rt: &impl Abort, alloc: Global, object: &Object<String, u64>) {
+    expect_equal(rt, alloc, object, &[("b", 2), ("a", 1)], true);
+    expect_equal(rt, alloc, object, &[("a", 1), ("b", 3)], false);
+    expect_equal(rt, alloc, object, &[("a", 1), ("c", 2)], false);
+    expect_equal(rt, alloc, object, &[("a", 1)], false);
+    expect_equal(rt, alloc, object, &[("a", 1), ("b", 2), ("c", 3)], false);
 }
 
 #[test]
 fn equal_as_maps(rt: HostRuntime) {
     let object = object_of(&rt, rt.alloc(), &[("a", 1), ("b", 2)]);
-    let rows: &[(&[(&str, u64)], bool)] = &[
-        (&[("b", 2), ("a", 1)], true),
-        (&[("a", 1), ("b", 3)], false),
-        (&[("a", 1), ("c", 2)], false),
-        (&[("a", 1)], false),
-        (&[("a", 1), ("b", 2), ("c", 3)], false),
-    ];
-    for (pairs, equal) in rows {
-        expect_eq(&rt, is_equal(&rt, rt.alloc(), &object, pairs), *equal);
-    }
+    expect_equal_as_map(&rt, rt.alloc(), &object);
+    drop(object);
+}
+
+fn is_borrowed_null(pair: Option<(&CowStr<'_>, &StaticNode)>) -> bool {
+    matches!(pair, Some((CowStr::Borrowed("b"), StaticNode::Null)))
 }
 
 // The first pair of the copy of an object, of which one pair is then removed.
-fn expect_copy(rt: &impl Abort, copy: &mut Object<CowStr<'_>, StaticNode>) {
-    let Some((CowStr::Borrowed("b"), StaticNode::Null)) = copy.iter().next() else {
-        panic!(rt; "another first pair");
-    };
+fn expect_copy(rt: &impl Abort, mut copy: Object<CowStr<'_>, StaticNode>) {
+    expect_that(rt, "the first pair", is_borrowed_null(copy.iter().next()));
     expect_eq(rt, copy.remove("a"), Some(StaticNode::I64(-1)));
     expect_eq(rt, copy.len(), 1);
+    drop(copy);
 }
 
 #[test]
 fn copies(rt: HostRuntime) {
     let pairs = [("b", StaticNode::Null), ("a", StaticNode::I64(-1))];
     let object = object_of(&rt, rt.alloc(), &pairs);
-    expect_copy(&rt, &mut copy_of(&rt, &object));
+    expect_copy(&rt, copy_of(&rt, &object));
     expect_eq(&rt, object.len(), 2);
+    drop(object);
 }
 
 #[test]
@@ -323,15 +383,22 @@ fn put_forty(rt: &impl Abort, alloc: Global, object: &mut Object<String, u64>) {
     }
 }
 
+// The values 1 to 39 in their order.
+fn expect_rest(rt: &impl Abort, object: &Object<String, u64>) {
+    let mut number = 1u64;
+    for value in object.values() {
+        expect_eq(rt, *value, number);
+        number = number.wrapping_add(1);
+    }
+}
+
 // Removes the first of forty keys, and writes to the last by its hash.
 fn expect_forty(rt: &impl Abort, object: &mut Object<String, u64>) {
     let key = "BBAaAaBBBBBB";
     expect_eq(rt, object.get_hashed(hash_key(key), key), Some(&39));
     expect_eq(rt, object.remove("AaAaAaAaAaAa"), Some(0));
     expect_eq(rt, object.len(), 39);
-    for (number, value) in (1..40).zip(object.values()) {
-        expect_eq(rt, number, *value);
-    }
+    expect_rest(rt, object);
     if let Some(value) = object.get_hashed_mut(hash_key(key), key) {
         *value = 0;
     }
@@ -343,19 +410,36 @@ fn forty_equal_hashes(rt: HostRuntime) {
     let mut object = Object::new(rt.alloc());
     put_forty(&rt, rt.alloc(), &mut object);
     expect_forty(&rt, &mut object);
+    drop(object);
+}
+
+// Looks up a key, which is put there with the number of the call if it is new.
+fn number_of_call(
+    rt: &impl Abort,
+    object: &mut Object<CowStr<'static>, u64>,
+    calls: &mut u64,
+    text: &'static str,
+) -> u64 {
+    let with = || {
+        *calls = calls.wrapping_add(1);
+        *calls
+    };
+    let found = object.get_or_insert_hashed(hash_key(text), CowStr::Borrowed(text), with);
+    *found.expect(rt, "memory")
+}
+
+fn expect_made_once(rt: &impl Abort, object: &mut Object<CowStr<'static>, u64>) {
+    let mut calls = 0u64;
+    expect_eq(rt, number_of_call(rt, object, &mut calls, "key"), 1);
+    expect_eq(rt, number_of_call(rt, object, &mut calls, "cake"), 2);
+    expect_eq(rt, number_of_call(rt, object, &mut calls, "key"), 1);
+    expect_eq(rt, calls, 2);
+    expect_eq(rt, object.len(), 2);
 }
 
 #[test]
 fn made_once(rt: HostRuntime) {
     let mut object = Object::new(rt.alloc());
-    let mut calls = 0u64;
-    for (text, value) in &[("key", 1), ("cake", 2), ("key", 1)] {
-        let with = || {
-            calls = calls.wrapping_add(1);
-            calls
-        };
-        let found = object.get_or_insert_hashed(hash_key(text), CowStr::Borrowed(text), with);
-        expect_eq(&rt, *found.expect(&rt, "memory"), *value);
-    }
-    expect_eq(&rt, (calls, object.len()), (2, 2));
+    expect_made_once(&rt, &mut object);
+    drop(object);
 }

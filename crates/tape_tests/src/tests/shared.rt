@@ -1,16 +1,22 @@
 //! Of `sj_base` and `sj_reads`: printed texts, the display texts of errors, worked rows, and that there is memory for what
 //! is asked.
-use super::{expect_at, expect_eq, expect_shown};
+use super::{expect_at, expect_bytes, expect_eq, expect_shown, expect_that};
 use sj_base::{
     AccessError, Counted, Decimal, DecimalBuf, DecimalCow, Error, ErrorType, Layout, Reads, Scalar,
     StaticNode, TextBuffer, Trace, TryCopy, TryTypeError, ValueType, WriteFault, print_text,
     put_break, put_int, put_string, put_text,
 };
 use sj_reads::ValueAsScalar;
-use std::alloc::AllocError;
+use std::alloc::{AllocError, Global};
 use std::borrow::CowStr;
 use std::mem::size_of;
 use std::process::Abort;
+
+fn expect_string(rt: &impl Abort, alloc: Global, string: &str, text: &str) {
+    let mut out = Vec::new(alloc);
+    put_string(&mut out, string).expect(rt, "memory");
+    expect_bytes(rt, out, text);
+}
 
 #[test]
 fn strings(rt: HostRuntime) {
@@ -19,43 +25,29 @@ fn strings(rt: HostRuntime) {
         ("a\"b\\\n\u{e9}", r#""a\"b\\\né""#),
         ("\u{1f}/\u{7f}", "\"\\u001f/\u{7f}\""),
     ] {
-        let mut out = Vec::new(rt.alloc());
-        put_string(&mut out, string).expect(&rt, "memory");
-        expect_eq(&rt, out.as_slice(), text.as_bytes());
+        expect_string(&rt, rt.alloc(), string, text);
     }
+}
+
+// The text of a scalar, by both printers.
+fn expect_scalar(rt: &impl Abort, alloc: Global, scalar: &Scalar<'_>, text: &str) {
+    let mut out = Vec::new(alloc);
+    put_text(&mut out, scalar).expect(rt, "memory");
+    expect_bytes(rt, out, text);
+    let mut buffer = TextBuffer::new(Vec::new(alloc));
+    print_text(&mut buffer, scalar).expect(rt, "memory");
+    expect_bytes(rt, buffer.into_vec(), text);
 }
 
 #[test]
 fn scalars(rt: HostRuntime) {
+    let alloc = rt.alloc();
+    expect_scalar(&rt, alloc, &Scalar::Static(StaticNode::Null), "null");
+    expect_scalar(&rt, alloc, &Scalar::Static(StaticNode::Bool(true)), "true");
+    expect_scalar(&rt, alloc, &Scalar::Static(StaticNode::I64(-3)), "-3");
+    expect_scalar(&rt, alloc, &Scalar::Text("a\"b"), r#""a\"b""#);
     let literal = Decimal::new("1.50").expect(&rt, "a decimal");
-    for (scalar, text) in &[
-        (Scalar::Static(StaticNode::Null), "null"),
-        (Scalar::Static(StaticNode::Bool(true)), "true"),
-        (Scalar::Static(StaticNode::I64(-3)), "-3"),
-        (Scalar::Text("a\"b"), r#""a\"b""#),
-        (Scalar::Literal(literal), "1.50"),
-    ] {
-        let mut out = Vec::new(rt.alloc());
-        put_text(&mut out, scalar).expect(&rt, "memory");
-        expect_eq(&rt, out.as_slice(), text.as_bytes());
-        let mut buffer = TextBuffer::new(Vec::new(rt.alloc()));
-        print_text(&mut buffer, scalar).expect(&rt, "memory");
-        expect_eq(&rt, buffer.into_vec().as_slice(), text.as_bytes());
-    }
-}
-
-#[test]
-fn integers(rt: HostRuntime) {
-    let mut out = Vec::new(rt.alloc());
-    put_int(&mut out, i64::MIN).expect(&rt, "memory");
-    expect_eq(&rt, out.as_slice(), b"-9223372036854775808".as_slice());
-}
-
-#[test]
-fn line_breaks(rt: HostRuntime) {
-    let mut out = Vec::new(rt.alloc());
-    put_break(&mut out, 2).expect(&rt, "memory");
-    expect_eq(&rt, out.as_slice(), b"\n    ".as_slice());
+    expect_scalar(&rt, alloc, &Scalar::Literal(literal), "1.50");
 }
 
 // The pieces alone: no value stands behind the key, and no item in the list.
@@ -68,11 +60,15 @@ fn put_pieces(out: &mut Vec<u8>) -> Result<(), AllocError> {
     list.close(out)
 }
 
+// An integer, a line's beginning, and layouts.
 #[test]
-fn layouts(rt: HostRuntime) {
+fn pieces(rt: HostRuntime) {
     let mut out = Vec::new(rt.alloc());
+    put_int(&mut out, i64::MIN).expect(&rt, "memory");
+    put_break(&mut out, 2).expect(&rt, "memory");
     put_pieces(&mut out).expect(&rt, "memory");
-    expect_eq(&rt, out.as_slice(), b"{\n  \"a\": \n}[]".as_slice());
+    let text = "-9223372036854775808\n    {\n  \"a\": \n}[]";
+    expect_bytes(&rt, out, text);
 }
 
 #[test]
@@ -123,6 +119,13 @@ fn expect_copies(rt: &impl Abort, owned: DecimalBuf, text: &str) {
     expect_eq(rt, copy_of(rt, &cow).as_decimal().as_str(), text);
 }
 
+// A literal of its own is copied, by itself and in what holds it.
+fn expect_literal(rt: &impl Abort, alloc: Global, text: &str) {
+    let literal = Decimal::new(text).expect(rt, "a decimal");
+    let owned = DecimalBuf::new(alloc, literal).expect(rt, "memory");
+    expect_copies(rt, owned, text);
+}
+
 #[test]
 fn decimals(rt: HostRuntime) {
     for text in &[
@@ -132,9 +135,7 @@ fn decimals(rt: HostRuntime) {
         "18446744073709551616",
         "-9223372036854775809",
     ] {
-        let literal = Decimal::new(text).expect(&rt, "a decimal");
-        let owned = DecimalBuf::new(rt.alloc(), literal).expect(&rt, "memory");
-        expect_copies(&rt, owned, text);
+        expect_literal(&rt, rt.alloc(), text);
     }
     for text in &[
         "1",
@@ -153,15 +154,23 @@ fn decimals(rt: HostRuntime) {
     }
 }
 
+// The text of a copy of a text of its own, and of a copy of what holds that.
+fn expect_text_copies(rt: &impl Abort, text: String) {
+    expect_eq(rt, copy_of(rt, &text).as_str(), "text");
+    let owned = CowStr::Owned(text);
+    expect_eq(rt, copy_of(rt, &owned).as_str(), "text");
+}
+
+fn is_borrowed_text(text: CowStr<'_>) -> bool {
+    matches!(text, CowStr::Borrowed("text"))
+}
+
 #[test]
 fn copies_of_texts(rt: HostRuntime) {
     let text = String::from_str(rt.alloc(), "text").expect(&rt, "memory");
-    expect_eq(&rt, copy_of(&rt, &text).as_str(), "text");
-    let owned = CowStr::Owned(text);
-    expect_eq(&rt, copy_of(&rt, &owned).as_str(), "text");
-    let CowStr::Borrowed("text") = copy_of(&rt, &CowStr::Borrowed("text")) else {
-        panic!(rt; "another copy");
-    };
+    expect_text_copies(&rt, text);
+    let copy = copy_of(&rt, &CowStr::Borrowed("text"));
+    expect_that(&rt, "a borrowed copy", is_borrowed_text(copy));
 }
 
 #[test]

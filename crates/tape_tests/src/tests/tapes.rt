@@ -1,38 +1,35 @@
 //! Of `sj_parse`: worked reads of tapes, that a tape's room is used again, and that there is memory for what is asked.
-use super::{expect_at, expect_eq, expect_that};
+use super::{expect_at, expect_bytes, expect_eq, expect_that, is_there};
 use sj_base::{Error, ErrorType, TryTypeError, ValueType};
 use sj_parse::{
     Buffers, Deserializer, codepoint_to_utf8, fill_tape, fill_tape_padded, to_tape,
     to_tape_with_buffers,
 };
-use sj_tape::{Tape, Value};
+use sj_tape::{Array, Tape, Value};
 use std::alloc::{AllocError, Global};
 use std::process::Abort;
 use std::test::Fail;
 
-// The compact text of a value.
-fn printed(rt: &impl Abort, alloc: Global, value: Value<'_, '_>) -> Vec<u8> {
-    let mut out = Vec::new(alloc);
-    value.encode(&mut out).expect(rt, "memory");
-    out
-}
-
-// The compact text of a tape's document.
-pub(super) fn document(rt: &impl Abort, alloc: Global, tape: &Tape<'_>) -> Vec<u8> {
+// Appends the compact text of a tape's document.
+pub(super) fn put_document(rt: &impl Abort, out: &mut Vec<u8>, tape: &Tape<'_>) {
     if tape.is_empty() {
         panic!(rt; "no document");
     }
-    printed(rt, alloc, tape.as_value())
+    tape.as_value().encode(out).expect(rt, "memory");
 }
 
 // Fails unless this is the compact text of the value.
-fn expect_text(rt: &impl Abort, alloc: Global, value: Value<'_, '_>, text: &str) {
-    expect_eq(rt, printed(rt, alloc, value).as_slice(), text.as_bytes());
+fn expect_value(rt: &impl Abort, alloc: Global, value: Value<'_, '_>, text: &str) {
+    let mut out = Vec::new(alloc);
+    value.encode(&mut out).expect(rt, "memory");
+    expect_bytes(rt, out, text);
 }
 
 // Fails unless this is the compact text of the tape's document.
 fn expect_document(rt: &impl Abort, alloc: Global, tape: &Tape<'_>, text: &str) {
-    expect_eq(rt, document(rt, alloc, tape).as_slice(), text.as_bytes());
+    let mut out = Vec::new(alloc);
+    put_document(rt, &mut out, tape);
+    expect_bytes(rt, out, text);
 }
 
 // The README prints this test.
@@ -47,14 +44,18 @@ fn member_of_a_text(rt: HostRuntime) -> Result<(), Fail> {
     Ok(())
 }
 
+fn expect_item(rt: &impl Abort, alloc: Global, array: &Array<'_, '_>, index: usize, text: &str) {
+    let item = array.get(index).expect(rt, "an item");
+    expect_value(rt, alloc, item, text);
+}
+
 // The items of [1,[2,3],4].
 pub(super) fn expect_items(rt: &impl Abort, alloc: Global, value: Value<'_, '_>) {
     let array = value.as_array().expect(rt, "an array");
-    for (index, text) in &[(0, "1"), (1, "[2,3]"), (2, "4")] {
-        let item = array.get(*index).expect(rt, "an item");
-        expect_text(rt, alloc, item, text);
-    }
-    expect_that(rt, "no fourth item", array.get(3).is_none());
+    expect_item(rt, alloc, &array, 0, "1");
+    expect_item(rt, alloc, &array, 1, "[2,3]");
+    expect_item(rt, alloc, &array, 2, "4");
+    expect_that(rt, "no fourth item", !is_there(array.get(3)));
 }
 
 #[test]
@@ -64,12 +65,17 @@ fn items_of_a_tape(rt: HostRuntime) {
     expect_items(&rt, rt.alloc(), tape.as_value());
 }
 
+// The member of a value that is an object.
+fn member<'t, 'i>(rt: &impl Abort, value: Value<'t, 'i>, key: &str) -> Option<Value<'t, 'i>> {
+    value.try_get(key).expect(rt, "an object")
+}
+
 // The members of {"the_answer": 42}.
 pub(super) fn expect_answer(rt: &impl Abort, alloc: Global, value: Value<'_, '_>) {
-    let found = value.try_get("the_answer").expect(rt, "an object");
-    expect_text(rt, alloc, found.expect(rt, "a member"), "42");
-    let absent = value.try_get("does_not_exist").expect(rt, "an object");
-    expect_that(rt, "no member", absent.is_none());
+    let found = member(rt, value, "the_answer").expect(rt, "a member");
+    expect_value(rt, alloc, found, "42");
+    let absent = member(rt, value, "does_not_exist");
+    expect_that(rt, "no member", !is_there(absent));
     let no_array = TryTypeError {
         expected: ValueType::Array,
         got: ValueType::Object,
@@ -84,16 +90,19 @@ fn by_key(rt: HostRuntime) {
     expect_answer(&rt, rt.alloc(), tape.as_value());
 }
 
+// Fails unless this is the first fault of a text.
+fn expect_fault(rt: &impl Abort, alloc: Global, text: &str, fault: Error) {
+    let mut bytes = text.as_bytes().to_vec(alloc).expect(rt, "memory");
+    let found = to_tape(alloc, &mut bytes).err();
+    expect_at(rt, text, found, Some(fault));
+}
+
 #[test]
 fn first_faults(rt: HostRuntime) {
-    for (text, kind, index, byte) in &[
-        (r#"{"1":time}"#, ErrorType::ExpectedTrue, 5, b't'),
-        ("[null, new]", ErrorType::ExpectedNull, 7, b'n'),
-    ] {
-        let mut bytes = text.as_bytes().to_vec(rt.alloc()).expect(&rt, "memory");
-        let fault = to_tape(rt.alloc(), &mut bytes).err();
-        expect_at(&rt, text, fault, Some(Error::at(*kind, *index, *byte)));
-    }
+    let no_true = Error::at(ErrorType::ExpectedTrue, 5, b't');
+    expect_fault(&rt, rt.alloc(), r#"{"1":time}"#, no_true);
+    let no_null = Error::at(ErrorType::ExpectedNull, 7, b'n');
+    expect_fault(&rt, rt.alloc(), "[null, new]", no_null);
 }
 
 #[test]
@@ -139,12 +148,12 @@ fn room_of_a_tape_is_used_again(rt: HostRuntime) {
     let nodes = Vec::with_capacity(rt.alloc(), 100).expect(&rt, "memory");
     let mut tape = Tape::from_listing(nodes);
     fill_tape(&mut first, &mut buffers, &mut tape).expect(&rt, "a tape");
-    let faults = [
-        fill_tape(&mut second, &mut buffers, &mut tape).is_err(),
-        fill_tape(&mut third, &mut buffers, &mut tape).is_err(),
-        fill_tape_padded(&mut fourth, 7, &mut buffers, &mut tape).is_err(),
-    ];
-    expect_eq(&rt, faults, [true; 3]);
+    let fault = fill_tape(&mut second, &mut buffers, &mut tape);
+    expect_that(&rt, "a fault", fault.is_err());
+    let fault = fill_tape(&mut third, &mut buffers, &mut tape);
+    expect_that(&rt, "a fault", fault.is_err());
+    let fault = fill_tape_padded(&mut fourth, 7, &mut buffers, &mut tape);
+    expect_that(&rt, "a fault", fault.is_err());
     expect_eq(&rt, tape.into_nodes().capacity(), 100);
 }
 
@@ -188,15 +197,35 @@ fn padded(alloc: Global, size: usize, byte: u8) -> Result<Vec<u8>, AllocError> {
     Ok(text)
 }
 
+// Reads [] with 64 of these bytes behind it.
+fn expect_empty_array(rt: &impl Abort, alloc: Global, buffers: &mut Buffers, byte: u8) {
+    let mut text = padded(alloc, 66, byte).expect(rt, "memory");
+    let mut tape = Tape::empty(alloc);
+    fill_tape_padded(&mut text, 2, buffers, &mut tape).expect(rt, "a tape");
+    expect_document(rt, alloc, &tape, "[]");
+}
+
 #[test]
 fn padding_of_any_bytes(rt: HostRuntime) {
     let mut buffers = Buffers::new(rt.alloc(), 2).expect(&rt, "memory");
     for byte in b" \"\\]x\0\xff" {
-        let mut text = padded(rt.alloc(), 66, *byte).expect(&rt, "memory");
-        let mut tape = Tape::empty(rt.alloc());
-        fill_tape_padded(&mut text, 2, &mut buffers, &mut tape).expect(&rt, "a tape");
-        expect_document(&rt, rt.alloc(), &tape, "[]");
+        expect_empty_array(&rt, rt.alloc(), &mut buffers, *byte);
     }
+}
+
+// Fails unless a length is refused like this.
+fn expect_no_length(
+    rt: &impl Abort,
+    alloc: Global,
+    buffers: &mut Buffers,
+    size: usize,
+    len: usize,
+    kind: ErrorType,
+) {
+    let mut text = padded(alloc, size, b' ').expect(rt, "memory");
+    let mut tape = Tape::empty(alloc);
+    let fault = fill_tape_padded(&mut text, len, buffers, &mut tape).err();
+    expect_eq(rt, fault, Some(Error::generic(kind)));
 }
 
 #[test]
@@ -207,10 +236,7 @@ fn lengths_that_are_refused(rt: HostRuntime) {
         (66, 70, ErrorType::InsufficientPadding),
         (66, 4294967296, ErrorType::InputTooLarge),
     ] {
-        let mut text = padded(rt.alloc(), size, b' ').expect(&rt, "memory");
-        let mut tape = Tape::empty(rt.alloc());
-        let fault = fill_tape_padded(&mut text, len, &mut buffers, &mut tape).err();
-        expect_eq(&rt, fault, Some(Error::generic(kind)));
+        expect_no_length(&rt, rt.alloc(), &mut buffers, size, len, kind);
     }
 }
 
