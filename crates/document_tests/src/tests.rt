@@ -1,4 +1,7 @@
 //! Documents: read, edited, copied, converted, compared and shown; known keys; and lazy values.
+//!
+//! What a test owns is handed to `drop`, which is proved once. A value that goes out of scope has to be proved let go in each form
+//! of it, at each place where the function returns.
 mod copies;
 mod depths;
 mod keys;
