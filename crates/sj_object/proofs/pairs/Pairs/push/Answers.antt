@@ -10,6 +10,3 @@ returns-in-Listed-clause-found g c =
     let new = c.push_reserved.new.self in
     let room = subst HasRoom c.in-Listed.is c.requires.room in
     le-leb (length (keys_of g.K.ObjectKey.text new.items)) 32 (omega (arith, length-keys_of g.K.ObjectKey.text new.items, c.push_reserved.ensures.len, new.ok.0, c.in-Listed.entries.ok.0, room.1))
-
-pub returns-in-Listed-clause-pairs : goal.returns-in-Listed-clause-pairs
-returns-in-Listed-clause-pairs g c = rw c.in-Listed.is c.push_reserved.ensures.items
