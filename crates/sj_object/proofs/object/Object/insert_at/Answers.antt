@@ -19,3 +19,8 @@ invariant_of-self-2 g c =
     let distinct = distinct_insert text items at new c.self.invariant.0 (has_text_no_place text (text c.args.key) items absent) in
     let inserted = c.insert.ensures.pairs ∙ ap (λ l. insert l at new) c.make_room.ensures.pairs in
     (subst (λ l. AreDistinct (keys_of text l)) (sym inserted) distinct, c.insert.ensures.found)
+
+pub returns-clause-ok : goal.returns-clause-ok
+returns-clause-ok g c =
+    let new : Entry g.row.K.Denot g.row.V.Denot = record { key = c.args.key; value = c.args.value } in
+    c.insert.ensures.pairs ∙ ap (λ l. insert l c.args.place new) (c.make_room.ensures.pairs ∙ c.self.view_is)
