@@ -1,6 +1,7 @@
 -- What copies and conversions keep of arrays and objects, part by part.
 use Rattle.std.proofs.Common.{◌≡◌, ℕ, false, List, [], ◌∷◌, ◌++◌, None, map, refl, sym, ap, ap₂, ◌∙◌, Vec, rules, bytes_eq}
 use Rattle.std.proofs.lemmas.Bool.{or_parts}
+use Rattle.std.proofs.lemmas.List.{map-append}
 use Rattle.std.specs.Cmp.Lexicographic.{nat_list_eq_equiv}
 use Rattle.std.specs.List.{flat_map}
 use Rattle.std.specs.declared.alloc.Global.{Global}
@@ -71,10 +72,6 @@ module _ {K D T L : Type 0} (text : K → List ℕ) (literal : D → List ℕ) (
       → kept_value text literal key decimal (Object fs) ≡ kept_value text literal key decimal v
   object_copied v es fs is same = kept-Object fs ∙ ap object_kept same ∙ sym (ap (kept_value text literal key decimal) is ∙ kept-Object es)
 
-map-joined : {X Y : Type 0} (f : X → Y) (xs ys : List X) → map f (xs ++ ys) ≡ map f xs ++ map f ys
-map-joined f [] ys = refl
-map-joined f (x ∷ xs) ys = ap (λ l. f x ∷ l) (map-joined f xs ys)
-
 module _ {K D T L U M : Type 0} (text : K → List ℕ) (literal : D → List ℕ) (key : K → T) (decimal : D → L) (f : T → U) (h : L → M) where
   abbrev new_value : Value K D → Kept U M
   new_value v = converted f h (kept_value text literal key decimal v)
@@ -90,7 +87,7 @@ module _ {K D T L U M : Type 0} (text : K → List ℕ) (literal : D → List �
   item_leaves_new [] = refl
   item_leaves_new (v ∷ vs) =
       let rest = flat_map (λ (c : Kept T L). c.1) (map (kept_value text literal key decimal) vs) in
-      ap (λ ls. map (on_leaf f h) (leaves key decimal v) ++ ls) (item_leaves_new vs) ∙ sym (map-joined (on_leaf f h) (leaves key decimal v) rest)
+      ap (λ ls. map (on_leaf f h) (leaves key decimal v) ++ ls) (item_leaves_new vs) ∙ sym (map-append (on_leaf f h) (leaves key decimal v) rest)
 
   members_stay : (es : List (Entry K (Value K D))) → object_members (copied_pairs new_key new_value es) ≡ object_members (copied_pairs (kept_key text key) (kept_value text literal key decimal) es)
   members_stay [] = refl
@@ -103,7 +100,7 @@ module _ {K D T L U M : Type 0} (text : K → List ℕ) (literal : D → List �
   member_leaves_new (e ∷ es) =
       let rest = flat_map (λ (p : (List ℕ × T) × Kept T L). text_leaf p.0.1 ∷ p.1.1) (copied_pairs (kept_key text key) (kept_value text literal key decimal) es) in
       ap (λ ls. text_leaf (f (key e.key)) ∷ (map (on_leaf f h) (leaves key decimal e.value) ++ ls)) (member_leaves_new es)
-      ∙ ap (λ ls. text_leaf (f (key e.key)) ∷ ls) (sym (map-joined (on_leaf f h) (leaves key decimal e.value) rest))
+      ∙ ap (λ ls. text_leaf (f (key e.key)) ∷ ls) (sym (map-append (on_leaf f h) (leaves key decimal e.value) rest))
 
   list_converted : (vs : List (Value K D)) → list_kept (map new_value vs) ≡ converted f h (list_kept (map (kept_value text literal key decimal) vs))
   list_converted vs = ap₂ (λ t ls. (t, ls)) (ap (λ ts. list (items_of ts)) (trees_stay vs)) (item_leaves_new vs)

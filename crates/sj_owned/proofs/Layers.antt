@@ -1,16 +1,17 @@
 -- The tree of a document, level by level.
-use Rattle.std.proofs.Common.{◌≡◌, ℕ, zero, suc, true, false, ◌<◌, ◌≤◌, length, get_or, slice_get, List, [], ◌∷◌, refl, ap, ◌∙◌, rules, arith, Vec, Option, Some, None, option_map, if◌then◌else◌, Bool, bytes_eq}
+use Rattle.std.proofs.Common.{◌≡◌, ℕ, zero, suc, true, false, ◌+◌, ◌<◌, ◌≤◌, length, drop, get_or, slice_get, List, [], ◌∷◌, refl, sym, ap, ◌∙◌, rules, arith, Vec, Option, Some, None, option_map, if◌then◌else◌, Bool, bytes_eq}
 use Rattle.std.specs.Borrow.{Bor}
 use Rattle.std.specs.Slice.{IsGetResult}
 use Rattle.std.specs.Option.{option_copied}
 use Rattle.std.specs.declared.alloc.Global.{Global}
-use Rattle.sj_base.specs.Tree.{list, object}
+use Rattle.sj_base.specs.Tree.{list, object, item, member}
 use Rattle.sj_base.specs.declared.static_node.ValueType.TheVariants.{Decimal as decimal_type}
 use Rattle.sj_base.specs.Path.{item_at, member_at}
 use Rattle.sj_object.specs.Pairs.{value_at}
 use Rattle.sj_object.specs.declared.entry.Entry.{Entry}
 use Rattle.sj_owned.specs.Views.{value_tree, value_kind, items_view, members_view, items_inside}
 use Rattle.sj_owned.specs.declared.value.Value.{Value, Decimal, Array, Object, the_lemmas}
+use Rattle.sj_owned.proofs.Pieces.{cut_at}
 
 module _ {K D : Type 0} (text : K → List ℕ) (literal : D → List ℕ) where
   pub tree-Array : (v : Vec (Value K D) Global) → value_tree text literal (Array v) ≡ list (items_view text literal v.items)
@@ -18,6 +19,14 @@ module _ {K D : Type 0} (text : K → List ℕ) (literal : D → List ℕ) where
 
   pub tree-Object : (es : List (Entry K (Value K D))) → value_tree text literal (Object es) ≡ object (members_view text literal es)
   tree-Object es = search (rules, the_lemmas)
+
+  -- the items from an index on, by the first of them
+  pub items_cut : (vs : List (Value K D)) (i : ℕ) (v : Value K D) → i < length vs → v ≡ get_or vs i v → items_view text literal (drop i vs) ≡ item (value_tree text literal v) (items_view text literal (drop (i + 1) vs))
+  items_cut vs i v within is = ap (items_view text literal) (cut_at vs i v within is)
+
+  -- the members that are left, by the first of them
+  pub members_cut : (es left : List (Entry K (Value K D))) (k : K) (v : Value K D) (name : List ℕ) → es ≡ record { key = k; value = v } ∷ left → name ≡ text k → members_view text literal es ≡ member name (value_tree text literal v) (members_view text literal left)
+  members_cut es left k v name first is = ap (members_view text literal) first ∙ ap (λ s. member s (value_tree text literal v) (members_view text literal left)) (sym is)
 
   pub items_inside-Array : (v : Vec (Value K D) Global) → items_inside (Array v) ≡ Some v.items
   items_inside-Array v = search (rules, the_lemmas)

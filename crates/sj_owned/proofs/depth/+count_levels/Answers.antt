@@ -71,41 +71,41 @@ count_member_levels-returns-clause-kept g t c = distinct_kept g.K.ObjectKey.text
 pub count_member_levels-returns-clause-valid : goal.count_member_levels-returns-clause-valid
 count_member_levels-returns-clause-valid g t c = c.loop-key.invariant.6 (rw c.in-None.ensures.steps.0 tt)
 
-pub count_item_levels-returns-in_err-count_levels-clause-levels : goal.count_item_levels-returns-in_err-count_levels-clause-levels
-count_item_levels-returns-in_err-count_levels-clause-levels g t c = IfOk-from_err c.from_residual.result _ c.from_residual.ensures.0
+pub count_item_levels-returns-in_err-count_levels :
+    goal.count_item_levels-returns-in_err-count_levels
+count_item_levels-returns-in_err-count_levels g t c =
+    record {
+      levels = IfOk-from_err c.from_residual.result _ c.from_residual.ensures.0;
+      kept = IfOk-from_err c.from_residual.result _ c.from_residual.ensures.0;
+      valid = IfOk-from_err c.from_residual.result _ c.from_residual.ensures.0;
+    }
 
-pub count_levels-returns-in_err-count_item_levels-in-Array-clause-levels : goal.count_levels-returns-in_err-count_item_levels-in-Array-clause-levels
-count_levels-returns-in_err-count_item_levels-in-Array-clause-levels g t c = IfOk-from_err c.from_residual.result _ c.from_residual.ensures.0
+pub count_levels-returns-in_err-count_item_levels-in-Array :
+    goal.count_levels-returns-in_err-count_item_levels-in-Array
+count_levels-returns-in_err-count_item_levels-in-Array g t c =
+    record {
+      levels = IfOk-from_err c.from_residual.result _ c.from_residual.ensures.0;
+      kept = IfOk-from_err c.from_residual.result _ c.from_residual.ensures.0;
+      valid = IfOk-from_err c.from_residual.result _ c.from_residual.ensures.0;
+    }
 
-pub count_levels-returns-in_err-count_member_levels-in-Object-clause-levels : goal.count_levels-returns-in_err-count_member_levels-in-Object-clause-levels
-count_levels-returns-in_err-count_member_levels-in-Object-clause-levels g t c = IfOk-from_err c.from_residual-in_err-count_member_levels-in-Object.result _ c.from_residual-in_err-count_member_levels-in-Object.ensures.0
+pub count_levels-returns-in_err-count_member_levels-in-Object :
+    goal.count_levels-returns-in_err-count_member_levels-in-Object
+count_levels-returns-in_err-count_member_levels-in-Object g t c =
+    record {
+      levels = IfOk-from_err c.from_residual-in_err-count_member_levels-in-Object.result _ c.from_residual-in_err-count_member_levels-in-Object.ensures.0;
+      kept = IfOk-from_err c.from_residual-in_err-count_member_levels-in-Object.result _ c.from_residual-in_err-count_member_levels-in-Object.ensures.0;
+      valid = IfOk-from_err c.from_residual-in_err-count_member_levels-in-Object.result _ c.from_residual-in_err-count_member_levels-in-Object.ensures.0;
+    }
 
-pub count_member_levels-returns-in_err-count_levels-clause-levels : goal.count_member_levels-returns-in_err-count_levels-clause-levels
-count_member_levels-returns-in_err-count_levels-clause-levels g t c = IfOk-from_err c.from_residual.result _ c.from_residual.ensures.0
-
-pub count_item_levels-returns-in_err-count_levels-clause-kept : goal.count_item_levels-returns-in_err-count_levels-clause-kept
-count_item_levels-returns-in_err-count_levels-clause-kept g t c = IfOk-from_err c.from_residual.result _ c.from_residual.ensures.0
-
-pub count_levels-returns-in_err-count_item_levels-in-Array-clause-kept : goal.count_levels-returns-in_err-count_item_levels-in-Array-clause-kept
-count_levels-returns-in_err-count_item_levels-in-Array-clause-kept g t c = IfOk-from_err c.from_residual.result _ c.from_residual.ensures.0
-
-pub count_levels-returns-in_err-count_member_levels-in-Object-clause-kept : goal.count_levels-returns-in_err-count_member_levels-in-Object-clause-kept
-count_levels-returns-in_err-count_member_levels-in-Object-clause-kept g t c = IfOk-from_err c.from_residual-in_err-count_member_levels-in-Object.result _ c.from_residual-in_err-count_member_levels-in-Object.ensures.0
-
-pub count_member_levels-returns-in_err-count_levels-clause-kept : goal.count_member_levels-returns-in_err-count_levels-clause-kept
-count_member_levels-returns-in_err-count_levels-clause-kept g t c = IfOk-from_err c.from_residual.result _ c.from_residual.ensures.0
-
-pub count_item_levels-returns-in_err-count_levels-clause-valid : goal.count_item_levels-returns-in_err-count_levels-clause-valid
-count_item_levels-returns-in_err-count_levels-clause-valid g t c = IfOk-from_err c.from_residual.result _ c.from_residual.ensures.0
-
-pub count_levels-returns-in_err-count_item_levels-in-Array-clause-valid : goal.count_levels-returns-in_err-count_item_levels-in-Array-clause-valid
-count_levels-returns-in_err-count_item_levels-in-Array-clause-valid g t c = IfOk-from_err c.from_residual.result _ c.from_residual.ensures.0
-
-pub count_levels-returns-in_err-count_member_levels-in-Object-clause-valid : goal.count_levels-returns-in_err-count_member_levels-in-Object-clause-valid
-count_levels-returns-in_err-count_member_levels-in-Object-clause-valid g t c = IfOk-from_err c.from_residual-in_err-count_member_levels-in-Object.result _ c.from_residual-in_err-count_member_levels-in-Object.ensures.0
-
-pub count_member_levels-returns-in_err-count_levels-clause-valid : goal.count_member_levels-returns-in_err-count_levels-clause-valid
-count_member_levels-returns-in_err-count_levels-clause-valid g t c = IfOk-from_err c.from_residual.result _ c.from_residual.ensures.0
+pub count_member_levels-returns-in_err-count_levels :
+    goal.count_member_levels-returns-in_err-count_levels
+count_member_levels-returns-in_err-count_levels g t c =
+    record {
+      levels = IfOk-from_err c.from_residual.result _ c.from_residual.ensures.0;
+      kept = IfOk-from_err c.from_residual.result _ c.from_residual.ensures.0;
+      valid = IfOk-from_err c.from_residual.result _ c.from_residual.ensures.0;
+    }
 
 pub count_item_levels-loop-item-init : goal.count_item_levels-loop-item-init
 count_item_levels-loop-item-init g t c = (none_deeper _, λ each. each, λ valid. valid)
@@ -116,62 +116,46 @@ count_item_levels-loop-item-smaller g t c = falls (length c.deref-item-items.res
 pub count_member_levels-loop-key-smaller : goal.count_member_levels-loop-key-smaller
 count_member_levels-loop-key-smaller g t c = shorter _ _ _ c.in-Some.ensures.steps
 
-pub count_item_levels-returns-clause-levels : goal.count_item_levels-returns-clause-levels
-count_item_levels-returns-clause-levels g t c =
+pub count_item_levels-returns : goal.count_item_levels-returns
+count_item_levels-returns g t c =
+    let text = g.K.ObjectKey.text in
+    let literal = g.D.Literal.literal in
+    let at = c.loop-item.invariant in
     let none = drop_all c.loop-item.item-index c.deref-item-items.result.now c.loop-item-test.false in
-    deepest_is _ _ (rw none at c.loop-item.invariant.0) ∙ ap (λ vs. items_depth (items_view g.K.ObjectKey.text g.D.Literal.literal vs)) c.deref-item-items.ensures.value
-
-pub count_item_levels-returns-clause-kept : goal.count_item_levels-returns-clause-kept
-count_item_levels-returns-clause-kept g t c =
-    let none = drop_all c.loop-item.item-index c.deref-item-items.result.now c.loop-item-test.false in
-    subst (λ vs. KeepItems g.K.ObjectKey.text g.D.Literal.literal vs) c.deref-item-items.ensures.value (c.loop-item.invariant.1 (rw none refl))
-
-pub count_item_levels-returns-clause-valid : goal.count_item_levels-returns-clause-valid
-count_item_levels-returns-clause-valid g t c =
-    let none = drop_all c.loop-item.item-index c.deref-item-items.result.now c.loop-item-test.false in
-    subst (λ vs. AreValidItems (items_view g.K.ObjectKey.text g.D.Literal.literal vs)) c.deref-item-items.ensures.value (c.loop-item.invariant.2 (rw none tt))
+    let all = c.deref-item-items.ensures.value in
+    record {
+      levels = deepest_is _ _ (rw none at at.0) ∙ ap (λ vs. items_depth (items_view text literal vs)) all;
+      kept = subst (λ vs. KeepItems text literal vs) all (at.1 (rw none refl));
+      valid = subst (λ vs. AreValidItems (items_view text literal vs)) all (at.2 (rw none tt));
+    }
 
 pub count_member_levels-returns-clause-levels : goal.count_member_levels-returns-clause-levels
 count_member_levels-returns-clause-levels g t c = deepest_is _ _ (rw c.in-None.ensures.steps.0 at c.loop-key.invariant.4)
 
-pub count_levels-returns-in_ok-count_item_levels-in-Array-clause-levels : goal.count_levels-returns-in_ok-count_item_levels-in-Array-clause-levels
-count_levels-returns-in_ok-count_item_levels-in-Array-clause-levels g t c =
+pub count_levels-returns-in_ok-count_item_levels-in-Array :
+    goal.count_levels-returns-in_ok-count_item_levels-in-Array
+count_levels-returns-in_ok-count_item_levels-in-Array g t c =
     let text = g.K.ObjectKey.text in
     let literal = g.D.Literal.literal in
     let tree = ap (value_tree text literal) c.in-Array.is ∙ tree-Array text literal c.in-Array.items in
-    subst (λ n. IfOk c.one_more.result (λ m. m ≡ n)) (add-one _ ∙ ap suc c.in_ok-count_item_levels-in-Array.ensures.levels ∙ sym (ap depth tree)) c.one_more.ensures
+    let counted = c.in_ok-count_item_levels-in-Array.ensures in
+    let more = c.one_more in
+    record {
+      levels = subst (λ n. IfOk more.result (λ m. m ≡ n)) (add-one _ ∙ ap suc counted.levels ∙ sym (ap depth tree)) more.ensures;
+      kept = on_ok more.result (subst IsKept (sym tree) (ap list counted.kept));
+      valid = on_ok more.result (subst IsValidTree (sym tree) counted.valid);
+    }
 
-pub count_levels-returns-in_ok-count_item_levels-in-Array-clause-kept : goal.count_levels-returns-in_ok-count_item_levels-in-Array-clause-kept
-count_levels-returns-in_ok-count_item_levels-in-Array-clause-kept g t c =
-    let text = g.K.ObjectKey.text in
-    let literal = g.D.Literal.literal in
-    let tree = ap (value_tree text literal) c.in-Array.is ∙ tree-Array text literal c.in-Array.items in
-    on_ok c.one_more.result (subst IsKept (sym tree) (ap list c.in_ok-count_item_levels-in-Array.ensures.kept))
-
-pub count_levels-returns-in_ok-count_item_levels-in-Array-clause-valid : goal.count_levels-returns-in_ok-count_item_levels-in-Array-clause-valid
-count_levels-returns-in_ok-count_item_levels-in-Array-clause-valid g t c =
-    let text = g.K.ObjectKey.text in
-    let literal = g.D.Literal.literal in
-    let tree = ap (value_tree text literal) c.in-Array.is ∙ tree-Array text literal c.in-Array.items in
-    on_ok c.one_more.result (subst IsValidTree (sym tree) c.in_ok-count_item_levels-in-Array.ensures.valid)
-
-pub count_levels-returns-in_ok-count_member_levels-in-Object-clause-levels : goal.count_levels-returns-in_ok-count_member_levels-in-Object-clause-levels
-count_levels-returns-in_ok-count_member_levels-in-Object-clause-levels g t c =
+pub count_levels-returns-in_ok-count_member_levels-in-Object :
+    goal.count_levels-returns-in_ok-count_member_levels-in-Object
+count_levels-returns-in_ok-count_member_levels-in-Object g t c =
     let text = g.K.ObjectKey.text in
     let literal = g.D.Literal.literal in
     let tree = ap (value_tree text literal) c.in-Object.is ∙ tree-Object text literal c.in-Object.members in
-    subst (λ n. IfOk c.one_more-in-Object.result (λ m. m ≡ n)) (add-one _ ∙ ap suc c.in_ok-count_member_levels-in-Object.ensures.levels ∙ sym (ap depth tree)) c.one_more-in-Object.ensures
-
-pub count_levels-returns-in_ok-count_member_levels-in-Object-clause-kept : goal.count_levels-returns-in_ok-count_member_levels-in-Object-clause-kept
-count_levels-returns-in_ok-count_member_levels-in-Object-clause-kept g t c =
-    let text = g.K.ObjectKey.text in
-    let literal = g.D.Literal.literal in
-    let tree = ap (value_tree text literal) c.in-Object.is ∙ tree-Object text literal c.in-Object.members in
-    on_ok c.one_more-in-Object.result (subst IsKept (sym tree) (ap object c.in_ok-count_member_levels-in-Object.ensures.kept))
-
-pub count_levels-returns-in_ok-count_member_levels-in-Object-clause-valid : goal.count_levels-returns-in_ok-count_member_levels-in-Object-clause-valid
-count_levels-returns-in_ok-count_member_levels-in-Object-clause-valid g t c =
-    let text = g.K.ObjectKey.text in
-    let literal = g.D.Literal.literal in
-    let tree = ap (value_tree text literal) c.in-Object.is ∙ tree-Object text literal c.in-Object.members in
-    on_ok c.one_more-in-Object.result (subst IsValidTree (sym tree) c.in_ok-count_member_levels-in-Object.ensures.valid)
+    let counted = c.in_ok-count_member_levels-in-Object.ensures in
+    let more = c.one_more-in-Object in
+    record {
+      levels = subst (λ n. IfOk more.result (λ m. m ≡ n)) (add-one _ ∙ ap suc counted.levels ∙ sym (ap depth tree)) more.ensures;
+      kept = on_ok more.result (subst IsKept (sym tree) (ap object counted.kept));
+      valid = on_ok more.result (subst IsValidTree (sym tree) counted.valid);
+    }

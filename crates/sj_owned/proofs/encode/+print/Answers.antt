@@ -1,8 +1,8 @@
-use Rattle.std.proofs.Common.{ℕ, suc, ◌*◌, ◌≤◌, ◌<◌, List, [], ◌∷◌, Result, Ok, Err, ◌++◌, ◌+◌, drop, ◌≡◌, length, ap, subst, ◌∙◌, sym, arith, rules}
+use Rattle.std.proofs.Common.{ℕ, suc, ◌*◌, ◌≤◌, ◌<◌, List, [], Result, Ok, Err, ◌++◌, ◌+◌, drop, ◌≡◌, length, ap, subst, ◌∙◌, sym, arith, rules}
 use Rattle.sj_base.specs.Layout.{rest_text, item_texts, member_texts, laid_out, colon, filled, before_next}
 use Rattle.sj_base.specs.Text.{quoted}
 use Rattle.sj_base.specs.declared.layout.Layout.{Layout}
-use Rattle.sj_base.specs.Tree.{list, object, Members, item, member}
+use Rattle.sj_base.specs.Tree.{list, object, Members}
 use Rattle.sj_base.specs.declared.layout.Container.{Container}
 use Rattle.std.proofs.lemmas.List.{drop_all}
 use Rattle.std.proofs.lemmas.Result.{err_from_is_err_and}
@@ -11,8 +11,8 @@ use Rattle.sj_base.specs.Output.{Prints}
 use Rattle.sj_owned.specs.declared.value.Value.{the_lemmas}
 use Rattle.sj_base.proofs.Towards.{Toward, fault, list_fault, list_opened, object_fault, object_opened, next_item, next_member, value_fault, value_printed}
 use Rattle.sj_tape.proofs.Printing.{fewer_items, fewer_members, nested_item, nested_member}
-use Rattle.sj_owned.proofs.Layers.{tree-Array, tree-Object}
-use Rattle.sj_owned.proofs.Pieces.{cut_at, shorter}
+use Rattle.sj_owned.proofs.Layers.{tree-Array, tree-Object, items_cut, members_cut}
+use Rattle.sj_owned.proofs.Pieces.{shorter}
 use Rattle.sj_object.specs.Iterators.{entries_left}
 use Rattle.sj_tape.specs.Listing.{listing, members_listing}
 use Rattle.sj_owned.specs.Views.{value_tree, items_view, members_view}
@@ -71,7 +71,7 @@ print_items-returns-in_err-print_value g t c =
     let all = c.args.items.now in
     let list = c.loop-item.list in
     let value = value_tree text literal c.item-item.result in
-    let cut : view (drop i all) ≡ item value (view (drop (i + 1) all)) = ap view (cut_at all i c.item-item.result (omega (arith, c.loop-item-test.true, c.loop-item.auto.item-index-end)) c.item-item.is) in
+    let cut = items_cut text literal all i c.item-item.result (omega (arith, c.loop-item-test.true, c.loop-item.auto.item-index-end)) c.item-item.is in
     let left = next_item list (view (drop i all)) value (view (drop (i + 1) all)) c.loop-item.invariant.2 cut in
     let inside = c.inside.ensures ∙ ap (λ (x : Container). x.inside) c.in_ok-next.ensures.container in
     let begun = subst (λ (y : Layout). g.O.Output.begins c.next.new.out c.print_value.new.out (laid_out y value)) inside c.in_err-print_value.ensures in
@@ -87,7 +87,7 @@ print_items-loop-item-preserved g t c =
     let list = c.loop-item.list in
     let value = value_tree text literal c.item-item.result in
     let more = view (drop (i + 1) all) in
-    let cut : view (drop i all) ≡ item value more = ap view (cut_at all i c.item-item.result (omega (arith, c.loop-item-test.true, c.loop-item.auto.item-index-end)) c.item-item.is) in
+    let cut = items_cut text literal all i c.item-item.result (omega (arith, c.loop-item-test.true, c.loop-item.auto.item-index-end)) c.item-item.is in
     let left = next_item list (view (drop i all)) value more c.loop-item.invariant.2 cut in
     let fewer = fewer_items (view (drop i all)) value more cut in
     let inside = c.inside.ensures ∙ ap (λ (x : Container). x.inside) c.in_ok-next.ensures.container in
@@ -107,8 +107,7 @@ print_members-returns-in_err-key g t c =
     let key = c.as_text.result.now in
     let value = value_tree text literal c.in-Some.value.now in
     let more = view (entries_left c.next.new.self) in
-    let first : entries_left c.loop-key.key-iterator ≡ record { key = c.in-Some.key.now; value = c.in-Some.value.now } ∷ entries_left c.next.new.self = c.in-Some.ensures.steps in
-    let cut : view (entries_left c.loop-key.key-iterator) ≡ member key value more = ap view first ∙ ap (λ k. member k value more) (sym c.as_text.ensures) in
+    let cut = members_cut text literal (entries_left c.loop-key.key-iterator) (entries_left c.next.new.self) c.in-Some.key.now c.in-Some.value.now key c.in-Some.ensures.steps c.as_text.ensures in
     let left = next_member object (view (entries_left c.loop-key.key-iterator)) key value more c.loop-key.invariant.4 cut in
     rw (err_from_is_err_and c.from_residual-in_err-key.result c.from_residual-in_err-key.ensures.1).1 (fault g.met.O.Output.laws (before_next object ++ (quoted key ++ colon object.inside)) (laid_out object.inside value ++ rest_text (filled object) (member_texts object.inside more)) left c.in_err-key.ensures.printed)
 
@@ -121,8 +120,7 @@ print_members-returns-in_err-print_value g t c =
     let key = c.as_text.result.now in
     let value = value_tree text literal c.in-Some.value.now in
     let more = view (entries_left c.next.new.self) in
-    let first : entries_left c.loop-key.key-iterator ≡ record { key = c.in-Some.key.now; value = c.in-Some.value.now } ∷ entries_left c.next.new.self = c.in-Some.ensures.steps in
-    let cut : view (entries_left c.loop-key.key-iterator) ≡ member key value more = ap view first ∙ ap (λ k. member k value more) (sym c.as_text.ensures) in
+    let cut = members_cut text literal (entries_left c.loop-key.key-iterator) (entries_left c.next.new.self) c.in-Some.key.now c.in-Some.value.now key c.in-Some.ensures.steps c.as_text.ensures in
     let left = next_member object (view (entries_left c.loop-key.key-iterator)) key value more c.loop-key.invariant.4 cut in
     let inside = c.inside.ensures ∙ ap (λ (x : Container). x.inside) c.in_ok-key.ensures.container in
     let begun = subst (λ (y : Layout). g.O.Output.begins c.key.new.out c.print_value.new.out (laid_out y value)) inside c.in_err-print_value.ensures in
@@ -137,8 +135,7 @@ print_members-loop-key-preserved g t c =
     let key = c.as_text.result.now in
     let value = value_tree text literal c.in-Some.value.now in
     let more = view (entries_left c.next.new.self) in
-    let first : entries_left c.loop-key.key-iterator ≡ record { key = c.in-Some.key.now; value = c.in-Some.value.now } ∷ entries_left c.next.new.self = c.in-Some.ensures.steps in
-    let cut : view (entries_left c.loop-key.key-iterator) ≡ member key value more = ap view first ∙ ap (λ k. member k value more) (sym c.as_text.ensures) in
+    let cut = members_cut text literal (entries_left c.loop-key.key-iterator) (entries_left c.next.new.self) c.in-Some.key.now c.in-Some.value.now key c.in-Some.ensures.steps c.as_text.ensures in
     let left = next_member object (view (entries_left c.loop-key.key-iterator)) key value more c.loop-key.invariant.4 cut in
     let fewer = fewer_members (view (entries_left c.loop-key.key-iterator)) key value more cut in
     let inside = c.inside.ensures ∙ ap (λ (x : Container). x.inside) c.in_ok-key.ensures.container in
@@ -160,13 +157,15 @@ print_items-open_list-requires g t c = c.in_ok-test_level.ensures
 
 pub print_items-returns-in_err-next : goal.print_items-returns-in_err-next
 print_items-returns-in_err-next g t c =
-    let view = items_view g.K.ObjectKey.text g.D.Literal.literal in
+    let text = g.K.ObjectKey.text in
+    let literal = g.D.Literal.literal in
+    let view = items_view text literal in
     let i = c.loop-item.item-index in
     let all = c.args.items.now in
     let list = c.loop-item.list in
-    let value = value_tree g.K.ObjectKey.text g.D.Literal.literal c.item-item.result in
+    let value = value_tree text literal c.item-item.result in
     let more = view (drop (i + 1) all) in
-    let cut : view (drop i all) ≡ item value more = ap view (cut_at all i c.item-item.result (omega (arith, c.loop-item-test.true, c.loop-item.auto.item-index-end)) c.item-item.is) in
+    let cut = items_cut text literal all i c.item-item.result (omega (arith, c.loop-item-test.true, c.loop-item.auto.item-index-end)) c.item-item.is in
     let left = next_item list (view (drop i all)) value more c.loop-item.invariant.2 cut in
     rw (err_from_is_err_and c.from_residual-in_err-next.result c.from_residual-in_err-next.ensures.1).1 (fault g.met.O.Output.laws (before_next list) (laid_out list.inside value ++ rest_text (filled list) (item_texts list.inside more)) left c.in_err-next.ensures.printed)
 
@@ -214,21 +213,24 @@ print_value-returns-in-Object g t c = search (rules, the_lemmas)
 
 pub print_items-print_value-requires : goal.print_items-print_value-requires
 print_items-print_value-requires g t c κs within =
-    let view = items_view g.K.ObjectKey.text g.D.Literal.literal in
+    let text = g.K.ObjectKey.text in
+    let literal = g.D.Literal.literal in
+    let view = items_view text literal in
     let i = c.loop-item.item-index in
     let all = c.args.items.now in
-    let value = value_tree g.K.ObjectKey.text g.D.Literal.literal c.item-item.result in
-    let cut : view (drop i all) ≡ item value (view (drop (i + 1) all)) = ap view (cut_at all i c.item-item.result (omega (arith, c.loop-item-test.true, c.loop-item.auto.item-index-end)) c.item-item.is) in
+    let value = value_tree text literal c.item-item.result in
+    let cut = items_cut text literal all i c.item-item.result (omega (arith, c.loop-item-test.true, c.loop-item.auto.item-index-end)) c.item-item.is in
     (item_falls _ _ _ _ (nested_item (view (drop i all)) value (view (drop (i + 1) all)) cut) c.loop-item.invariant.0 c.decreases, within)
 
 pub print_members-print_value-requires : goal.print_members-print_value-requires
 print_members-print_value-requires g t c κs within =
-    let view = members_view g.K.ObjectKey.text g.D.Literal.literal in
+    let text = g.K.ObjectKey.text in
+    let literal = g.D.Literal.literal in
+    let view = members_view text literal in
     let key = c.as_text.result.now in
-    let value = value_tree g.K.ObjectKey.text g.D.Literal.literal c.in-Some.value.now in
+    let value = value_tree text literal c.in-Some.value.now in
     let more = view (entries_left c.next.new.self) in
-    let first : entries_left c.loop-key.key-iterator ≡ record { key = c.in-Some.key.now; value = c.in-Some.value.now } ∷ entries_left c.next.new.self = c.in-Some.ensures.steps in
-    let cut : view (entries_left c.loop-key.key-iterator) ≡ member key value more = ap view first ∙ ap (λ k. member k value more) (sym c.as_text.ensures) in
+    let cut = members_cut text literal (entries_left c.loop-key.key-iterator) (entries_left c.next.new.self) c.in-Some.key.now c.in-Some.value.now key c.in-Some.ensures.steps c.as_text.ensures in
     (member_falls _ _ _ _ (nested_member (view (entries_left c.loop-key.key-iterator)) key value more cut) c.loop-key.invariant.2 c.decreases, within)
 
 pub print_value-print_items-requires : goal.print_value-print_items-requires
