@@ -2,11 +2,11 @@
 //!
 //! The `put_` functions append to a vector, all of the text or nothing. [`print_text`] appends to any [`Output`], and
 //! leaves a prefix of the text if the output fails.
-ghost use Rattle.std.specs.Prelude.{◌≡◌, ◌<◌, [], ◌∷◌, ◌++◌, IsTrue, OnOk, OnErr, take, flat_map};
+ghost use Rattle.std.specs.Prelude.{◌≡◌, ◌<◌, OnOk, OnErr, take, flat_map};
 ghost use Rattle.sj_base.specs.Output.{Prints, AppendsOrLeaves};
 ghost use Rattle.std.specs.Char.{digit_char};
 ghost use Rattle.sj_base.specs.Tree.{integer};
-ghost use Rattle.sj_base.specs.Scalar.{static_tree, scalar_tree};
+ghost use Rattle.sj_base.specs.Scalar.{scalar_tree};
 ghost use Rattle.sj_base.specs.Text.{escaped, quoted, text, line_break};
 
 use crate::integer::JsonInteger;

@@ -153,10 +153,10 @@ impl<'i> Value<'_, '_, 'i> {
             × (members_inside d ≡ option_map (λ es. put_key cow_str_bytes es key.entry value.entry) (members_inside e))) self.old self.new) }
         ensures err { IfErr result (Refuses (λ e. e ≡ refusal AccessError.NotAnObject (members_in (upgraded self.old))) self.old self.new) }
     {
-        let Ok(object) = self.value_mut(alloc) else {
+        let Ok(owned) = self.value_mut(alloc) else {
             return refuse((key, value), AccessError::Memory);
         };
-        object.insert(key, value)
+        owned.insert(key, value)
     }
 
     /// Removes the member of this key and returns its value. The members after it close up.

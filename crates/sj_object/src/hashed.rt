@@ -2,7 +2,7 @@
 //!
 //! They answer as the calls without a hash. That the hash is the key's is a condition of each call;
 //! [`hash_key`](crate::hash_key) gives it.
-ghost use Rattle.std.specs.Prelude.{◌≡◌, None, IsSome, IsOk, IfOk, IfErr, OnOk, OnErr, MatchOption};
+ghost use Rattle.std.specs.Prelude.{◌≡◌, IsSome, IsOk, IfOk, IfErr, OnOk, OnErr, MatchOption};
 ghost use Rattle.std.specs.Borrow.{sem};
 ghost use Rattle.std.specs.Option.{ForNone, option_copied, option_copied_mut};
 ghost use Rattle.sj_object.specs.Hash.{text_hash};

@@ -1,6 +1,6 @@
 //! Iterators over objects.
 ghost use Rattle.std.specs.Prelude.{◌≡◌, IfSome, Some, length, map};
-ghost use Rattle.std.specs.Iterator.{YieldsFirst, YieldsFirstBy, YieldsFirstRef, UpTo, item_count};
+ghost use Rattle.std.specs.Iterator.{YieldsFirstBy, YieldsFirstRef, UpTo, item_count};
 ghost use Rattle.std.specs.Iterator.SizeHint.{IsWithinCount};
 
 use crate::entry::Entry;

@@ -3,7 +3,7 @@ ghost use Rattle.std.specs.Prelude.{◌≡◌, ◌+◌, ◌<◌, ◌≤◌, ◌+
 ghost use Rattle.std.specs.List.{insert, remove};
 ghost use Rattle.std.specs.Vec.{vec_capacity};
 ghost use Rattle.sj_object.specs.Hash.{text_hash};
-ghost use Rattle.sj_object.specs.Pairs.{keys_of, place_of, AreDistinct};
+ghost use Rattle.sj_object.specs.Pairs.{keys_of, place_of};
 ghost use Rattle.sj_object.specs.inside.Chains.{IsTable, HasRoomFor};
 ghost use Rattle.sj_object.specs.inside.Stored.{stored, IsFound, IsListed, AreIndexed, HasRoom};
 

@@ -3,7 +3,7 @@
 //! The hash of a key says in which chain its pair stands. A chain begins at its newest pair, and each link leads to the pair that
 //! came before it. Where a pair has the hash that is looked for, the texts of the keys decide. A new pair goes to the head of its
 //! chain, which takes one step however many keys share its hash.
-ghost use Rattle.std.specs.Prelude.{◌≡◌, ℕ, suc, ◌+◌, ◌<◌, ◌≤◌, List, [], ◌∷◌, ◌++◌, length, set, true, Some, None, IfSome, IfOk};
+ghost use Rattle.std.specs.Prelude.{◌≡◌, ◌+◌, ◌<◌, ◌≤◌, [], ◌∷◌, ◌++◌, length, set, true, Some, None, IfSome, IfOk};
 ghost use Rattle.std.specs.Vec.{vec_capacity};
 ghost use Rattle.sj_object.specs.Hash.{text_hash};
 ghost use Rattle.sj_object.specs.Pairs.{keys_of, place_of, AreDistinct};

@@ -1,8 +1,7 @@
 //! Reads of the parts of a document, with the names of the traits of `value_trait`.
-ghost use Rattle.std.specs.Prelude.{◌≡◌, None, is_some, IfSome, option_map, option_and_then, option_copied, ok_or};
+ghost use Rattle.std.specs.Prelude.{◌≡◌, None, is_some, option_map, option_and_then, option_copied, ok_or};
 ghost use Rattle.sj_base.specs.Containers.{scalar_in};
 ghost use Rattle.sj_base.specs.Path.{key, place, child};
-ghost use Rattle.sj_base.specs.Scalar.{scalar_tree, scalar_type};
 ghost use Rattle.sj_reads.specs.Reads.{mismatch};
 ghost use Rattle.sj_reads.specs.Views.{ok_map};
 

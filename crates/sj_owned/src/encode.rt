@@ -1,5 +1,5 @@
 //! Encoders: the JSON text of a document, appended to a vector.
-ghost use Rattle.std.specs.Prelude.{◌≡◌, ℕ, List, ◌+◌, ◌++◌, ◌<◌, ◌^◌, OnOk};
+ghost use Rattle.std.specs.Prelude.{ℕ, List, ◌+◌, ◌<◌, ◌^◌, OnOk};
 ghost use Rattle.sj_base.specs.Output.{Prints, AppendsOrLeaves};
 ghost use Rattle.sj_base.specs.Text.{text, pretty};
 ghost use Rattle.sj_base.specs.Tree.{list, object};

@@ -1,6 +1,5 @@
 //! Documents made of other values. The conversions that `From` stands for need no memory.
 ghost use Rattle.std.specs.Prelude.{◌≡◌, List, IfOk, MatchOption, string_bytes, map as map_entries};
-ghost use Rattle.std.specs.Cow.{cow_str_bytes};
 ghost use Rattle.std.specs.Cmp.Lexicographic.{slice_cmp};
 ghost use Rattle.std.specs.List.Sorted.{IsPermutation, IsSortedByKey};
 ghost use Rattle.std.specs.Ordering.{nat_cmp};

@@ -1,5 +1,5 @@
 //! The type of documents, and how new ones are made.
-ghost use Rattle.std.specs.Prelude.{◌≡◌, [], Some, None, IfOk, is_some};
+ghost use Rattle.std.specs.Prelude.{◌≡◌, [], Some, IfOk, is_some};
 
 use crate::literal::Literal;
 use sj_base::{StaticNode, ValueType};

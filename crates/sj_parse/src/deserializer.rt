@@ -6,7 +6,7 @@ ghost use Rattle.sj_base.specs.declared.TheConstants.{DEFAULT_MAX_DEPTH};
 ghost use Rattle.sj_base.specs.declared.error.ErrorType.TheVariants.{InputTooLarge};
 ghost use Rattle.sj_tape.specs.Listing.{listing};
 ghost use Rattle.sj_tape.specs.Nodes.{entries};
-ghost use Rattle.sj_tape.specs.Views.{tape_nodes, tape_tree, value_nodes, value_tree};
+ghost use Rattle.sj_tape.specs.Views.{tape_nodes, value_nodes, value_tree};
 ghost use Rattle.sj_parse.specs.Fault.{generic, fault};
 ghost use Rattle.sj_parse.specs.Answers.{Answers, Leaves, buffer_texts, buffer_positions, buffer_limit, buffer_room, deserializer_nodes, deserializer_next};
 

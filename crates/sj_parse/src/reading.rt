@@ -3,7 +3,7 @@
 //! A call tests the length of the input, and in the padded form the padding, and then scans it: these faults are about
 //! the whole text, and stand at index 0 without a character. Then it reserves all the room that the descent over the
 //! tokens needs. The faults of the descent name a byte, and the first one is the answer.
-ghost use Rattle.std.specs.Prelude.{◌≡◌, ◌≢◌, ℕ, ◌+◌, ◌<◌, ◌≤◌, ◌⊎◌, List, [], ◌∷◌, ◌++◌, None, Err, IfErr, IfOk, OnOk, OnErr, length, take, min, vec_capacity};
+ghost use Rattle.std.specs.Prelude.{◌≡◌, ◌≢◌, ℕ, ◌+◌, ◌<◌, ◌≤◌, ◌⊎◌, [], ◌∷◌, ◌++◌, None, Err, IfErr, IfOk, OnOk, OnErr, length, take, min, vec_capacity};
 ghost use Rattle.sj_base.specs.Spelling.{longest};
 ghost use Rattle.sj_base.specs.declared.TheConstants.{DEFAULT_MAX_DEPTH};
 ghost use Rattle.sj_scan.specs.Positions.{positions};

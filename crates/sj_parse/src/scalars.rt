@@ -1,5 +1,5 @@
 //! Strings, numbers and literals, read where they stand in the input.
-ghost use Rattle.std.specs.Prelude.{◌≡◌, ◌≢◌, ℕ, ◌+◌, ◌<◌, ◌≤◌, ◌^◌, ◌∷◌, [], None, Some, true, false, MatchResult, IfErr, IfOk, length, take, drop, slice_index, IsUtf8};
+ghost use Rattle.std.specs.Prelude.{◌≡◌, ◌≢◌, ℕ, ◌+◌, ◌<◌, ◌≤◌, ◌^◌, None, Some, MatchResult, IfErr, IfOk, length, take, drop, slice_index, IsUtf8};
 ghost use Rattle.sj_parse.specs.Token.{word};
 ghost use Rattle.sj_parse.specs.Escapes.{bad_escape};
 ghost use Rattle.sj_parse.specs.inside.NumberNode.{HasShape};

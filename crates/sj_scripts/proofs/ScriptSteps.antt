@@ -1,5 +1,5 @@
 -- Reading the parts of a path and the commands of a script one after the other, as loops do.
-use Rattle.std.proofs.Common.{◌≡◌, ℕ, suc, ◌+◌, List, [], ◌∷◌, ◌++◌, length, Result, Ok, Err, refl, sym, ap, ◌∙◌, append_assoc}
+use Rattle.std.proofs.Common.{◌≡◌, ℕ, suc, List, [], ◌∷◌, ◌++◌, length, Result, Ok, Err, refl, sym, ap, ◌∙◌, append_assoc}
 use Rattle.sj_base.specs.Tree.{Tree}
 use Rattle.sj_base.specs.Path.{Part}
 use Rattle.sj_scripts.specs.declared.script.CommandFault.{CommandFault}

@@ -1,9 +1,9 @@
 -- Worked values: the commands of scripts.
-use Rattle.std.specs.Prelude.{◌≡◌, refl, ℕ, List, pos, negsuc, true, false, [], ◌∷◌, Ok, Err, Some, None, codes}
+use Rattle.std.specs.Prelude.{◌≡◌, refl, ℕ, List, pos, negsuc, true, [], ◌∷◌, Ok, Err, codes}
 use Rattle.std.specs.Char.{encode_utf8}
 use Rattle.std.specs.Str.{chars, is_utf8}
 use Rattle.std.proofs.Common.{inr}
-use Rattle.sj_base.specs.Tree.{Tree, null, integer, string, list, object, Items, no_items, item, no_members, member}
+use Rattle.sj_base.specs.Tree.{Tree, integer, string, list, object, Items, no_items, item, no_members, member}
 use Rattle.sj_base.specs.Path.{key, place}
 use Rattle.sj_base.specs.Number.{signed}
 use Rattle.sj_base.specs.declared.error.ErrorType.TheVariants.{Syntax}

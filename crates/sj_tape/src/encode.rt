@@ -1,5 +1,5 @@
 //! Encoders: the JSON text of a value, appended to a vector or written to a sink.
-ghost use Rattle.std.specs.Prelude.{◌≡◌, ◌+◌, ◌++◌, ◌<◌, ◌^◌, length};
+ghost use Rattle.std.specs.Prelude.{◌≡◌, ◌+◌, ◌<◌, ◌^◌, length};
 ghost use Rattle.sj_base.specs.Tree.{list, object};
 ghost use Rattle.sj_base.specs.Text.{text, pretty};
 ghost use Rattle.sj_base.specs.Layout.{level_of, laid_out};

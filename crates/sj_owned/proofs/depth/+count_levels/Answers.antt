@@ -1,6 +1,5 @@
 use Rattle.std.specs.Prelude.{IsUtf8}
 use Rattle.std.proofs.Common.{◌≡◌, Result, Ok, Err, OnOk, IfOk, ℕ, ◌+◌, suc, length, [], ◌∷◌, ◌++◌, drop, max, refl, sym, ap, ap₂, subst, ◌∙◌, append_assoc, add-one, arith, rules}
-use Rattle.std.proofs.Math.Seq.{drop-cons}
 use Rattle.std.proofs.lemmas.List.{drop_all}
 use Rattle.std.proofs.lemmas.Result.{IfOk-from_err}
 use borrow.Author.Count.{falls}
@@ -13,7 +12,7 @@ use Rattle.sj_owned.specs.declared.value.Value.{Value}
 use Rattle.sj_owned.specs.inside.Depths.{KeepItems}
 use Rattle.sj_owned.proofs.Layers.{tree-Array, tree-Object}
 use Rattle.sj_owned.proofs.Depths.{KeepEach, one_member_more, distinct_kept}
-use Rattle.sj_owned.proofs.Pieces.{shorter}
+use Rattle.sj_owned.proofs.Pieces.{cut_at, shorter}
 use Rattle.sj_owned.proofs.depth.+count_levels.Goals as goal
 
 none_deeper : (n : ℕ) → max 0 n ≡ n
@@ -34,7 +33,7 @@ count_item_levels-loop-item-preserved g t c =
     let v : Value g.row.K.Denot g.row.D.Denot = c.item-item.result in
     let items = c.deref-item-items.result.now in
     let left = drop (at.item-index + 1) items in
-    let first : drop at.item-index items ≡ v ∷ left = rw add-one (drop-cons items at.item-index v c.loop-item-test.true ∙ ap (λ w. w ∷ drop (suc at.item-index) items) (sym c.item-item.is)) in
+    let first = cut_at items at.item-index v c.loop-item-test.true c.item-item.is in
     let deeper : max at.deepest (max (depth (value_tree text literal v)) (items_depth (items_view text literal left))) ≡ items_depth (items_view text literal items) = ap (λ vs. max at.deepest (items_depth (items_view text literal vs))) (sym first) ∙ at.invariant.0 in
     let now : max c.max-deepest.result (items_depth (items_view text literal left)) ≡ items_depth (items_view text literal items) = search rules in
     let each : KeepItems text literal left → KeepItems text literal items = λ rest. at.invariant.1 (rw first (ap₂ item c.in_ok-count_levels.ensures.kept rest)) in
