@@ -31,7 +31,7 @@ for times in 700 1400; do
     yes "$line" | head -n $times | paste -sd, | sed 's/.*/{"more":{"note":[&]}}/' > "$work/1-of-$times"
     cat "$work/1-of-$times" "$work/1-of-$times" "$work/1-of-$times" > "$work/3-of-$times"
 done
-echo '[["get",["more","note"]],["keys",[]]]' > "$work/reads"
+echo '[["get",["more","note"]],["contains",["more"],"note"],["type",["more"]],["len",["more"]],["keys",[]]]' > "$work/reads"
 echo '["a","b","c","d"]' > "$work/strings"
 echo '[["reload"],["reload"],["reload"]]' > "$work/three"
 echo '[["reload"],["reload"],["reload"],["reload"]]' > "$work/four"

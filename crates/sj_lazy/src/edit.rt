@@ -129,7 +129,7 @@ fn refuse<T: Drop, U>(_handed_in: T, error: AccessError) -> Result<U, AccessErro
 
 impl<'i> Value<'_, '_, 'i> {
     ghost use Rattle.sj_lazy.specs.Contents.{Document};
-    ghost use Rattle.sj_lazy.specs.Upgrade.{OwnsSuch, Upgrades, WritesBy, Refuses, upgraded};
+    ghost use Rattle.sj_lazy.specs.Upgrade.{OwnsSuch, Upgrades, WritesBy, Refuses, owns, upgraded};
     ghost use Rattle.sj_lazy.specs.Views.{document_tree};
 
     /// Replaces the value of this key and returns the old one. A new key goes last, and the result is `None`.
@@ -230,12 +230,13 @@ impl<'i> Value<'_, '_, 'i> {
     ///
     /// # Errors
     ///
-    /// `AllocError` if there is no memory for the document. The value is unchanged.
+    /// `AllocError` if there is no memory for the document. The value is unchanged. A document of its own takes none.
     pub fn as_array_mut(
         &mut self,
         alloc: Global,
     ) -> Result<Option<&mut Vec<BorrowedValue<'i>>>, AllocError>
-        ensures { IfOk result (λ found. (d : Document) × Upgrades self.old d × (option_copied_mut found ≡ array_inside d)) }
+        ensures part { IfOk result (λ found. (d : Document) × Upgrades self.old d × (option_copied_mut found ≡ array_inside d)) }
+        ensures succeeds { OnErr result (owns self.old ≡ false) }
     {
         Ok(self.value_mut(alloc)?.as_array_mut())
     }
@@ -246,9 +247,10 @@ impl<'i> Value<'_, '_, 'i> {
     ///
     /// # Errors
     ///
-    /// `AllocError` if there is no memory for the document. The value is unchanged.
+    /// `AllocError` if there is no memory for the document. The value is unchanged. A document of its own takes none.
     pub fn as_object_mut(&mut self, alloc: Global) -> Result<Option<&mut Object<'i>>, AllocError>
-        ensures { IfOk result (λ found. (d : Document) × Upgrades self.old d × (option_copied_mut found ≡ members_inside d)) }
+        ensures part { IfOk result (λ found. (d : Document) × Upgrades self.old d × (option_copied_mut found ≡ members_inside d)) }
+        ensures succeeds { OnErr result (owns self.old ≡ false) }
     {
         Ok(self.value_mut(alloc)?.as_object_mut())
     }
@@ -260,13 +262,14 @@ impl<'i> Value<'_, '_, 'i> {
     ///
     /// # Errors
     ///
-    /// `AllocError` if there is no memory for the document. The value is unchanged.
+    /// `AllocError` if there is no memory for the document. The value is unchanged. A document of its own takes none.
     pub fn get_mut(
         &mut self,
         alloc: Global,
         name: &str,
     ) -> Result<Option<&mut BorrowedValue<'i>>, AllocError>
-        ensures { IfOk result (λ found. (d : Document) × Upgrades self.old d × (option_copied_mut found ≡ member_of cow_str_bytes d name.now)) }
+        ensures part { IfOk result (λ found. (d : Document) × Upgrades self.old d × (option_copied_mut found ≡ member_of cow_str_bytes d name.now)) }
+        ensures succeeds { OnErr result (owns self.old ≡ false) }
     {
         Ok(self.value_mut(alloc)?.get_mut(name))
     }
@@ -278,13 +281,14 @@ impl<'i> Value<'_, '_, 'i> {
     ///
     /// # Errors
     ///
-    /// `AllocError` if there is no memory for the document. The value is unchanged.
+    /// `AllocError` if there is no memory for the document. The value is unchanged. A document of its own takes none.
     pub fn get_idx_mut(
         &mut self,
         alloc: Global,
         index: usize,
     ) -> Result<Option<&mut BorrowedValue<'i>>, AllocError>
-        ensures { IfOk result (λ found. (d : Document) × Upgrades self.old d × (option_copied_mut found ≡ item_of d index)) }
+        ensures part { IfOk result (λ found. (d : Document) × Upgrades self.old d × (option_copied_mut found ≡ item_of d index)) }
+        ensures succeeds { OnErr result (owns self.old ≡ false) }
     {
         Ok(self.value_mut(alloc)?.get_idx_mut(index))
     }

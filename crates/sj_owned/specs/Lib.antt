@@ -11,4 +11,5 @@ pub mod Reading
 pub mod Steps
 pub mod Deserializers
 pub mod Copies
+pub mod Examples
 pub mod inside

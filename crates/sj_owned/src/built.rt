@@ -1,10 +1,11 @@
 //! Types that are built of the parts of a document.
-ghost use Rattle.std.specs.Prelude.{◌≡◌, IfOk, map};
+ghost use Rattle.std.specs.Prelude.{◌≡◌, Ok, IsOk, IfOk, map};
 ghost use Rattle.sj_base.specs.Tree.{Tree, decimal, string, list, object};
 ghost use Rattle.sj_base.specs.Scalar.{static_tree, decimal_text};
 ghost use Rattle.sj_object.specs.Members.{member_pairs, AreMembers};
 ghost use Rattle.sj_owned.specs.Trees.{items_of, members_of, on_values};
 ghost use Rattle.sj_owned.specs.Views.{value_tree};
+ghost use Rattle.sj_owned.specs.declared.value.Value.{Static};
 
 use crate::literal::MakeLiteral;
 use crate::value::Value;
@@ -64,7 +65,8 @@ impl<'de, K: MakeKey<'de>, D: MakeLiteral<'de>> BuildValue<'de, K> for Value<K, 
     ghost tree = { value_tree K.text D.literal };
 
     fn from_static(_alloc: Global, scalar: StaticNode) -> Result<Value<K, D>, AllocError>
-        ensures { IfOk result (λ v. value_tree K.text D.literal v ≡ static_tree scalar) }
+        ensures tree { IfOk result (λ v. value_tree K.text D.literal v ≡ static_tree scalar) }
+        ensures value { result ≡ Ok (Static scalar) }
     {
         Ok(Value::Static(scalar))
     }
@@ -82,7 +84,8 @@ impl<'de, K: MakeKey<'de>, D: MakeLiteral<'de>> BuildValue<'de, K> for Value<K, 
     }
 
     fn from_array(_alloc: Global, items: Vec<Value<K, D>>) -> Result<Value<K, D>, AllocError>
-        ensures { IfOk result (λ v. value_tree K.text D.literal v ≡ list (items_of (map (value_tree K.text D.literal) items.items))) }
+        ensures tree { IfOk result (λ v. value_tree K.text D.literal v ≡ list (items_of (map (value_tree K.text D.literal) items.items))) }
+        ensures succeeds { IsOk result }
     {
         Ok(Value::Array(items))
     }
@@ -92,7 +95,8 @@ impl<'de, K: MakeKey<'de>, D: MakeLiteral<'de>> BuildValue<'de, K> for Value<K, 
         members: Members<K, Value<K, D>>,
     ) -> Result<Value<K, D>, AllocError>
         requires { AreMembers K.text members }
-        ensures { IfOk result (λ v. value_tree K.text D.literal v ≡ object (members_of K.text (on_values (value_tree K.text D.literal) (member_pairs members)))) }
+        ensures tree { IfOk result (λ v. value_tree K.text D.literal v ≡ object (members_of K.text (on_values (value_tree K.text D.literal) (member_pairs members)))) }
+        ensures succeeds { IsOk result }
     {
         Ok(Value::Object(Object::from_members(members)))
     }

@@ -1,5 +1,5 @@
 //! Types of decimal literals.
-ghost use Rattle.std.specs.Prelude.{◌≡◌, ℕ, List, IfOk};
+ghost use Rattle.std.specs.Prelude.{◌≡◌, ℕ, List, IsOk, IfOk};
 ghost use Rattle.sj_base.specs.Scalar.{decimal_text, decimal_buf_text, decimal_cow_text};
 
 use sj_base::{Decimal, DecimalBuf, DecimalCow};
@@ -49,9 +49,12 @@ impl Literal for DecimalCow<'_> {
     }
 }
 
-/// The text is borrowed.
+/// The text is borrowed, and needs no memory.
 impl<'de> MakeLiteral<'de> for DecimalCow<'de> {
-    fn from_decimal(_alloc: Global, decimal: Decimal<'de>) -> Result<DecimalCow<'de>, AllocError> {
+    fn from_decimal(_alloc: Global, decimal: Decimal<'de>) -> Result<DecimalCow<'de>, AllocError>
+        ensures text { IfOk result (λ d. decimal_cow_text d ≡ decimal_text decimal.entry) }
+        ensures succeeds { IsOk result }
+    {
         Ok(DecimalCow::Borrowed(decimal))
     }
 }

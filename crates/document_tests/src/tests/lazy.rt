@@ -290,6 +290,7 @@ fn first_writes(rt: HostRuntime) -> Result<(), Fail> {
     for &(text, left) in &[
         (r#"{"a":1,"a":2}"#, r#"{"a":1}"#),
         (r#"[{"a":1,"a":2}]"#, r#"[{"a":1}]"#),
+        ("7", "7"),
     ] {
         let mut json = bytes(rt.alloc(), text)?;
         let tape = to_tape(rt.alloc(), &mut json)?;

@@ -139,6 +139,23 @@ fn owned_edit_by_index(rt: HostRuntime) {
     expect_made(&rt, alloc, o, r#"{"key":[{"other":"value"}]}"#);
 }
 
+// Writes to the middle one of three items, and to a member between two others.
+fn write_among_others(rt: &impl Abort, o: &mut Value) {
+    let items = o.get("b").expect(rt, "a member");
+    items.get_idx(1).expect(rt, "an item");
+    overwrite(&mut o["b"][1], number(6));
+    o.get("c").expect(rt, "a member");
+    overwrite(&mut o["c"], number(7));
+}
+
+#[test]
+fn others_stay(rt: HostRuntime) {
+    let alloc = rt.alloc();
+    let mut o = owned_of(&rt, alloc, r#"{"a":1,"b":[2,3,4],"c":5,"d":8}"#);
+    write_among_others(&rt, &mut o);
+    expect_made(&rt, alloc, o, r#"{"a":1,"b":[2,6,4],"c":7,"d":8}"#);
+}
+
 // Looks in the sample for parts that it doesn't have.
 fn expect_nothing_lent(rt: &impl Abort, v: &mut Value) {
     expect_that(rt, "no member", is_nothing(v.get_mut("x")));

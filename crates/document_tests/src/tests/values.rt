@@ -150,10 +150,11 @@ fn expect_keys_as_they_stand(rt: &impl Abort, value: &BorrowedValue<'_>) {
 
 #[test]
 fn read_as_they_stand(rt: HostRuntime) {
-    let mut text = *br#"[5,-5,"a","\u0061",1.5]"#;
+    let mut text = *br#"[5,-5,"a","\u0061",1.5,-0]"#;
     let value = borrowed_of(&rt, rt.alloc(), &mut text);
     expect_carrier(&rt, &value, 0, ValueType::U64);
     expect_carrier(&rt, &value, 1, ValueType::I64);
+    expect_carrier(&rt, &value, 5, ValueType::I64);
     expect_parts_of_input(&rt, &value);
     drop(value);
     let mut text = *br#"{"a":1,"\u0062":2}"#;

@@ -1,5 +1,5 @@
 use Rattle.std.proofs.Common.{rules}
 use Rattle.sj_lazy.proofs.edit.Value.get_mut.Goals as goal
 
-pub returns : goal.returns
-returns c = search rules
+pub returns-clause-part : goal.returns-clause-part
+returns-clause-part c = search rules
