@@ -11,6 +11,7 @@ use Rattle.sj_base.specs.Keep.{keep}
 use Rattle.sj_base.specs.Path.{key, place, at, put}
 use Rattle.sj_base.specs.Alike.{alike}
 use Rattle.sj_base.specs.Edit.{put_member, drop_member, push_item, last_item, pop_item}
+use Rattle.sj_base.specs.Layout.{compact_key}
 use Rattle.sj_base.specs.Text.{text, pretty}
 
 -- {"a":1,"a":2}
@@ -226,3 +227,9 @@ no_last = refl
 
 nothing_popped : pop_item no_items ≡ no_items
 nothing_popped = refl
+
+key_behind_another : compact_key true (codes "a") ≡ codes ",\"a\":"
+key_behind_another = refl
+
+first_key : compact_key false (codes "a") ≡ codes "\"a\":"
+first_key = refl

@@ -1,5 +1,5 @@
 -- Texts of containers, piece by piece, in either layout.
-use Rattle.std.specs.Prelude.{ℕ, suc, true, false, if◌then◌else◌, List, [], ◌∷◌, ◌++◌, map}
+use Rattle.std.specs.Prelude.{ℕ, suc, Bool, true, false, if◌then◌else◌, List, [], ◌∷◌, ◌++◌, map}
 use Rattle.sj_base.specs.Tree.{Tree, Items, Members}
 use Rattle.sj_base.specs.Containers.{item_trees, member_pairs}
 use Rattle.sj_base.specs.Text.{text, quoted, line_break, pretty_at}
@@ -50,6 +50,14 @@ filled c = record c { is_empty = false }
 -- what stands before the next item or key
 abbrev pub before_next : Container → List ℕ
 before_next c = (if c.is_empty then [] else 0x2c ∷ []) ++ line_start c.inside
+
+-- what stands before the value of the next member
+abbrev pub before_value : Container → List ℕ → List ℕ
+before_value c k = before_next c ++ (quoted k ++ colon c.inside)
+
+-- the same in the compact layout, with or without a comma
+abbrev pub compact_key : Bool → List ℕ → List ℕ
+compact_key with_comma k = (if with_comma then 0x2c ∷ [] else []) ++ (quoted k ++ colon Compact)
 
 -- the closing bracket, and what stands before it
 abbrev pub end_text : Container → List ℕ

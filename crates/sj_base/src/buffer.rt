@@ -3,7 +3,7 @@ ghost use Rattle.std.specs.Prelude.{◌≡◌, ◌+◌, ◌≤◌, ◌<◌, ◌+
 ghost use Rattle.sj_base.specs.inside.OutputLaws.{lists_continue};
 
 use crate::output::Output;
-use crate::place::{place_quoted, place_text};
+use crate::place::{place_plain_key, place_quoted, place_text};
 use std::alloc::AllocError;
 
 const FIRST_STEP: usize = 256;
@@ -107,6 +107,17 @@ impl Output for TextBuffer {
         let plain = place_quoted(self.bytes.as_mut_slice(), self.len, text);
         if plain {
             self.len += text.len() + 2;
+        }
+        Ok(plain)
+    }
+
+    #[inline(always)]
+    fn put_plain_key(&mut self, with_comma: bool, key: &[u8]) -> Result<bool, AllocError> {
+        // A comma, two quotes and a colon.
+        self.reserve(key.len() + 4)?;
+        let plain = place_plain_key(self.bytes.as_mut_slice(), self.len, with_comma, key);
+        if plain {
+            self.len += usize::from(with_comma) + key.len() + 3;
         }
         Ok(plain)
     }

@@ -10,10 +10,10 @@
 //! }
 //! list.close(out)
 //! ```
-ghost use Rattle.std.specs.Prelude.{◌≡◌, ◌+◌, ◌<◌, ◌^◌, [], ◌∷◌, ◌++◌, IfOk, if◌then◌else◌};
+ghost use Rattle.std.specs.Prelude.{◌≡◌, ◌+◌, ◌<◌, ◌^◌, [], ◌∷◌, ◌++◌, IfOk, OnErr, if◌then◌else◌};
 ghost use Rattle.sj_base.specs.Output.{Prints};
 ghost use Rattle.sj_base.specs.Text.{quoted};
-ghost use Rattle.sj_base.specs.Layout.{level_of, inside, line_start, colon, opened_list, opened_object, filled, before_next, end_text};
+ghost use Rattle.sj_base.specs.Layout.{level_of, inside, line_start, colon, opened_list, opened_object, filled, before_next, before_value, end_text};
 
 use crate::output::Output;
 use crate::put::{print_break, print_string};
@@ -152,10 +152,31 @@ impl Container {
     #[inline(always)]
     pub fn key<O: Output>(&mut self, key: &str, out: &mut O) -> Result<(), O::Fault>
         ensures container { self.new ≡ filled self.old }
-        ensures printed { Prints O.appends O.begins result out.old out.new (before_next self.old ++ (quoted key.now ++ colon self.old.inside)) }
+        ensures printed { Prints O.appends O.begins result out.old out.new (before_value self.old key.now) }
     {
-        self.next(out)?;
-        self.inside.print_key(key, out)
+        match self.print_plain_key(key, out) {
+            Ok(false) => {
+                self.next(out)?;
+                self.inside.print_key(key, out)
+            }
+            printed => {
+                self.is_empty = false;
+                printed.map(drop)
+            }
+        }
+    }
+
+    // Prints what `key` prints and returns `true`, or prints nothing and returns `false`. It is for the compact layout, and for
+    // keys that the output has a fast way for.
+    #[inline(always)]
+    fn print_plain_key<O: Output>(&self, key: &str, out: &mut O) -> Result<bool, O::Fault>
+        ensures ok { IfOk result (λ done. O.appends out.old out.new (if done then before_value self.now key.now else [])) }
+        ensures err { OnErr result (O.begins out.old out.new (before_value self.now key.now)) }
+    {
+        match self.inside {
+            Layout::Compact => out.put_plain_key(!self.is_empty, key.as_bytes()),
+            Layout::Indented(_) => Ok(false),
+        }
     }
 
     /// Prints the closing bracket, on a line of its own unless the container is empty or the layout is compact.

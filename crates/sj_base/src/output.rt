@@ -1,6 +1,7 @@
 //! What text is printed to: a vector, a buffer, or a sink.
 ghost use Rattle.std.specs.Prelude.{◌≡◌, List, ℕ, [], ◌++◌, if◌then◌else◌, IfOk, OnErr};
 ghost use Rattle.sj_base.specs.Output.{Continues, Prints, WritesAll, WritesPrefix};
+ghost use Rattle.sj_base.specs.Layout.{compact_key};
 ghost use Rattle.sj_base.specs.Text.{quoted};
 ghost use Rattle.sj_base.specs.inside.OutputLaws.{vectors_continue, sinks_continue};
 
@@ -37,7 +38,26 @@ pub trait Output {
     /// The fault of the output. A prefix of the text between quotes is then appended.
     fn put_plain(&mut self, text: &[u8]) -> Result<bool, Self::Fault>
         ensures ok { IfOk result (λ done. appends self.old self.new (if done then quoted text.now else [])) }
-        ensures err { OnErr result (begins self.old self.new (quoted text.now)) };
+        ensures err { OnErr result (begins self.old self.new (quoted text.now)) }
+    {
+        Ok(false)
+    }
+
+    /// Appends the key between quotes, with a comma before it if `with_comma` and a colon behind it, and returns `true`, or
+    /// appends nothing and returns `false`.
+    ///
+    /// This is what stands before a member's value in the compact layout. `true` is for keys in which no byte needs an
+    /// escape, as with [`put_plain`](Output::put_plain).
+    ///
+    /// # Errors
+    ///
+    /// The fault of the output. A prefix of the comma, the key and the colon is then appended.
+    fn put_plain_key(&mut self, with_comma: bool, key: &[u8]) -> Result<bool, Self::Fault>
+        ensures ok { IfOk result (λ done. appends self.old self.new (if done then compact_key with_comma key.now else [])) }
+        ensures err { OnErr result (begins self.old self.new (compact_key with_comma key.now)) }
+    {
+        Ok(false)
+    }
 
     ghost laws: { Continues appends begins };
 }
@@ -55,10 +75,6 @@ impl Output for Vec<u8> {
     #[inline(always)]
     fn put(&mut self, bytes: &[u8]) -> Result<(), AllocError> {
         self.extend_from_slice(bytes)
-    }
-
-    fn put_plain(&mut self, _text: &[u8]) -> Result<bool, AllocError> {
-        Ok(false)
     }
 }
 
@@ -82,9 +98,5 @@ impl<W: Sink> Output for W {
             }
         }
         Ok(())
-    }
-
-    fn put_plain(&mut self, _text: &[u8]) -> Result<bool, WriteFault> {
-        Ok(false)
     }
 }

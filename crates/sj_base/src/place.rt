@@ -1,7 +1,9 @@
 //! Storing bytes at a place of a slice in copies of a fixed size, which are a load and a store.
 //!
-//! Each copy is tested for bytes that need an escape in the same go. A text is copies that overlap, or one.
+//! Each copy is tested for bytes that need an escape in the same go. A text is stored by copies that overlap, or by one.
 ghost use Rattle.std.specs.Prelude.{◌≡◌, ◌+◌, ◌≤◌, ◌<◌, ◌++◌, [], ◌∷◌, length, take, slice_range, IsTrue, flat_map};
+ghost use Rattle.std.specs.Int.{from_bool};
+ghost use Rattle.sj_base.specs.Layout.{compact_key};
 ghost use Rattle.sj_base.specs.Text.{escaped, quoted};
 ghost use Rattle.sj_base.specs.inside.Plain.{IsPlain};
 
@@ -20,6 +22,23 @@ pub(crate) fn place_quoted(buf: &mut [u8], at: usize, text: &[u8]) -> bool
     buf[at] = b'"';
     let plain = place_text(buf, at + 1, text);
     buf[end] = b'"';
+    plain
+}
+
+// Stores the key between quotes, with a comma before it if `with_comma` and a colon behind it, and returns whether it is
+// known that no byte of it needs an escape. A comma that isn't wanted is overwritten.
+#[inline(always)]
+pub(crate) fn place_plain_key(buf: &mut [u8], at: usize, with_comma: bool, key: &[u8]) -> bool
+    requires { at + (length key.now + 4) ≤ length buf.old }
+    ensures kept { take at buf.new ≡ take at buf.old }
+    ensures len { length buf.new ≡ length buf.old }
+    ensures key { IsTrue result
+        → take (at + (from_bool with_comma + (length key.now + 3))) buf.new ≡ take at buf.old ++ compact_key with_comma key.now }
+{
+    buf[at] = b',';
+    let start = at + usize::from(with_comma);
+    let plain = place_quoted(buf, start, key);
+    buf[start + key.len() + 2] = b':';
     plain
 }
 

@@ -38,10 +38,6 @@ impl<W: fmt::Write> Output for FormatterOutput<'_, W> {
             Err(_) => Err(AllocError),
         }
     }
-
-    fn put_plain(&mut self, _text: &[u8]) -> Result<bool, AllocError> {
-        Ok(false)
-    }
 }
 
 impl<W: fmt::Write> Refuses for FormatterOutput<'_, W> {
