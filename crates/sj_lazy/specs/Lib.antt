@@ -5,4 +5,5 @@ pub mod ByName
 pub mod Upgrade
 pub mod Copies
 pub mod Lends
+pub mod Examples
 pub mod inside

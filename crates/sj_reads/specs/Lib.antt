@@ -1,3 +1,4 @@
 pub mod Reads
 pub mod Views
 pub mod Member
+pub mod Examples

@@ -1,6 +1,6 @@
 //! Of `sj_owned` and `sj_values`: documents that are read from bytes, with ample memory.
 use super::{borrowed_of, expect_eq, expect_made, expect_that, is_borrowed_text, owned_of};
-use sj_base::{DecimalCow, ErrorType, ValueType};
+use sj_base::{DecimalBuf, DecimalCow, ErrorType, ValueType};
 use sj_owned::{
     OwnedDeserializer, OwnedValue, Value, deserialize, deserialize_with_buffers,
     to_owned_value_with_buffers,
@@ -23,6 +23,16 @@ fn read_by_their_own_buffers(rt: HostRuntime) {
     let mut text = *br#"{"some": ["key", "value", 2]}"#;
     let value = borrowed_of(&rt, alloc, &mut text);
     expect_made(&rt, alloc, value, r#"{"some":["key","value",2]}"#);
+}
+
+// As neither an owned nor a borrowed document: its texts may be borrowed, and its literals are owned.
+#[test]
+fn read_with_owned_literals(rt: HostRuntime) {
+    let alloc = rt.alloc();
+    let mut text = *br#"{"a":["x",1.50],"b":null,"a":2}"#;
+    let value = deserialize::<Value<CowStr<'_>, DecimalBuf>, CowStr<'_>>(alloc, &mut text);
+    let document = r#"{"a":["x",1.50],"b":null}"#;
+    expect_made(&rt, alloc, value.expect(&rt, "a document"), document);
 }
 
 fn expect_owned(rt: &impl Abort, alloc: Global, buffers: &mut Buffers) {
