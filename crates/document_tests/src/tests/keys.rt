@@ -224,13 +224,15 @@ fn expect_new(rt: &impl Abort, alloc: Global, document: &mut OwnedValue) {
     expect_that(rt, "another new member", is_nothing(old));
 }
 
-// Replaces the first of them twice.
+// Replaces the first of them twice, and inserts a third one into the object itself.
 fn expect_replaced(rt: &impl Abort, alloc: Global, document: &mut OwnedValue) {
     let old = insert(rt, alloc, document, "b", OwnedValue::from(2u8));
     expect_eq(rt, number_in(old), Some(1));
     let members = document.as_object_mut().expect(rt, "an object");
     let old = KnownKey::from("b").map_insert(alloc, members, OwnedValue::from(3u8));
     expect_eq(rt, number_in(old.expect(rt, "memory")), Some(2));
+    let old = KnownKey::from("c").map_insert(alloc, members, OwnedValue::from(4u8));
+    expect_that(rt, "a third member", is_nothing(old.expect(rt, "memory")));
 }
 
 #[test]
@@ -238,7 +240,7 @@ fn inserted_members(rt: HostRuntime) {
     let mut document = OwnedValue::object(rt.alloc());
     expect_new(&rt, rt.alloc(), &mut document);
     expect_replaced(&rt, rt.alloc(), &mut document);
-    expect_made(&rt, rt.alloc(), document, r#"{"b":3,"a":null}"#);
+    expect_made(&rt, rt.alloc(), document, r#"{"b":3,"a":null,"c":4}"#);
 }
 
 #[test]
