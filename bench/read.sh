@@ -12,6 +12,7 @@
 #     LEVELS="x86-64-v2 x86-64-v3"    the levels
 #     FILES="twitter citm_catalog canada logs tweets"    the files, by their names without endings
 #     CORE=N            keeps all runs on this core
+#     BEFORE=FOLDER     a checkout of an earlier commit, whose `read_bench` stands beside this one with `tape` and `print`
 #     WORK=FOLDER       where the programs stay; if not set, they are removed at the end
 set -eu
 
@@ -28,11 +29,16 @@ else
     work=$(mktemp -d)
     trap 'rm -rf "$work"' EXIT
 fi
+before=${BEFORE:+$(cd "$BEFORE" && pwd)}
 on_core=()
 if [ -n "${CORE:-}" ]; then on_core=(taskset -c "$CORE"); fi
 
 build_read_bench() { # build_read_bench LEVEL
     cd "$top/crates/read_bench" && rt run --cpu="$1" -- --help && cp out/read_bench "$work/read_bench-$1"
+}
+
+build_before() { # build_before LEVEL
+    cd "$before/crates/read_bench" && rt run --cpu="$1" -- --help && cp out/read_bench "$work/before-$1"
 }
 
 # A repository of its own, in which the peers are the only crate.
@@ -62,6 +68,7 @@ build() { # build FILE COMMAND..
 # The rows of the tables, each as PROGRAM KIND. Of simdjson there is one with its kernel for AVX2, named haswell, and one
 # with the kernel that it chooses.
 rows=("read_bench tape" "read_bench plain" "json tape" "simdjson-haswell tape" "simdjson tape" "read_bench owned" "read_bench borrowed" "serde_json value" "read_bench scan" "read_bench print" "simdjson-haswell print" "simdjson print")
+if [ -n "$before" ]; then rows+=("before tape" "before print"); fi
 
 # Prints a contestant as PROGRAM KIND: a program that is built for each level has the level in its name.
 at_level() { # at_level LEVEL PROGRAM KIND
@@ -140,6 +147,7 @@ build simdjson build_simdjson
 for level in "${levels[@]}"; do
     build "read_bench-$level" build_read_bench "$level"
     build "json-$level" build_json "$level"
+    if [ -n "$before" ]; then build "before-$level" build_before "$level"; fi
 done
 
 mapfile -t contestants < <(for level in "${levels[@]}"; do
