@@ -33,12 +33,8 @@ before=${BEFORE:+$(cd "$BEFORE" && pwd)}
 on_core=()
 if [ -n "${CORE:-}" ]; then on_core=(taskset -c "$CORE"); fi
 
-build_read_bench() { # build_read_bench LEVEL
-    cd "$top/crates/read_bench" && rt run --cpu="$1" -- --help && cp out/read_bench "$work/read_bench-$1"
-}
-
-build_before() { # build_before LEVEL
-    cd "$before/crates/read_bench" && rt run --cpu="$1" -- --help && cp out/read_bench "$work/before-$1"
+build_read_bench() { # build_read_bench CHECKOUT PROGRAM LEVEL
+    cd "$1/crates/read_bench" && rt run --cpu="$3" -- --help && cp out/read_bench "$work/$2-$3"
 }
 
 # A repository of its own, in which the peers are the only crate.
@@ -145,9 +141,9 @@ for name in "${names[@]}"; do
 done
 build simdjson build_simdjson
 for level in "${levels[@]}"; do
-    build "read_bench-$level" build_read_bench "$level"
+    build "read_bench-$level" build_read_bench "$top" read_bench "$level"
     build "json-$level" build_json "$level"
-    if [ -n "$before" ]; then build "before-$level" build_before "$level"; fi
+    if [ -n "$before" ]; then build "before-$level" build_read_bench "$before" before "$level"; fi
 done
 
 mapfile -t contestants < <(for level in "${levels[@]}"; do
