@@ -1,13 +1,13 @@
 //! What a pass does with the documents.
 ghost use Rattle.std.specs.Prelude.{◌≡◌, ◌++◌, ℕ, IfOk, OnOk, flat_map};
+ghost use Rattle.sj_base.specs.Buffer.{buffer_text};
 ghost use Rattle.sj_base.specs.declared.TheConstants.{DEFAULT_MAX_DEPTH};
-ghost use Rattle.sj_base.specs.Output.{AppendsOrLeaves};
 ghost use Rattle.sj_parse.specs.Answers.{buffer_limit};
 ghost use Rattle.read_bench.specs.Printed.{text_of};
 ghost use Rattle.read_bench.specs.Refused.{is_refused, is_refused_by_scan, tapes_refused, scans_refused};
 
 use crate::build::{Form, build_in};
-use sj_base::ErrorType;
+use sj_base::{ErrorType, TextBuffer};
 use sj_parse::{Buffers, fill_tape_by};
 use sj_scan::{BlockScan, ScanFault, Stage1};
 use sj_tape::Tape;
@@ -118,12 +118,12 @@ impl Pass for ScanPass {
     }
 }
 
-/// Prints the tape of each document that isn't refused, without whitespace, into one vector, whose room is kept.
+/// Prints the tape of each document that isn't refused, without whitespace, into one buffer, whose room is kept.
 #[derive(Drop)]
 pub(crate) struct PrintPass<'t> {
     tapes: Vec<Tape<'t>>,
     refused: usize,
-    out: Vec<u8>,
+    out: TextBuffer,
 }
 
 impl<'t> PrintPass<'t> {
@@ -147,7 +147,7 @@ impl<'t> PrintPass<'t> {
             }
             rest = others;
         }
-        let out = Vec::new(alloc);
+        let out = TextBuffer::new(Vec::new(alloc));
         Ok(PrintPass {
             tapes,
             refused,
@@ -252,8 +252,8 @@ fn is_refused_by_scan(document: &[u8], positions: &mut Vec<u32>) -> Result<bool,
 }
 
 /// Appends the compact text of each tape.
-fn print_all(tapes: &[Tape<'_>], out: &mut Vec<u8>) -> Result<(), AllocError>
-    ensures { OnOk result (out.new.items ≡ out.old.items ++ flat_map text_of tapes.now) }
+fn print_all(tapes: &[Tape<'_>], out: &mut TextBuffer) -> Result<(), AllocError>
+    ensures { OnOk result (buffer_text out.new ≡ buffer_text out.old ++ flat_map text_of tapes.now) }
 {
     for tape in tapes {
         print(tape, out)?;
@@ -262,11 +262,11 @@ fn print_all(tapes: &[Tape<'_>], out: &mut Vec<u8>) -> Result<(), AllocError>
 }
 
 /// Appends the compact text of the tape's document, if it has one.
-fn print(tape: &Tape<'_>, out: &mut Vec<u8>) -> Result<(), AllocError>
-    ensures { AppendsOrLeaves result out.old.items out.new.items (text_of tape.now) }
+fn print(tape: &Tape<'_>, out: &mut TextBuffer) -> Result<(), AllocError>
+    ensures { OnOk result (buffer_text out.new ≡ buffer_text out.old ++ text_of tape.now) }
 {
     if tape.is_empty() {
         return Ok(());
     }
-    tape.as_value().encode(out)
+    tape.as_value().print(out)
 }

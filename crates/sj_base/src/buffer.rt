@@ -1,5 +1,5 @@
 //! A vector of bytes as an output that is faster than the vector itself.
-ghost use Rattle.std.specs.Prelude.{◌≡◌, ◌+◌, ◌≤◌, ◌<◌, ◌++◌, ℕ, List, length, OnOk};
+ghost use Rattle.std.specs.Prelude.{◌≡◌, ◌+◌, ◌≤◌, ◌<◌, ◌++◌, ℕ, List, [], length, OnOk};
 ghost use Rattle.sj_base.specs.inside.OutputLaws.{lists_continue};
 
 use crate::output::Output;
@@ -13,6 +13,8 @@ const LAST_STEP: usize = 4096;
 static ZEROS: [u8; LAST_STEP] = [0; LAST_STEP];
 
 /// A text that is printed, in a vector whose room is initialized ahead, so that a piece is stored by a test and a copy.
+///
+/// A buffer that is kept prints many texts, one after the other, and has its room initialized once.
 #[derive(Drop)]
 pub struct TextBuffer {
     bytes: Vec<u8>,
@@ -36,6 +38,20 @@ impl TextBuffer {
             len,
             step: FIRST_STEP,
         }
+    }
+
+    /// Returns the text.
+    pub fn as_bytes(&self) -> &[u8]
+        ensures { result.now ≡ buffer_text self.now }
+    {
+        &self.bytes[..self.len]
+    }
+
+    /// Empties the text. Its room is kept, and stays initialized.
+    pub fn clear(&mut self)
+        ensures { buffer_text self.new ≡ [] }
+    {
+        self.len = 0;
     }
 
     /// Returns the vector of the text. Takes no memory.
