@@ -1,6 +1,6 @@
 //! Of `sj_parse`: worked reads of tapes, that a tape's room is used again, and that there is memory for what is asked.
 use super::{expect_at, expect_bytes, expect_eq, expect_that, is_there};
-use sj_base::{Error, ErrorType, TryTypeError, ValueType};
+use sj_base::{Error, ErrorType, TextBuffer, TryTypeError, ValueType};
 use sj_parse::{
     Buffers, Deserializer, codepoint_to_utf8, fill_tape, fill_tape_padded, to_tape,
     to_tape_with_buffers,
@@ -42,6 +42,30 @@ fn member_of_a_text(rt: HostRuntime) -> Result<(), Fail> {
     size.encode(&mut out)?;
     assert!(rt; out.as_slice() == b"3044".as_slice());
     Ok(())
+}
+
+// Fails unless this is the compact text of the value, printed into a buffer that has printed other texts.
+fn expect_printed(rt: &impl Abort, buffer: &mut TextBuffer, value: Value<'_, '_>, text: &str) {
+    buffer.clear();
+    value.print(buffer).expect(rt, "memory");
+    expect_eq(rt, buffer.as_bytes(), text.as_bytes());
+}
+
+// A buffer that is kept has nothing of a longer text that was printed before.
+#[test]
+fn texts_in_one_buffer(rt: HostRuntime) {
+    let mut text = *br#"[{"name": "passwd"}, [1, 2]]"#;
+    let tape = to_tape(rt.alloc(), &mut text).expect(&rt, "a tape");
+    let mut buffer = TextBuffer::new(Vec::new(rt.alloc()));
+    expect_printed(
+        &rt,
+        &mut buffer,
+        tape.as_value(),
+        r#"[{"name":"passwd"},[1,2]]"#,
+    );
+    let item = tape.as_value().get_idx(1).expect(&rt, "an item");
+    expect_printed(&rt, &mut buffer, item, "[1,2]");
+    drop((tape, buffer));
 }
 
 fn expect_item(rt: &impl Abort, alloc: Global, array: &Array<'_, '_>, index: usize, text: &str) {
