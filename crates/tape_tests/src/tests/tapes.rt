@@ -1,4 +1,5 @@
-//! Of `sj_parse`: worked reads of tapes, that a tape's room is used again, and that there is memory for what is asked.
+//! Of `sj_parse` and `sj_tape`: worked reads of tapes, that a tape's room is used again, tapes that are printed into one
+//! buffer, and that there is memory for what is asked.
 use super::{expect_at, expect_bytes, expect_eq, expect_that, is_there};
 use sj_base::{Error, ErrorType, TextBuffer, TryTypeError, ValueType};
 use sj_parse::{
