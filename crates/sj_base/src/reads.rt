@@ -2,12 +2,13 @@
 ghost use Rattle.std.specs.Prelude.{◌≡◌, ◌^◌, ◌<◌, [], length, option_map, slice_get};
 
 use crate::trace::Trace;
+use std::fmt::{self, Debug};
 
 /// A slice that is read one item at a time, and whose contracts list the places that were read.
 ///
 /// A function that has a slice by a `&mut Reads` alone reads no item without its place in that list. The list takes no room
 /// at run time.
-#[derive(Debug, Drop)]
+#[derive(Drop)]
 pub struct Reads<'p, T> {
     items: &'p [T],
     places: Trace,
@@ -36,5 +37,12 @@ impl<'p, T> Reads<'p, T> {
         let item = self.items.get(place)?;
         self.places = self.places.then(place);
         Some(item)
+    }
+}
+
+/// No item is shown, since [`Reads::at`] alone gives items.
+impl<T> Debug for Reads<'_, T> {
+    fn fmt<W: fmt::Write>(&self, f: &mut fmt::Formatter<W>) -> fmt::Result {
+        f.debug_struct("Reads").finish_non_exhaustive()
     }
 }

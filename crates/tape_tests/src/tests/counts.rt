@@ -1,5 +1,5 @@
-//! Stage two by itself, behind a scan and the reservation of its room.
-use super::expect_eq;
+//! Stage two by itself, after a scan and the reservation of its room.
+use super::{expect_eq, expect_shown, expect_text};
 use sj_base::Reads;
 use sj_parse::laws::{Frame, descend};
 use sj_parse::{DescentFault, DescentKind};
@@ -40,5 +40,15 @@ fn stage_two_alone(rt: HostRuntime) {
         index: 3,
         byte: b'[',
     };
+    expect_shown(&rt, rt.alloc(), &too_deep, "DescentFault");
     count_nodes(&rt, rt.alloc(), &mut text, 1, Err(too_deep));
+}
+
+// Neither an item nor a place.
+#[test]
+fn reads_show_nothing(rt: HostRuntime) {
+    let mut reads = Reads::new(&[7u32]);
+    reads.at(0);
+    let text = format!(in rt.alloc(); "{reads:?}").expect(&rt, "memory");
+    expect_text(&rt, text, "Reads { .. }");
 }
