@@ -330,7 +330,7 @@ fn own_found<K: ScriptText<D> + Drop, D: Literal + Drop>(
     ensures { IfOk result (λ owned. option_map owned_tree owned ≡ option_map (value_tree K.text D.literal) found) }
 {
     match found {
-        Some(value) => Ok(Some(K::to_owned(alloc, &value)?)),
+        Some(mut value) => Ok(Some(K::take_owned(alloc, &mut value)?)),
         None => Ok(None),
     }
 }

@@ -35,13 +35,13 @@ pub trait ScriptText<D: Literal>: FromString {
     fn from_owned(alloc: Global, value: OwnedValue) -> Result<Value<Self, D>, AllocError>
         ensures { IfOk result (λ v. value_tree Self.text D.literal v ≡ owned_tree value) };
 
-    /// Copies a value as one that owns its texts.
+    /// Takes a value out, as one that owns its texts. Texts that it owns are moved. Null is left in its place.
     ///
     /// # Errors
     ///
-    /// `AllocError` if there is no memory for the copy.
-    fn to_owned(alloc: Global, value: &Value<Self, D>) -> Result<OwnedValue, AllocError>
-        ensures { IfOk result (λ v. owned_tree v ≡ value_tree Self.text D.literal value.now) };
+    /// `AllocError` if there is no memory for the owned value. The one that was taken is dropped.
+    fn take_owned(alloc: Global, value: &mut Value<Self, D>) -> Result<OwnedValue, AllocError>
+        ensures { IfOk result (λ v. owned_tree v ≡ value_tree Self.text D.literal value.old) };
 }
 
 impl ScriptText<DecimalBuf> for String {
@@ -49,8 +49,8 @@ impl ScriptText<DecimalBuf> for String {
         Ok(value)
     }
 
-    fn to_owned(_alloc: Global, value: &OwnedValue) -> Result<OwnedValue, AllocError> {
-        value.try_clone()
+    fn take_owned(_alloc: Global, value: &mut OwnedValue) -> Result<OwnedValue, AllocError> {
+        Ok(mem::take(value))
     }
 }
 
@@ -62,11 +62,11 @@ impl<'v> ScriptText<DecimalCow<'v>> for CowStr<'v> {
         Value::from_owned(alloc, value)
     }
 
-    fn to_owned(
+    fn take_owned(
         alloc: Global,
-        value: &Value<CowStr<'v>, DecimalCow<'v>>,
+        value: &mut Value<CowStr<'v>, DecimalCow<'v>>,
     ) -> Result<OwnedValue, AllocError> {
-        from_borrowed(alloc, value.try_clone()?)
+        from_borrowed(alloc, mem::take(value))
     }
 }
 
@@ -139,7 +139,7 @@ impl Write<'_> {
     }
 }
 
-/// Returns whether a value of `depth` levels stays within the limit in the place of what the path selects.
+/// Returns `true` if a value of `depth` levels stays within the limit in the place of what the path selects.
 pub(crate) fn is_within(path: &[PathPart], depth: usize, limit: usize) -> bool
     ensures { result ≡ nat_le (length path.now + depth) limit }
 {
@@ -149,7 +149,7 @@ pub(crate) fn is_within(path: &[PathPart], depth: usize, limit: usize) -> bool
     }
 }
 
-/// Returns whether such a value stays within the limit as a member or an item of what the path selects.
+/// Returns `true` if such a value stays within the limit as a member or an item of what the path selects.
 pub(crate) fn is_within_below(path: &[PathPart], depth: usize, limit: usize) -> bool
     ensures { result ≡ nat_le (length path.now + 1 + depth) limit }
 {
@@ -304,7 +304,7 @@ fn change_part<K: ScriptText<D> + Drop, D: Literal + Drop>(
     }
 }
 
-/// Returns whether a value was taken out.
+/// Returns `true` if a value was taken out.
 fn is_taken<T>(taken: &Result<Option<T>, AccessError>) -> bool
     ensures { result ≡ is_taken taken.now }
 {
@@ -355,7 +355,7 @@ fn put_member<K: ScriptText<D> + Drop, D: Literal + Drop>(
     Ok(true)
 }
 
-/// Returns whether a member with this key can be put at a place.
+/// Returns `true` if a member with this key can be put at a place.
 fn takes_member<K: ObjectKey, D: Literal>(
     members: &Object<K, Value<K, D>>,
     place: usize,

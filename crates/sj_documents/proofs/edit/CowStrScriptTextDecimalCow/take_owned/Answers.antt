@@ -1,5 +1,5 @@
 use Rattle.std.proofs.Common.{rules}
-use Rattle.sj_documents.proofs.edit.CowStrScriptTextDecimalCow.to_owned.Goals as goal
+use Rattle.sj_documents.proofs.edit.CowStrScriptTextDecimalCow.take_owned.Goals as goal
 
 pub returns : goal.returns
 returns c = search rules
