@@ -1,11 +1,12 @@
 -- Pairs go into chains, and look-ups find them there.
-use Rattle.std.proofs.Common.{◌≡◌, ◌≢◌, ℕ, zero, suc, ◌-◌, ◌<◌, ◌≤◌, ◌⊎◌, Bool, true, false, List, [], ◌∷◌, ◌++◌, length, set, take, get_or, slice_get, Option, Some, None, refl, sym, subst, ap, ◌∙◌, inl, inr, arith, length-append}
+use Rattle.std.proofs.Common.{◌≡◌, ◌≢◌, ℕ, zero, suc, ◌-◌, ◌<◌, ◌≤◌, ◌⊎◌, Bool, true, false, List, [], ◌∷◌, ◌++◌, ◌+◌, length, map, set, take, drop, get_or, slice_get, Option, Some, None, refl, sym, subst, ap, ap₂, ◌∙◌, inl, inr, arith, length-append}
 use Rattle.std.specs.Borrow.{Bor}
+use Rattle.std.specs.List.{insert, remove}
 use Rattle.std.specs.Slice.{IsGetResult}
 use Rattle.std.specs.Option.{option_copied}
 use Rattle.std.specs.Prelude.{bytes_eq, eqb, ◌&&◌, ◌||◌}
 use Rattle.std.proofs.lemmas.Nat.{mod_below}
-use Rattle.std.proofs.lemmas.List.{length-set}
+use Rattle.std.proofs.lemmas.List.{length-set, length-map, length-take-le, get_or-map, map-append, take-map, drop-map, take_more, take_more_set}
 use Rattle.std.proofs.lemmas.Bool.{ltb-true, cases_Bool, or_left, or_right, and_from, and_parts, false≢true}
 use Rattle.std.proofs.lemmas.Bool.Decides.{eqb_tells}
 use Rattle.std.proofs.lemmas.Slice.Eq.{bytes_eq-Decides}
@@ -15,7 +16,7 @@ use Rattle.sj_object.specs.Pairs.{keys_of, place_of, has_text, AreDistinct}
 use Rattle.sj_object.specs.declared.entry.Entry.{Entry}
 use Rattle.sj_object.specs.declared.table.Link.{Link}
 use Rattle.sj_object.specs.declared.table.Table.{Table}
-use Rattle.sj_object.specs.inside.Chains.{home, head_of, has_hash, next_of, reaches, stands, IsTable, has_key, sought}
+use Rattle.sj_object.specs.inside.Chains.{home, head_of, has_hash, next_of, reaches, stands, AreChained, HaveHashes, IsTable, has_key, sought}
 use Rattle.sj_object.proofs.Places.{at_place, some_same, none_some}
 
 -- ---- one link more
@@ -119,23 +120,82 @@ module _ (heads : List (Option ℕ)) (ls : List Link) (h : ℕ) (some : home (le
       (rw last (same_eqb h))
       (rw (one_more, head-same h refl) (or_left (eqb (length ls) (length ls)) (reaches (length ls) new_links (next_of (slice_get new_links (length ls))) (length ls)) (same_eqb (length ls))))
 
+-- A link that is put to the head of its hash's chain is one of a key more.
+pub chained_put : (heads : List (Option ℕ)) (ls : List Link) (ks : List (List ℕ)) (k : List ℕ) (h : ℕ) → h ≡ text_hash k → AreChained heads ls ks
+    → AreChained (set heads (home (length heads) h) (Some (length ls))) (ls ++ (record { hash = h; next = head_of heads h }) ∷ []) (ks ++ k ∷ [])
+chained_put heads ls ks k h own is =
+    let some = mod_below h (length heads) (ltb-true 0 (length heads) is.0) in
+    let size = length-set heads (home (length heads) h) (Some (length ls)) in (
+      rw size is.0,
+      omega (arith, length-append ls ((record { hash = h; next = head_of heads h }) ∷ []), is.1, length-append ks (k ∷ [])),
+      λ p name e. elim (get-cases ks k p name e) [
+        | inl old ↦ stands-more heads ls h some size (text_hash name) p (is.2 p name old)
+        | inr new ↦
+            let place : p ≡ length ls = omega (arith, new.0, is.1) in
+            rw (place, ← new.1, ← own) (stands-last heads ls h some size)
+      ],
+    )
+
 -- A table has a key more where its hash was put into the table.
 pub table_put : (t u : Table) (ks : List (List ℕ)) (k : List ℕ) (h : ℕ) → h ≡ text_hash k
     → u.heads.items ≡ set t.heads.items (home (length t.heads.items) h) (Some (length t.links.items))
     → u.links.items ≡ t.links.items ++ (record { hash = h; next = head_of t.heads.items h }) ∷ []
     → IsTable t ks → IsTable u (ks ++ k ∷ [])
-table_put t u ks k h own heads links is =
-    let some = mod_below h (length t.heads.items) (ltb-true 0 (length t.heads.items) is.0) in
-    let size = length-set t.heads.items (home (length t.heads.items) h) (Some (length t.links.items)) in (
-      rw (heads, size) is.0,
-      omega (arith, ap length links, length-append t.links.items ((record { hash = h; next = head_of t.heads.items h }) ∷ []), is.1, length-append ks (k ∷ [])),
-      λ p name e. rw (heads, links) (elim (get-cases ks k p name e) [
-        | inl old ↦ stands-more t.heads.items t.links.items h some size (text_hash name) p (is.2 p name old)
-        | inr new ↦
-            let place : p ≡ length t.links.items = omega (arith, new.0, is.1) in
-            rw (place, ← new.1, ← own) (stands-last t.heads.items t.links.items h some size)
-      ]),
-    )
+table_put t u ks k h own heads links is = rw (heads, links) (chained_put t.heads.items t.links.items ks k h own is)
+
+-- ---- the hashes that the links keep
+
+same_of_eqb : (a b : ℕ) → eqb a b ≡ true → a ≡ b
+same_of_eqb a b e = elim (eqb_tells a b) [ inl t ↦ t.1 | inr f ↦ absurd (false≢true (sym f.0 ∙ e)) ]
+
+have_all : (ls : List Link) (ks : List (List ℕ)) → length ls ≡ length ks
+    → ((p : ℕ) (k : List ℕ) → slice_get ks p ≡ Some k → has_hash (slice_get ls p) (text_hash k) ≡ true) → HaveHashes ls ks
+have_all [] [] same each = refl
+have_all [] (k ∷ ks) same each = absurd (false≢true (each 0 k refl))
+have_all (l ∷ ls) [] same each = absurd (omega (arith, same))
+have_all (l ∷ ls) (k ∷ ks) same each = ap₂ (λ x xs. x ∷ xs) (same_of_eqb l.hash (text_hash k) (each 0 k refl)) (have_all ls ks (omega (arith, same)) (λ p. each (suc p)))
+
+-- Chained links have the hashes of their keys.
+pub have_hashes : (heads : List (Option ℕ)) (ls : List Link) (ks : List (List ℕ)) → AreChained heads ls ks → HaveHashes ls ks
+have_hashes heads ls ks is = have_all ls ks is.1 (λ p k e. (and_parts (has_hash (slice_get ls p) (text_hash k)) (reaches (length ls) ls (head_of heads (text_hash k)) p) (is.2 p k e)).0)
+
+module _ {A B : Type 0} (f : A → B) where
+  pub map-remove : (xs : List A) (i : ℕ) → map f (remove xs i) ≡ remove (map f xs) i
+  map-remove xs i = map-append f (take i xs) (drop (suc i) xs) ∙ ap₂ (λ a b. a ++ b) (sym (take-map f i xs)) (sym (drop-map f (suc i) xs))
+
+  pub map-insert : (xs : List A) (i : ℕ) (x : A) → map f (insert xs i x) ≡ insert (map f xs) i (f x)
+  map-insert xs i x = map-append f (take i xs) (x ∷ drop i xs) ∙ ap₂ (λ a b. a ++ f x ∷ b) (sym (take-map f i xs)) (sym (drop-map f i xs))
+
+pub same_length : (ls : List Link) (ks : List (List ℕ)) → HaveHashes ls ks → length ls ≡ length ks
+same_length ls ks have = sym (length-map ls (λ (l : Link). l.hash)) ∙ ap length have ∙ length-map ks text_hash
+
+-- The next link goes to the head of its hash's chain.
+pub chained_next : (heads : List (Option ℕ)) (ls : List Link) (ks : List (List ℕ)) (i : ℕ) (d : Link) → i < length ls → HaveHashes ls ks
+    → AreChained heads (take i ls) (take i ks)
+    → AreChained (set heads (home (length heads) (get_or ls i d).hash) (Some i))
+    (take (i + 1) (set ls i (record { hash = (get_or ls i d).hash; next = head_of heads (get_or ls i d).hash }))) (take (i + 1) ks)
+chained_next heads ls ks i d within have is =
+    let in_keys : i < length ks = omega (arith, within, same_length ls ks have) in
+    let hash = (get_or ls i d).hash in
+    let own : hash ≡ text_hash (get_or ks i []) =
+    sym (get_or-map (λ (l : Link). l.hash) ls i d 0 within) ∙ ap (λ hs. get_or hs i 0) have ∙ get_or-map text_hash ks i [] 0 in_keys in
+    rw (take_more_set ls i (record { hash = hash; next = head_of heads hash }) within, take_more ks i [] in_keys)
+    (subst (λ n. AreChained (set heads (home (length heads) hash) (Some n)) (take i ls ++ (record { hash = hash; next = head_of heads hash }) ∷ []) (take i ks ++ get_or ks i [] ∷ []))
+    (length-take-le i ls (omega (arith, within)))
+    (chained_put heads (take i ls) (take i ks) (get_or ks i []) hash own is))
+
+-- ---- the keys of pairs
+
+module _ {K V : Type 0} (text : K → List ℕ) where
+  keys_of-map : (es : List (Entry K V)) → keys_of text es ≡ map (λ (e : Entry K V). text e.key) es
+  keys_of-map [] = refl
+  keys_of-map (e ∷ es) = ap (λ ks. text e.key ∷ ks) (keys_of-map es)
+
+  pub keys_of-remove : (es : List (Entry K V)) (i : ℕ) → remove (keys_of text es) i ≡ keys_of text (remove es i)
+  keys_of-remove es i = ap (λ ks. remove ks i) (keys_of-map es) ∙ sym (map-remove (λ (e : Entry K V). text e.key) es i) ∙ sym (keys_of-map (remove es i))
+
+  pub keys_of-insert : (es : List (Entry K V)) (i : ℕ) (e : Entry K V) → insert (keys_of text es) i (text e.key) ≡ keys_of text (insert es i e)
+  keys_of-insert es i e = ap (λ ks. insert ks i (text e.key)) (keys_of-map es) ∙ sym (map-insert (λ (e : Entry K V). text e.key) es i e) ∙ sym (keys_of-map (insert es i e))
 
 -- ---- look-ups
 

@@ -15,7 +15,7 @@ use crate::object::Object;
 impl<K: ObjectKey, V> Object<K, V> {
     ghost use Rattle.sj_object.specs.Lends.{lends_value, lends_put};
 
-    /// Returns the value of this key. `hash` has to be the key's [`hash_key`](crate::hash_key).
+    /// Returns the value of this key, or `None` if there is none. `hash` has to be the key's [`hash_key`](crate::hash_key).
     pub fn get_hashed(&self, hash: u64, key: &str) -> Option<&V>
         requires { hash ≡ text_hash key.now }
         ensures { option_copied result ≡ value_at K.text self.now key.now }
@@ -23,7 +23,8 @@ impl<K: ObjectKey, V> Object<K, V> {
         self.value_by(Some(hash), key)
     }
 
-    /// Returns the value of this key for writing. `hash` has to be the key's [`hash_key`](crate::hash_key).
+    /// Returns the value of this key for writing, or `None` if there is none. `hash` has to be the key's
+    /// [`hash_key`](crate::hash_key).
     pub fn get_hashed_mut(&mut self, hash: u64, key: &str) -> Option<&mut V>
         requires { hash ≡ text_hash key.now }
         ensures* writes_back { sem 𝓛 (lends_value K.row V.row K.ObjectKey self.entry key.now result) }

@@ -8,6 +8,7 @@ ghost use Rattle.sj_object.specs.inside.Chains.{IsTable, HasRoomFor};
 ghost use Rattle.sj_object.specs.inside.Stored.{stored, IsFound, IsListed, AreIndexed, HasRoom};
 
 use crate::entry::Entry;
+use crate::hash::hash_key;
 use crate::key::ObjectKey;
 use crate::table::{Table, hash_of};
 use std::alloc::AllocError;
@@ -80,7 +81,7 @@ impl<K: ObjectKey, V> Pairs<K, V> {
         }
     }
 
-    // Makes room for one more pair. The one behind the first `LIST_MAX` needs a table, which is made here.
+    // Makes room for one more pair. The one after the first `LIST_MAX` needs a table, which is made here.
     pub(crate) fn make_room(&mut self) -> Result<(), AllocError>
     where
         K: Drop,
@@ -136,7 +137,7 @@ impl<K: ObjectKey, V> Pairs<K, V> {
         }
     }
 
-    // Takes the pair at a place out. The pairs behind it close up.
+    // Takes the pair at a place out. The pairs after it close up.
     pub(crate) fn remove(&mut self, place: usize) -> Entry<K, V>
         requires within { place < length (stored self.old).items }
         requires found { IsFound K.text self.old }
@@ -152,7 +153,7 @@ impl<K: ObjectKey, V> Pairs<K, V> {
 }
 
 // Puts an item at a place of a vector that has room for it.
-fn insert_reserved<T: Drop>(items: &mut Vec<T>, place: usize, item: T)
+pub(crate) fn insert_reserved<T: Drop>(items: &mut Vec<T>, place: usize, item: T)
     requires within { place ≤ length items.old.items }
     requires room { length items.old.items < vec_capacity items.old }
     ensures items { items.new.items ≡ insert items.old.items place item }
@@ -232,11 +233,11 @@ impl<K: ObjectKey, V> HashedPairs<K, V> {
         ensures pairs { self.new.entries.items ≡ insert self.old.entries.items place entry }
         ensures table { IsTable self.new.table (keys_of K.text self.new.entries.items) }
     {
+        self.table.insert(place, hash_key(entry.key.as_text()));
         insert_reserved(&mut self.entries, place, entry);
-        self.table.fill(&self.entries);
     }
 
-    // Takes the pair at a place out. The pairs behind it close up.
+    // Takes the pair at a place out. The pairs after it close up.
     fn remove(&mut self, place: usize) -> Entry<K, V>
         requires within { place < length self.old.entries.items }
         requires table { IsTable self.old.table (keys_of K.text self.old.entries.items) }
@@ -244,8 +245,7 @@ impl<K: ObjectKey, V> HashedPairs<K, V> {
         ensures pairs { self.new.entries.items ≡ remove self.old.entries.items place }
         ensures table { IsTable self.new.table (keys_of K.text self.new.entries.items) }
     {
-        let entry = self.entries.remove(place);
-        self.table.fill(&self.entries);
-        entry
+        self.table.remove(place);
+        self.entries.remove(place)
     }
 }

@@ -3,15 +3,17 @@
 //! The hash of a key says in which chain its pair stands. A chain begins at its newest pair, and each link leads to the pair that
 //! came before it. Where a pair has the hash that is looked for, the texts of the keys decide. A new pair goes to the head of its
 //! chain, which takes one step however many keys share its hash.
-ghost use Rattle.std.specs.Prelude.{◌≡◌, ◌+◌, ◌<◌, ◌≤◌, [], ◌∷◌, ◌++◌, length, set, true, Some, None, IfSome, IfOk};
+ghost use Rattle.std.specs.Prelude.{◌≡◌, ◌+◌, ◌<◌, ◌≤◌, ℕ, List, [], ◌∷◌, ◌++◌, length, set, true, Some, None, IfSome, IfOk};
+ghost use Rattle.std.specs.List.{insert, remove};
 ghost use Rattle.std.specs.Vec.{vec_capacity};
 ghost use Rattle.sj_object.specs.Hash.{text_hash};
 ghost use Rattle.sj_object.specs.Pairs.{keys_of, place_of, AreDistinct};
-ghost use Rattle.sj_object.specs.inside.Chains.{home, head_of, has_key, sought, IsTable, HasRoomFor};
+ghost use Rattle.sj_object.specs.inside.Chains.{home, head_of, has_key, sought, HaveHashes, IsTable, HasRoomFor};
 
 use crate::entry::Entry;
 use crate::hash::hash_key;
 use crate::key::ObjectKey;
+use crate::pairs::insert_reserved;
 use std::alloc::{AllocError, Global};
 use std::mem;
 
@@ -71,7 +73,8 @@ impl Table {
     // Returns a table without pairs that has room for this many.
     pub(crate) fn with_room(alloc: Global, pairs: usize) -> Result<Table, AllocError>
         requires { 0 < pairs }
-        ensures { IfOk result (HasRoomFor pairs) }
+        ensures empty { IfOk result (λ table. IsTable table []) }
+        ensures room { IfOk result (HasRoomFor pairs) }
     {
         let mut heads = Vec::new(alloc);
         heads.resize(pairs, None)?;
@@ -93,16 +96,48 @@ impl Table {
         Ok(made)
     }
 
-    // Makes the table anew, of these pairs.
-    pub(crate) fn fill<K: ObjectKey, V>(&mut self, entries: &[Entry<K, V>])
-        requires { HasRoomFor (length entries.now) self.old }
+    // Puts all pairs into a table without pairs.
+    fn fill<K: ObjectKey, V>(&mut self, entries: &[Entry<K, V>])
+        requires empty { IsTable self.old [] }
+        requires room { HasRoomFor (length entries.now) self.old }
         ensures table { IsTable self.new (keys_of K.text entries.now) }
         ensures room { vec_capacity self.new.links ≡ vec_capacity self.old.links }
     {
-        self.heads.fill(None);
-        self.links.clear();
         for (place, entry) in entries.iter().enumerate() {
             self.put(hash_key(entry.key.as_text()), place);
+        }
+    }
+
+    // Puts a pair into the table at a place. The places of the pairs after it go up by one.
+    pub(crate) fn insert(&mut self, place: usize, hash: u64)
+        requires within { place ≤ length self.old.links.items }
+        requires room { HasRoomFor (length self.old.links.items + 1) self.old }
+        ensures { (ks : List (List ℕ)) (k : List ℕ) → IsTable self.old ks → hash ≡ text_hash k
+            → IsTable self.new (insert ks place k) }
+    {
+        insert_reserved(&mut self.links, place, Link { hash, next: None });
+        self.relink();
+    }
+
+    // Takes the pair at a place out of the table. The places of the pairs after it go down by one.
+    pub(crate) fn remove(&mut self, place: usize)
+        requires within { place < length self.old.links.items }
+        requires some { 0 < length self.old.heads.items }
+        ensures { (ks : List (List ℕ)) → IsTable self.old ks → IsTable self.new (remove ks place) }
+    {
+        self.links.remove(place);
+        self.relink();
+    }
+
+    // Makes the chains anew, of the hashes that the table keeps.
+    fn relink(&mut self)
+        requires { 0 < length self.old.heads.items }
+        ensures { (ks : List (List ℕ)) → HaveHashes self.old.links.items ks → IsTable self.new ks }
+    {
+        self.heads.fill(None);
+        for place in 0..self.links.len() {
+            let home = self.home(self.links[place].hash);
+            self.links[place].next = mem::replace(&mut self.heads[home], Some(place));
         }
     }
 

@@ -1,5 +1,5 @@
 -- A hash table. The pairs stand in chains: each chain has a head, and each pair has a link.
-use Rattle.std.specs.Prelude.{◌≡◌, ℕ, zero, suc, ◌<◌, ◌≤◌, ◌%◌, Bool, true, false, ◌&&◌, ◌||◌, eqb, ltb, if◌then◌else◌, List, length, Option, Some, None, bytes_eq, get_or, slice_get}
+use Rattle.std.specs.Prelude.{◌≡◌, ℕ, zero, suc, ◌<◌, ◌≤◌, ◌%◌, Bool, true, false, ◌&&◌, ◌||◌, eqb, ltb, if◌then◌else◌, List, length, map, Option, Some, None, bytes_eq, get_or, slice_get}
 use mathlib.Core.Bool.{Bool-set}
 use native.Mathlib.Nat.{ℕ_set}
 use Rattle.std.specs.Vec.{vec_capacity}
@@ -36,12 +36,20 @@ reaches (suc n) links (Some i) p = eqb i p || reaches n links (next_of (slice_ge
 abbrev pub stands : List (Option ℕ) → List Link → ℕ → ℕ → Bool
 stands heads links h p = has_hash (slice_get links p) h && reaches (length links) links (head_of heads h) p
 
--- A table has a link for each of the keys, and each stands in the chain of its hash.
+-- There is a link for each of the keys, and each stands in the chain of its hash.
+abbrev pub AreChained : List (Option ℕ) → List Link → List (List ℕ) → Type 0
+AreChained heads links ks =
+    (ltb 0 (length heads) ≡ true)
+    × (length links ≡ length ks)
+    × ((p : ℕ) (k : List ℕ) → slice_get ks p ≡ Some k → stands heads links (text_hash k) p ≡ true)
+
+-- the links have the hashes of the keys
+abbrev pub HaveHashes : List Link → List (List ℕ) → Type 0
+HaveHashes links ks = map (λ (l : Link). l.hash) links ≡ map text_hash ks
+
+-- a table of the keys
 abbrev pub IsTable : Table → List (List ℕ) → Type 0
-IsTable t ks =
-    (ltb 0 (length t.heads.items) ≡ true)
-    × (length t.links.items ≡ length ks)
-    × ((p : ℕ) (k : List ℕ) → slice_get ks p ≡ Some k → stands t.heads.items t.links.items (text_hash k) p ≡ true)
+IsTable t ks = AreChained t.heads.items t.links.items ks
 
 pub IsTable-prop : (t : Table) (ks : List (List ℕ)) → IsProp (IsTable t ks)
 IsTable-prop t ks = λ x y i. (Bool-set _ _ x.0 y.0 i, ℕ_set _ _ x.1 y.1 i, λ p k e. Bool-set _ _ (x.2 p k e) (y.2 p k e) i)

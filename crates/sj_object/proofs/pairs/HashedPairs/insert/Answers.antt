@@ -1,10 +1,27 @@
-use Rattle.std.proofs.Common.{length, subst, ap, arith}
+use Rattle.std.proofs.Common.{List, subst, ap, sym, ◌∙◌, arith}
+use Rattle.sj_object.specs.Hash.{text_hash}
 use Rattle.sj_object.specs.Pairs.{keys_of}
+use Rattle.sj_object.specs.declared.entry.Entry.{Entry}
 use Rattle.sj_object.specs.inside.Chains.{IsTable}
+use Rattle.sj_object.proofs.Chains.{length-keys_of, keys_of-insert}
 use Rattle.sj_object.proofs.pairs.HashedPairs.insert.Goals as goal
 
-pub fill-requires : goal.fill-requires
-fill-requires g c = (c.requires.table_room.0, omega (arith, ap length c.deref.ensures.value, c.insert_reserved.ensures.len, c.requires.table_room.1))
+pub insert-requires-clause-within : goal.insert-requires-clause-within
+insert-requires-clause-within g c =
+    omega (arith, c.requires.within, c.requires.table.1, length-keys_of g.K.ObjectKey.text c.args.self.now.entries.items)
+
+pub insert-requires-clause-room : goal.insert-requires-clause-room
+insert-requires-clause-room g c = (
+  c.requires.table_room.0,
+  omega (arith, c.requires.table_room.1, c.requires.table.1, length-keys_of g.K.ObjectKey.text c.args.self.now.entries.items),
+)
 
 pub returns-clause-table : goal.returns-clause-table
-returns-clause-table g c = subst (λ l. IsTable c.fill.new.self (keys_of g.K.ObjectKey.text l)) c.deref.ensures.value c.fill.ensures.table
+returns-clause-table g c =
+    let text = g.K.ObjectKey.text in
+    let es = c.args.self.now.entries.items in
+    let entry = c.args.entry in
+    let own = c.hash_key.ensures ∙ ap text_hash c.as_text.ensures in
+    subst (IsTable c.insert.new.self)
+    (keys_of-insert text es c.args.place entry ∙ ap (keys_of text) (sym {A = List (Entry g.row.K.Denot g.row.V.Denot)} c.insert_reserved.ensures.items))
+    (c.insert.ensures (keys_of text es) (text entry.key) c.requires.table own)

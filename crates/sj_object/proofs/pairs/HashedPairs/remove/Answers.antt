@@ -1,11 +1,22 @@
-use Rattle.std.proofs.Common.{length, ap, arith}
+use Rattle.std.proofs.Common.{List, subst, ap, sym, ◌∙◌, length, arith}
 use Rattle.std.proofs.lemmas.Bool.{ltb-true}
-use Rattle.sj_object.proofs.Chains.{length-keys_of}
+use Rattle.sj_object.specs.Pairs.{keys_of}
+use Rattle.sj_object.specs.declared.entry.Entry.{Entry}
+use Rattle.sj_object.specs.inside.Chains.{IsTable}
+use Rattle.sj_object.proofs.Chains.{length-keys_of, keys_of-remove}
 use Rattle.sj_object.proofs.pairs.HashedPairs.remove.Goals as goal
 
-pub fill-requires : goal.fill-requires
-fill-requires g c =
-    let old = c.args.self.now in (
-      ltb-true 0 (length old.table.heads.items) c.requires.table.0,
-      omega (arith, ap length c.deref.ensures.value, c.remove-entry.ensures.len, c.remove-entry.new.self.ok.0, old.entries.ok.0, length-keys_of g.K.ObjectKey.text old.entries.items, c.requires.table.1, old.table.links.ok.0, old.table.links.ok.1),
-    )
+pub remove-requires-clause-within : goal.remove-requires-clause-within
+remove-requires-clause-within g c =
+    omega (arith, c.requires.within, c.requires.table.1, length-keys_of g.K.ObjectKey.text c.args.self.now.entries.items)
+
+pub remove-requires-clause-some : goal.remove-requires-clause-some
+remove-requires-clause-some g c = ltb-true 0 (length c.args.self.now.table.heads.items) c.requires.table.0
+
+pub returns-clause-table : goal.returns-clause-table
+returns-clause-table g c =
+    let text = g.K.ObjectKey.text in
+    let es = c.args.self.now.entries.items in
+    subst (IsTable c.remove.new.self)
+    (keys_of-remove text es c.args.place ∙ ap (keys_of text) (sym {A = List (Entry g.row.K.Denot g.row.V.Denot)} c.remove-2.ensures.items))
+    (c.remove.ensures (keys_of text es) c.requires.table)

@@ -1,5 +1,5 @@
-use Rattle.std.proofs.Common.{◌<◌, ◌++◌, ◌∷◌, [], List, length, take, add-one, sym, subst, ap, ◌∙◌, arith}
-use Rattle.std.proofs.lemmas.Bool.{lt-ltb, ltb-true}
+use Rattle.std.proofs.Common.{◌++◌, ◌∷◌, [], List, length, take, add-one, refl, sym, subst, ap, ◌∙◌, arith}
+use Rattle.std.proofs.lemmas.Bool.{ltb-true}
 use Rattle.std.proofs.lemmas.List.{length-take, take_all}
 use Rattle.sj_object.specs.Hash.{text_hash}
 use Rattle.sj_object.specs.Pairs.{keys_of}
@@ -9,10 +9,7 @@ use Rattle.sj_object.proofs.Chains.{table_put, length-keys_of, keys_of-take_more
 use Rattle.sj_object.proofs.table.Table.fill.Goals as goal
 
 pub loop-place-init : goal.loop-place-init
-loop-place-init g c =
-    let heads = c.fill.new.self in
-    let some : 0 < length heads.items = omega (arith, c.fill.ensures.len, c.requires.0) in
-    ((lt-ltb 0 (length heads.items) some, ap length c.clear.ensures.items, λ p k none. absurd cc), c.clear.ensures.capacity)
+loop-place-init g c = (c.requires.empty, refl)
 
 pub put-requires-clause-room : goal.put-requires-clause-room
 put-requires-clause-room g c =
@@ -20,7 +17,7 @@ put-requires-clause-room g c =
     let i = c.loop-place.place in
     let is = c.loop-place.invariant.0 in (
       ltb-true 0 (length c.loop-place.self.heads.items) is.0,
-      omega (arith, is.1, length-keys_of g.K.ObjectKey.text (take i es), length-take i es, c.loop-place-test.true, c.loop-place.invariant.1, c.requires.1),
+      omega (arith, is.1, length-keys_of g.K.ObjectKey.text (take i es), length-take i es, c.loop-place-test.true, c.loop-place.invariant.1, c.requires.room.1),
     )
 
 pub put-requires-clause-place : goal.put-requires-clause-place
