@@ -1,7 +1,7 @@
 //! Documents of tapes.
 //!
-//! A document is built from the last node of its tape to the first, so that a container finds its parts on a stack. So a
-//! deep text needs no recursion.
+//! A document is built from the last node of its tape to the first. So a container finds its parts on a stack, and a deep text
+//! needs no recursion.
 ghost use Rattle.std.specs.Prelude.{◌≡◌, ◌∷◌, ◌<◌, ◌↔◌, IsSome, IfOk, OnOk, map, take, drop, ◌++◌};
 ghost use Rattle.sj_base.specs.Tree.{Tree, no_members};
 ghost use Rattle.sj_base.specs.Keep.{keep};
@@ -9,7 +9,7 @@ ghost use Rattle.sj_tape.specs.Nodes.{node_entry};
 ghost use Rattle.sj_tape.specs.Views.{tape_nodes, nodes_tree, value_tree as view_tree};
 ghost use Rattle.sj_owned.specs.Trees.{members_of, on_values};
 ghost use Rattle.sj_owned.specs.inside.Building.{part_shown, shown_tree, first_part, stack, place, list_from, object_from, drop_pairs, add_pair};
-ghost use Rattle.sj_owned.specs.inside.Kept.{add_member, has_key, Knows};
+ghost use Rattle.sj_owned.specs.inside.Kept.{add_member, has_key, mark_of, Knows};
 
 use crate::built::BuildValue;
 use sj_base::StaticNode;
@@ -18,7 +18,7 @@ use sj_tape::{Node, Tape, Value as TapeValue};
 use std::alloc::{AllocError, Global};
 use std::collections::BTreeSet;
 
-// What is built of the nodes behind. A text is a string or a key, as the container before it decides.
+// What is built of the nodes after the one that is placed. A text is a string or a key, as the container before it decides.
 #[derive(Drop)]
 enum Part<'de, V> {
     Text(&'de str),
@@ -74,20 +74,45 @@ fn take_list<'de, V: BuildValue<'de, K> + Drop, K: MakeKey<'de> + Drop>(
 // The most members of an object whose keys are looked up in the object itself.
 const FEW_MEMBERS: usize = 1024;
 
-// The keys that were met, where a set lists them.
-type MetKeys<'de> = Option<BTreeSet<&'de str>>;
+// The number of marks.
+const MARKS: usize = 64;
+
+// The keys that were met.
+#[derive(Drop)]
+struct MetKeys<'de> {
+    // For each mark, whether a key has it, where no set lists the keys. A key of a new mark is new.
+    marks: [bool; MARKS],
+    // The keys, where a set lists them.
+    listed: Option<BTreeSet<&'de str>>,
+}
 
 // No keys met yet. An object of more than `FEW_MEMBERS` members has them in a set: keys that share a hash stand in one chain of
 // the object's table, and to look up each of them takes time that grows with the square of their number.
 fn no_keys<'de>(alloc: Global, len: usize) -> MetKeys<'de>
     ensures knows { Knows result no_members }
-    ensures listed { IsSome result ↔ (FEW_MEMBERS < len) }
+    ensures listed { IsSome result.listed ↔ (FEW_MEMBERS < len) }
 {
-    if len > FEW_MEMBERS {
+    let listed = if len > FEW_MEMBERS {
         Some(BTreeSet::new(alloc))
     } else {
         None
+    };
+    MetKeys {
+        marks: [false; MARKS],
+        listed,
     }
+}
+
+// The mark of a key, by its length and its first and its last byte.
+fn mark_of(key: &str) -> usize
+    ensures mark { result ≡ mark_of key.now }
+    ensures within { result < MARKS }
+{
+    let bytes = key.as_bytes();
+    let (Some(first), Some(last)) = (bytes.first(), bytes.last()) else {
+        return 0;
+    };
+    (3 * (bytes.len() % MARKS) + usize::from(*first) + 8 * usize::from(*last)) % MARKS
 }
 
 // Whether a member has the key, which counts as met from now on.
@@ -100,9 +125,14 @@ fn meet<'de, V: BuildValue<'de, K> + Drop, K: MakeKey<'de> + Drop>(
     ensures found { IfOk result (λ found. found ≡ has_key (members_of K.text (on_values V.tree members.now)) key.now) }
     ensures knows { (t : Tree) → OnOk result (Knows met.new (add_member (members_of K.text (on_values V.tree members.now)) key.now t)) }
 {
-    match met {
+    match &mut met.listed {
         Some(keys) => Ok(!keys.insert(key)?),
-        None => Ok(members.contains_key(key)),
+        None => {
+            let mark = mark_of(key);
+            let is_marked = met.marks[mark];
+            met.marks[mark] = true;
+            Ok(is_marked && members.contains_key(key))
+        }
     }
 }
 
@@ -171,7 +201,7 @@ fn take_object<'de, V: BuildValue<'de, K> + Drop, K: MakeKey<'de> + Drop>(
     V::from_object(alloc, members.into_members())
 }
 
-// Makes what is built of a node and of the parts behind it.
+// Makes what is built of a node and of the parts after it.
 #[inline(always)]
 fn next_part<'de, V: BuildValue<'de, K> + Drop, K: MakeKey<'de> + Drop>(
     alloc: Global,
@@ -190,7 +220,7 @@ fn next_part<'de, V: BuildValue<'de, K> + Drop, K: MakeKey<'de> + Drop>(
     }
 }
 
-// Puts what is built of a node on the stack, in the place of the parts behind it.
+// Puts what is built of a node on the stack, in the place of the parts after it.
 #[inline(always)]
 fn place<'de, V: BuildValue<'de, K> + Drop, K: MakeKey<'de> + Drop>(
     alloc: Global,
