@@ -18,6 +18,7 @@ use hostile::nested;
 use runs::Run;
 use sj_base::{Error, ErrorType};
 use sj_records::{CommandFault, Form, RunError, Script, ScriptFault};
+use sj_scripts::MemoryOr;
 use std::alloc::Global;
 use std::fmt::{Debug, Display};
 use std::process::Abort;
@@ -86,7 +87,7 @@ impl Stream {
         }
     }
 
-    // Adds a line behind spaces, and its record.
+    // Adds a line after spaces, and its record.
     fn add(&mut self, rt: &impl Abort, spaces: usize, line: &[u8], record: &str) {
         for _ in 0..spaces {
             self.bytes.push(b' ').expect(rt, "memory");
@@ -219,7 +220,7 @@ fn streams(rt: HostRuntime) {
     }
 }
 
-// Looks for the report of a script's fault, behind what is there.
+// Looks for the report of a script's fault, after what is there.
 fn expect_refused(rt: &impl Abort, alloc: Global, script: &str, text: &str) {
     let fault = script_of(alloc, script).err().expect(rt, "a fault");
     let mut out = Vec::from_slice(alloc, b"is ").expect(rt, "memory");
@@ -287,6 +288,12 @@ fn display_texts(rt: HostRuntime) {
         (RunError::Write, "Write"),
         (RunError::Read, "Read"),
         (RunError::TooManyReads, "TooManyReads"),
+    ] {
+        expect_display(&rt, rt.alloc(), error, text);
+    }
+    for (error, text) in &[
+        (MemoryOr::Memory, "Memory"),
+        (MemoryOr::Refused(CommandFault::NoName), "Refused"),
     ] {
         expect_display(&rt, rt.alloc(), error, text);
     }

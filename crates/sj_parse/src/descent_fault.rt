@@ -7,21 +7,22 @@ use sj_base::{Error, ErrorType};
 /// The kind of a [`DescentFault`]. Lack of memory is none of them.
 #[derive(Clone, Copy, Debug, PartialEq, Eq)]
 pub enum DescentKind {
-    /// A byte that begins no value, or a token behind the root container, whose closing bracket is the byte then.
+    /// A byte that begins no value, or a token after the root container. In the second case the byte is that container's
+    /// closing bracket.
     InternalError,
     /// A container beyond the limit of levels, or a text that is cut short, where the byte is that of its last token.
     Syntax,
-    /// Neither a value nor `]` behind `[`.
+    /// Neither a value nor `]` after `[`.
     ExpectedArrayContent,
-    /// Neither a key nor `}` behind `{`.
+    /// Neither a key nor `}` after `{`.
     ExpectedObjectContent,
-    /// No key behind a comma in an object.
+    /// No key after a comma in an object.
     ExpectedObjectKey,
-    /// No colon behind a key.
+    /// No colon after a key.
     ExpectedObjectColon,
-    /// Neither a comma nor `]` behind an item of an array.
+    /// Neither a comma nor `]` after an item of an array.
     ExpectedArrayComma,
-    /// Neither a comma nor `}` behind a member of an object.
+    /// Neither a comma nor `}` after a member of an object.
     ExpectedMapComma,
     /// A token that begins with `t` and isn't `true`.
     ExpectedTrue,
@@ -31,13 +32,13 @@ pub enum DescentKind {
     ExpectedNull,
     /// A token that begins as a number does, and is none.
     InvalidNumber,
-    /// A backslash with an unknown letter behind it.
+    /// A backslash with an unknown letter after it.
     InvalidEscape,
     /// `\u` without four hexadecimal digits.
     InvalidUnicodeEscape,
     /// A surrogate that isn't part of a pair.
     InvalidUnicodeCodepoint,
-    /// A token behind a root scalar, which is what the byte begins.
+    /// A token after the root scalar. The byte is the first of that scalar.
     TrailingData,
 }
 
@@ -68,7 +69,8 @@ impl DescentKind {
 }
 
 /// The first fault that the descent over the tokens of a text meets: its kind, and the byte that it is about.
-#[derive(Clone, Copy, Debug, PartialEq, Eq)]
+#[derive(Clone, Copy, Debug, PartialEq, Eq, thiserror::Error)]
+#[error("DescentFault")]
 pub struct DescentFault {
     /// What is wrong.
     pub kind: DescentKind,

@@ -7,11 +7,13 @@ use sj_base::{Error, ErrorType};
 use std::alloc::{AllocError, AllocFailed};
 
 /// Why a call gives no value: an allocation failed, or there is the reason `T`.
-#[derive(Debug, Drop)]
+#[derive(Debug, Drop, thiserror::Error)]
 pub enum MemoryOr<T> {
     /// An allocation failed.
+    #[error("Memory")]
     Memory,
     /// What the call was given is refused, for this reason.
+    #[error("Refused")]
     Refused(T),
 }
 
