@@ -11,7 +11,7 @@ use std::alloc::{AllocError, Global};
 /// Up to here a document is cut at each byte.
 const EACH: usize = 300;
 
-/// About how many cuts there are behind these.
+/// About how many cuts there are after these.
 const CUTS: usize = 200;
 
 /// Cuts each document at each of its first 300 bytes and at about 200 further places, and returns at how many cuts the two

@@ -3,7 +3,7 @@ use std::alloc::{AllocError, Global};
 
 /// Cuts the bytes of a file into documents: one if the name ends in `.json`, and else one a line.
 ///
-/// A line feed ends a line, so behind the last one there is none.
+/// A line feed at the end begins no further line.
 pub(crate) fn split(alloc: Global, bytes: Vec<u8>, name: &str) -> Result<Vec<Vec<u8>>, AllocError> {
     if name.ends_with(".json") {
         return Ok(vec![in alloc; bytes]?);

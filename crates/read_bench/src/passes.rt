@@ -136,17 +136,7 @@ impl<'t> PrintPass<'t> {
     {
         let mut buffers = Buffers::new(alloc, 0)?;
         let mut tapes = Vec::new(alloc);
-        let mut refused = 0;
-        let mut rest = documents;
-        while let Some((document, others)) = rest.split_first_mut() {
-            let mut tape = Tape::empty(alloc);
-            if is_refused(&mut BlockScan, document, &mut buffers, &mut tape)? {
-                refused += 1;
-            } else {
-                tapes.push(tape)?;
-            }
-            rest = others;
-        }
+        let refused = read_tapes(alloc, documents, &mut buffers, &mut tapes)?;
         let out = TextBuffer::new(Vec::new(alloc));
         Ok(PrintPass {
             tapes,
@@ -192,6 +182,30 @@ fn read_all<S: Stage1>(
         }
         if let Some(form) = form {
             build_in(alloc, form, &tape)?;
+        }
+        rest = others;
+    }
+    Ok(refused)
+}
+
+/// Appends a tape of each document that isn't refused, and returns how many are refused.
+fn read_tapes<'de>(
+    alloc: Global,
+    documents: &'de mut [Vec<u8>],
+    buffers: &mut Buffers,
+    tapes: &mut Vec<Tape<'de>>,
+) -> Result<usize, AllocError>
+    requires { buffer_limit buffers.old ≡ DEFAULT_MAX_DEPTH }
+    ensures { IfOk result (λ n. n ≡ tapes_refused documents.entry.now) }
+{
+    let mut refused = 0;
+    let mut rest = documents;
+    while let Some((document, others)) = rest.split_first_mut() {
+        let mut tape = Tape::empty(alloc);
+        if is_refused(&mut BlockScan, document, buffers, &mut tape)? {
+            refused += 1;
+        } else {
+            tapes.push(tape)?;
         }
         rest = others;
     }

@@ -41,7 +41,7 @@ pub fn to_tape<'de>(alloc: Global, s: &'de mut [u8]) -> Result<Tape<'de>>
     ensures too_large { longest < length s.entry.now → result ≡ Err (generic ErrorType.InputTooLarge) }
 {
     test_len(s.len())?;
-    let mut buffers = Buffers::new(alloc, s.len()).map_err(no_memory)?;
+    let mut buffers = Buffers::new(alloc, 0).map_err(no_memory)?;
     to_tape_with_buffers(alloc, s, &mut buffers)
 }
 
@@ -137,11 +137,11 @@ pub fn fill_tape_by<'de, S: Stage1>(
 }
 
 /// Reads the first `len` bytes into the given tape as [`fill_tape`] does. At least [`INPUT_PADDING`] bytes, of any
-/// value, stand behind them. Port of `simd_json::fill_tape_padded`.
+/// value, stand after them. Port of `simd_json::fill_tape_padded`.
 ///
 /// # Errors
 ///
-/// `InputTooLarge` if `len` is more than `u32::MAX`, then `InsufficientPadding` if fewer bytes stand behind the first
+/// `InputTooLarge` if `len` is more than `u32::MAX`, then `InsufficientPadding` if fewer bytes stand after the first
 /// `len` ones, or `s` is shorter than that. Nothing is read then: the bytes stay, and the buffers keep their positions.
 ///
 /// Then those of [`fill_tape`] for the first `len` bytes, which leave these bytes and the buffers as they do there.
@@ -260,7 +260,7 @@ fn test_len(len: usize) -> Result<()>
     Ok(())
 }
 
-/// Tests the length of a text, and then that there is padding behind it.
+/// Tests the length of a text, and then that there is padding after it.
 fn test_padding(s: &[u8], len: usize) -> Result<()>
     ensures ok { OnOk result ((len ≤ longest) × (len + padding ≤ length s.now)) }
     ensures err { IfErr result (λ e. ((longest < len) ⊎ (length s.now < len + padding)) × ((limit : ℕ) → padded_fault s.now len limit ≡ Some e)) }
