@@ -11,10 +11,10 @@
 # `tests`: those of the tests below that look at what stands after a refusal run with each of their requests refused. They may fail
 # for the want of memory, but not by an assertion.
 #
-# Without a word it does both. It needs gcc, glibc and Python 3. What is missing of the program and the tests is made by `rt run` and
-# `rt test`. Settings are taken from the environment:
+# Without a word it does both. It needs gcc, glibc and Python 3. The program and the tests are made by `rt run` and `rt test`, which
+# prove them first. Settings are taken from the environment:
 #
-#     RECORDS=FILE     the program
+#     RECORDS=FILE     the program; if not set, `rt run` makes it
 set -eu
 
 top=$(cd "$(dirname "$0")/.." && pwd)
@@ -22,13 +22,16 @@ work=$(mktemp -d)
 trap 'rm -rf "$work"' EXIT
 gcc -O1 -shared -fPIC -o "$work/refuse.so" "$top/oracle/refuse.c"
 
-make_it() { # make_it CRATE FILE COMMAND..
-    local crate=$1 file=$2
-    shift 2
-    if [ ! -x "$file" ] && ! (cd "$top/crates/$crate" && "$@" > "$work/log" 2>&1); then
-        echo "$file can't be made: $(tail -n 1 "$work/log")" >&2
+declare -A is_made
+
+make_it() { # make_it CRATE COMMAND..: once in a run
+    local crate=$1
+    shift
+    if [ -z "${is_made[$crate]:-}" ] && ! (cd "$top/crates/$crate" && "$@" > "$work/log" 2>&1 < /dev/null); then
+        echo "$crate can't be made: $(tail -n 1 "$work/log")" >&2
         exit 1
     fi
+    is_made[$crate]=yes
 }
 
 fail() { # fail WHAT
@@ -44,7 +47,7 @@ run() { # run: the program with the request refused
 
 refuse_to_program() {
     program=${RECORDS:-$top/crates/records_cli/out/records_cli}
-    make_it records_cli "$program" rt run
+    if [ -z "${RECORDS:-}" ]; then make_it records_cli rt run -- --help; fi
     # The third line has forty keys of one hash.
     python3 - > "$work/lines.jsonl" << 'END'
 print('{"key": "value", "snot": 42}')
@@ -90,7 +93,7 @@ refuse_to_tests() {
     while read -r crate test; do
         of="$crate, $test"
         tests=$top/crates/$crate/out/${crate}_tests
-        make_it "$crate" "$tests" rt test
+        make_it "$crate" rt test
         REFUSE_MADE="$work/made" LD_PRELOAD="$work/refuse.so" "$tests" "$test" > "$work/out" 2>&1 || fail "$(cat "$work/out")"
         made=$(cat "$work/made")
         for ((number = 1; number <= made; number++)); do
