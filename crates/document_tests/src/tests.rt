@@ -1,7 +1,7 @@
 //! Documents: read, edited, copied, converted, compared and shown; known keys; and lazy values.
 //!
-//! What a test owns is handed to `drop`, which is proved once. A value that goes out of scope has to be proved let go in each form
-//! of it, at each place where the function returns.
+//! What a test owns is handed to `drop`, which is proved once. Of a value that goes out of scope each form is proved to be
+//! dropped, at each place where the function returns.
 mod copies;
 mod depths;
 mod keys;
@@ -56,12 +56,12 @@ fn number_in<T: ValueAsScalar + Drop>(value: Option<T>) -> Option<u64> {
     value?.as_u64()
 }
 
-// Whether a value equals another one, which is let go.
+// Whether a value equals another one, which is dropped.
 fn is_equal<T: PartialEq + Drop>(value: &T, other: T) -> bool {
     *value == other
 }
 
-// Puts a value in the place of another one, which is let go.
+// Puts a value in the place of another one, which is dropped.
 fn overwrite<T: Drop>(old: &mut T, value: T) {
     *old = value;
 }

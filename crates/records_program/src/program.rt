@@ -22,6 +22,7 @@ use std::io::{Read, Write};
 use std::marker::Brand;
 
 /// Does what the words ask for: runs the script that `load` returns for the name of its file on the input, or writes the help.
+/// `load` has to return for every name, as a function without `requires` does.
 ///
 /// Returns the exit status: 0 if that was done, 1 if memory, the input or the output failed, and 2 if the arguments or the
 /// script are refused. The line of a fault is written to `faults`.

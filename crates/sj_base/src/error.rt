@@ -12,13 +12,13 @@ pub enum ErrorType {
     Unexpected,
     /// An input longer than `u32::MAX` bytes.
     InputTooLarge,
-    /// A padded input with fewer than 64 bytes behind its text.
+    /// A padded input with fewer than 64 bytes after its text.
     InsufficientPadding,
     /// Kept from `simd_json`; no call answers it.
     BadKeyType,
     /// Kept from `simd_json`; no call answers it.
     ExpectedArray,
-    /// Neither a comma nor `]` behind an item of an array.
+    /// Neither a comma nor `]` after an item of an array.
     ExpectedArrayComma,
     /// Kept from `simd_json`; no call answers it.
     ExpectedBoolean,
@@ -30,9 +30,9 @@ pub enum ErrorType {
     ExpectedInteger,
     /// Kept from `simd_json`; no call answers it.
     ExpectedMap,
-    /// No colon behind a key.
+    /// No colon after a key.
     ExpectedObjectColon,
-    /// Neither a comma nor `}` behind a member of an object.
+    /// Neither a comma nor `}` after a member of an object.
     ExpectedMapComma,
     /// Kept from `simd_json`; no call answers it.
     ExpectedMapEnd,
@@ -50,9 +50,9 @@ pub enum ErrorType {
     ExpectedString,
     /// Kept from `simd_json`; no call answers it.
     ExpectedUnsigned,
-    /// A byte that begins no value, or a token behind the root container.
+    /// A byte that begins no value, or a token after the root container.
     InternalError,
-    /// A backslash with an unknown letter behind it.
+    /// A backslash with an unknown letter after it.
     InvalidEscape,
     /// Kept from `simd_json`; no call answers it.
     InvalidExponent,
@@ -76,17 +76,17 @@ pub enum ErrorType {
     Serde,
     /// An unclosed string, a control character in a string, an input that ends too early, or too deep nesting.
     Syntax,
-    /// A token behind a root scalar.
+    /// A token after a root scalar.
     TrailingData,
     /// Kept from `simd_json`; no call answers it.
     UnexpectedCharacter,
     /// Kept from `simd_json`; no call answers it.
     UnterminatedString,
-    /// Neither a value nor `]` behind `[`.
+    /// Neither a value nor `]` after `[`.
     ExpectedArrayContent,
-    /// Neither a key nor `}` behind `{`.
+    /// Neither a key nor `}` after `{`.
     ExpectedObjectContent,
-    /// No key behind a comma in an object.
+    /// No key after a comma in an object.
     ExpectedObjectKey,
     /// An allocation that failed.
     OutOfMemory,
@@ -143,7 +143,7 @@ impl ErrorType {
     }
 }
 
-/// An error of reading: its kind, and the byte of the input that it is about (`simd_json::Error`).
+/// An error of reading: its kind, and the byte of the input that it is about. Port of `simd_json::Error`.
 #[derive(Clone, Copy, Debug, PartialEq, Eq)]
 pub struct Error {
     error: ErrorType,
@@ -152,7 +152,7 @@ pub struct Error {
 }
 
 impl Error {
-    /// Creates an error that is about no byte: its index is 0, and it has no character (`simd_json::Error::generic`).
+    /// Creates an error that is about no byte: its index is 0, and it has no character. Port of `simd_json::Error::generic`.
     pub fn generic(error: ErrorType) -> Error
         ensures { result ≡ record { error = error; index = 0; character = None } }
     {
@@ -177,35 +177,35 @@ impl Error {
         }
     }
 
-    /// Returns the index of the byte in the input, in bytes from 0 (`simd_json::Error::index`).
+    /// Returns the index of the byte in the input, in bytes from 0. Port of `simd_json::Error::index`.
     pub fn index(&self) -> usize
         ensures { result ≡ self.now.index }
     {
         self.index
     }
 
-    /// Returns the byte as a character, or `None` if the error is about no byte (`simd_json::Error::character`).
+    /// Returns the byte as a character, or `None` if the error is about no byte. Port of `simd_json::Error::character`.
     pub fn character(&self) -> Option<char>
         ensures { result ≡ self.now.character }
     {
         self.character
     }
 
-    /// Returns the kind of the error (`simd_json::Error::error`).
+    /// Returns the kind of the error. Port of `simd_json::Error::error`.
     pub fn error(&self) -> ErrorType
         ensures { result ≡ self.now.error }
     {
         self.error
     }
 
-    /// Returns whether a read or a write failed (`simd_json::Error::is_io`). There is no such kind, so it is `false`.
+    /// Returns `true` if a read or a write failed. Port of `simd_json::Error::is_io`. There is no such kind, so it is `false`.
     pub fn is_io(&self) -> bool
         ensures { IsTrue result ↔ (class_of self.now.error ≡ io_class) }
     {
         false
     }
 
-    /// Returns whether the input has no token (`simd_json::Error::is_eof`).
+    /// Returns `true` if the input has no token. Port of `simd_json::Error::is_eof`.
     pub fn is_eof(&self) -> bool
         ensures { IsTrue result ↔ (class_of self.now.error ≡ eof_class) }
     {
@@ -213,7 +213,7 @@ impl Error {
         *error == ErrorType::Eof
     }
 
-    /// Returns whether the input is no JSON text, or nests deeper than the limit (`simd_json::Error::is_syntax`).
+    /// Returns `true` if the input is no JSON text, or nests deeper than the limit. Port of `simd_json::Error::is_syntax`.
     pub fn is_syntax(&self) -> bool
         ensures { IsTrue result ↔ (class_of self.now.error ≡ syntax_class) }
     {
@@ -240,7 +240,7 @@ impl Error {
         )
     }
 
-    /// Returns whether the error is none of the other three classes, as `OutOfMemory` (`simd_json::Error::is_data`).
+    /// Returns `true` if the error is none of the other three classes, as `OutOfMemory`. Port of `simd_json::Error::is_data`.
     pub fn is_data(&self) -> bool
         ensures class { IsTrue result ↔ (class_of self.now.error ≡ data_class) }
         // Each error is in exactly one of the four classes.

@@ -2,7 +2,7 @@
 use crate::static_node::ValueType;
 use thiserror::Error;
 
-/// A read that asked for another type than the value has (`value_trait::TryTypeError`).
+/// A read that asked for another type than the value has. Port of `value_trait::TryTypeError`.
 #[derive(Clone, Copy, Debug, PartialEq, Eq, Error)]
 #[error("TryTypeError")]
 pub struct TryTypeError {
@@ -12,7 +12,7 @@ pub struct TryTypeError {
     pub got: ValueType,
 }
 
-/// A change that was refused (`value_trait::AccessError`).
+/// A change that was refused. Port of `value_trait::AccessError`.
 #[derive(Clone, Copy, Debug, PartialEq, Eq, Error)]
 pub enum AccessError {
     /// The value isn't an object.

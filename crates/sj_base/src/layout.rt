@@ -29,11 +29,11 @@ pub enum Layout {
 }
 
 impl Layout {
-    /// Prints the opening bracket of a list.
+    /// Prints the opening bracket of a list. The level has to be below `usize::MAX`, as that of [`Layout::Compact`] is.
     ///
     /// # Errors
     ///
-    /// The fault of the output.
+    /// The fault of the output. Nothing is printed then.
     #[inline(always)]
     pub fn open_list<O: Output>(self, out: &mut O) -> Result<Container, O::Fault>
         requires { level_of self + 1 < 2 ^ 64 }
@@ -49,11 +49,11 @@ impl Layout {
         })
     }
 
-    /// Prints the opening bracket of an object.
+    /// Prints the opening bracket of an object. The level has to be below `usize::MAX`, as for [`Layout::open_list`].
     ///
     /// # Errors
     ///
-    /// The fault of the output.
+    /// The fault of the output. Nothing is printed then.
     #[inline(always)]
     pub fn open_object<O: Output>(self, out: &mut O) -> Result<Container, O::Fault>
         requires { level_of self + 1 < 2 ^ 64 }
@@ -127,7 +127,7 @@ impl Container {
         self.inside
     }
 
-    /// Prints what stands before the next item of a list: the comma behind an earlier item, and the start of its line.
+    /// Prints what stands before the next item of a list: the comma after an earlier item, and the start of its line.
     ///
     /// # Errors
     ///
@@ -143,7 +143,7 @@ impl Container {
         self.inside.print_line_start(out)
     }
 
-    /// Prints what stands before the value of an object's next member: the comma behind an earlier member, the start of
+    /// Prints what stands before the value of an object's next member: the comma after an earlier member, the start of
     /// the line, the key and the colon.
     ///
     /// # Errors

@@ -39,5 +39,5 @@ pub use try_copy::TryCopy;
 /// The limit of nesting, in levels, of calls that aren't given one. A scalar has level 0.
 pub const DEFAULT_MAX_DEPTH: usize = 1024;
 
-/// The number of bytes that must follow the text in a padded input (`simd_json::SIMDJSON_PADDING`).
+/// The number of bytes that must follow the text in a padded input. Port of `simd_json::SIMDJSON_PADDING`.
 pub const INPUT_PADDING: usize = 64;

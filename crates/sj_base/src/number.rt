@@ -13,7 +13,7 @@ pub(crate) fn is_decimal(bytes: &[u8]) -> bool
     is_whole(digits) && is_kept_by(is_negative, digits, behind)
 }
 
-/// Whether a number is kept as text, by what stands behind its digits.
+/// Whether a number is kept as text, by what stands after its digits.
 fn is_kept_by(is_negative: bool, digits: &[u8], behind: &[u8]) -> bool
     requires { is_whole digits.now ≡ true }
     ensures { result ≡ is_kept_by is_negative digits.now behind.now }
@@ -36,7 +36,7 @@ fn is_in_range(is_negative: bool, digits: &[u8]) -> bool
     }
 }
 
-/// Whether a minus stands in front, and the bytes behind it.
+/// Whether a minus stands in front, and the bytes after it.
 #[inline(always)]
 fn split_minus(bytes: &[u8]) -> (bool, &[u8])
     ensures negative { result.0 ≡ is_negative bytes.now }
@@ -48,7 +48,7 @@ fn split_minus(bytes: &[u8]) -> (bool, &[u8])
     }
 }
 
-/// The bytes behind a plus or a minus, or all if there is none.
+/// The bytes after a plus or a minus, or all if there is none.
 #[inline(always)]
 fn unsigned(bytes: &[u8]) -> &[u8]
     ensures { result.now ≡ unsigned bytes.now }
@@ -59,7 +59,7 @@ fn unsigned(bytes: &[u8]) -> &[u8]
     }
 }
 
-/// The digits that come first, and the bytes behind them.
+/// The digits that come first, and the bytes after them.
 #[inline(always)]
 fn split_digits(bytes: &[u8]) -> (&[u8], &[u8])
     ensures digits { result.0.now ≡ front_digits bytes.now }
@@ -104,7 +104,7 @@ fn is_fraction_or_exponent(bytes: &[u8]) -> bool
     }
 }
 
-/// Whether the bytes are digits, with an exponent behind them or without one.
+/// Whether the bytes are digits, with an exponent after them or without one.
 #[inline(always)]
 fn is_behind_point(bytes: &[u8]) -> bool
     ensures { result ≡ is_behind_point bytes.now }

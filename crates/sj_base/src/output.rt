@@ -43,7 +43,7 @@ pub trait Output {
         Ok(false)
     }
 
-    /// Appends the key between quotes, with a comma before it if `with_comma` and a colon behind it, and returns `true`, or
+    /// Appends the key between quotes, with a comma before it if `with_comma` and a colon after it, and returns `true`, or
     /// appends nothing and returns `false`.
     ///
     /// This is what stands before a member's value in the compact layout. `true` is for keys in which no byte needs an

@@ -1,6 +1,6 @@
-//! Storing bytes at a place of a slice in copies of a fixed size, which are a load and a store.
+//! Stores bytes at a place of a slice, in pieces of a fixed size, each of which is one load and one store.
 //!
-//! Each copy is tested for bytes that need an escape in the same go. A text is stored by copies that overlap, or by one.
+//! Each piece is also tested for bytes that need an escape. A text is one piece, or several that overlap.
 ghost use Rattle.std.specs.Prelude.{◌≡◌, ◌+◌, ◌≤◌, ◌<◌, ◌++◌, [], ◌∷◌, length, take, slice_range, IsTrue, flat_map};
 ghost use Rattle.std.specs.Int.{from_bool};
 ghost use Rattle.sj_base.specs.Layout.{compact_key};
@@ -25,7 +25,7 @@ pub(crate) fn place_quoted(buf: &mut [u8], at: usize, text: &[u8]) -> bool
     plain
 }
 
-// Stores the key between quotes, with a comma before it if `with_comma` and a colon behind it, and returns whether it is
+// Stores the key between quotes, with a comma before it if `with_comma` and a colon after it, and returns whether it is
 // known that no byte of it needs an escape. A comma that isn't wanted is overwritten.
 #[inline(always)]
 pub(crate) fn place_plain_key(buf: &mut [u8], at: usize, with_comma: bool, key: &[u8]) -> bool

@@ -9,7 +9,7 @@ use crate::try_copy::TryCopy;
 use std::alloc::AllocError;
 use std::fmt;
 
-/// The type of a value (`value_trait::ValueType`).
+/// The type of a value. Port of `value_trait::ValueType`.
 #[derive(Clone, Copy, Debug, PartialEq, Eq)]
 pub enum ValueType {
     /// Null.

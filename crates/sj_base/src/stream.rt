@@ -53,7 +53,7 @@ pub trait Sink {
         ensures err_counts { IfErr result (CountsErr (calls self.old) (calls self.new)) };
 }
 
-// The calls, and those of each outcome that moved nothing. A number is that of the bytes that were moved.
+// The calls that were made, and those of each outcome that moved nothing, each with the number of bytes that it moved.
 #[derive(Drop)]
 struct Tally {
     made: Trace,

@@ -31,7 +31,7 @@ fn select<P: Part>(document: P, path: &[PathPart]) -> Result<P, Refusal>
     find(document, path).ok_or(Refusal::NoSuchPath)
 }
 
-/// Returns whether the path selects an object with this key.
+/// Returns `true` if the path selects an object with this key.
 pub(crate) fn contains_at<'s, P: Part>(
     document: P,
     path: &[PathPart],

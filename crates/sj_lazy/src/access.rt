@@ -89,7 +89,7 @@ impl<'t, 'i> Value<'_, 't, 'i> {
     ///
     /// # Errors
     ///
-    /// An error with the expected type and the type of the value, if it isn't an array.
+    /// `TryTypeError` if the value isn't an array. The expected type is `Array`.
     pub fn try_as_array(&self) -> Result<Array<'_, 't, 'i>, TryTypeError>
         ensures tree { ok_map array_items result
             ≡ ok_or (items_in (lazy_tree self.now)) (mismatch ValueType.Array (lazy_kind self.now)) }
@@ -106,7 +106,7 @@ impl<'t, 'i> Value<'_, 't, 'i> {
     ///
     /// # Errors
     ///
-    /// An error with the expected type and the type of the value, if it isn't an object.
+    /// `TryTypeError` if the value isn't an object. The expected type is `Object`.
     pub fn try_as_object(&self) -> Result<Object<'_, 't, 'i>, TryTypeError>
         ensures tree { ok_map object_members result
             ≡ ok_or (members_in (lazy_tree self.now)) (mismatch ValueType.Object (lazy_kind self.now)) }
@@ -123,7 +123,7 @@ impl<'t, 'i> Value<'_, 't, 'i> {
     ///
     /// # Errors
     ///
-    /// An error with the expected type and the type of the value, if it isn't an object.
+    /// `TryTypeError` if the value isn't an object. The expected type is `Object`.
     pub fn try_get(&self, name: &str) -> Result<Option<Value<'_, 't, 'i>>, TryTypeError>
         ensures tree { ok_map (option_map lazy_tree) result
             ≡ ok_or (option_map (λ ms. member_at ms name.now) (members_in (lazy_tree self.now)))
@@ -141,7 +141,7 @@ impl<'t, 'i> Value<'_, 't, 'i> {
     ///
     /// # Errors
     ///
-    /// An error with the expected type and the type of the value, if it isn't an array.
+    /// `TryTypeError` if the value isn't an array. The expected type is `Array`.
     pub fn try_get_idx(&self, index: usize) -> Result<Option<Value<'_, 't, 'i>>, TryTypeError>
         ensures tree { ok_map (option_map lazy_tree) result
             ≡ ok_or (option_map (λ ts. item_at ts index) (items_in (lazy_tree self.now)))
@@ -180,8 +180,8 @@ impl<'t, 'i> Value<'_, 't, 'i> {
     ///
     /// # Errors
     ///
-    /// An error with the expected type and the type of the value, if the value isn't an object, or with the type of the
-    /// member, if that isn't an array.
+    /// `TryTypeError` if the value isn't an object, with the expected type `Object`, or if the member isn't an array, with
+    /// `Array`.
     pub fn try_get_array(&self, name: &str) -> Result<Option<Array<'_, 't, 'i>>, TryTypeError>
         ensures { ok_map (option_map array_contents) result
             ≡ read_found array_in ValueType.Array (try_member (contents self.now) name.now) }
@@ -199,8 +199,8 @@ impl<'t, 'i> Value<'_, 't, 'i> {
     ///
     /// # Errors
     ///
-    /// An error with the expected type and the type of the value, if the value isn't an object, or with the type of the
-    /// member, if that isn't an object.
+    /// `TryTypeError` if the value isn't an object, with the expected type `Object`, or if the member isn't an object, with
+    /// `Object`.
     pub fn try_get_object(&self, name: &str) -> Result<Option<Object<'_, 't, 'i>>, TryTypeError>
         ensures { ok_map (option_map object_contents) result
             ≡ read_found object_in ValueType.Object (try_member (contents self.now) name.now) }
@@ -223,7 +223,7 @@ impl<'t, 'i> Value<'_, 't, 'i> {
         }
     }
 
-    // As `mismatch`, of a value that is let go.
+    // As `mismatch`, of a value that is dropped.
     fn into_mismatch(self, expected: ValueType) -> TryTypeError
         ensures { result ≡ mismatch expected (lazy_kind self.entry) }
     {
@@ -231,7 +231,7 @@ impl<'t, 'i> Value<'_, 't, 'i> {
     }
 }
 
-// Whether there is a value, which is let go.
+// Whether there is a value, which is dropped.
 fn is_there<T: Drop>(found: Option<T>) -> bool
     ensures { result ≡ is_some found }
 {

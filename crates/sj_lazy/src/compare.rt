@@ -82,7 +82,7 @@ fn are_found(keys: Keys<'_, '_, '_>, members: &TapeObject<'_, '_>) -> bool
     true
 }
 
-// Returns `true` if there is no next value. One that there is is let go.
+// Returns `true` if there is no next value, and drops one that there is.
 pub(crate) fn is_end<T: Drop>(next: Option<T>) -> bool
     ensures { result ≡ is_none next }
 {

@@ -120,7 +120,7 @@ impl<T: ToDocument<D> + Drop, B: ToDocument<D> + Drop, D: Drop> TapeOrDocument<T
     }
 }
 
-// An edit's error. What was handed in is let go.
+// An edit's error. What was handed in is dropped.
 fn refuse<T: Drop, U>(_handed_in: T, error: AccessError) -> Result<U, AccessError>
     ensures { result ≡ Err error }
 {

@@ -8,7 +8,7 @@ use std::alloc::AllocError;
 impl Value<'_, '_, '_> {
     ghost use Rattle.sj_lazy.specs.Views.{lazy_tree};
 
-    /// Appends the compact text of the value to `out` (`value_trait::Writable::encode`). A tape's repeated keys are in it.
+    /// Appends the compact text of the value to `out`, with the repeated keys of a tape. Port of `value_trait::Writable::encode`.
     ///
     /// The recursion is as deep as the value nests.
     ///
@@ -24,8 +24,8 @@ impl Value<'_, '_, '_> {
         }
     }
 
-    /// Appends the text of the value to `out`, with each item and member on a line of its own, indented by two spaces a
-    /// level (`value_trait::Writable::encode_pp`). A tape's repeated keys are in it.
+    /// Appends the text of the value to `out`, with the repeated keys of a tape, and with each item and member on a line of its
+    /// own, indented by two spaces a level. Port of `value_trait::Writable::encode_pp`.
     ///
     /// The recursion is as deep as the value nests.
     ///

@@ -15,7 +15,7 @@ impl<K: ObjectKey, D: Literal> Value<K, D> {
     ghost use Rattle.sj_owned.specs.Views.{value_tree, value_kind, items_inside, members_inside};
     ghost use Rattle.sj_owned.specs.Parts.{text_inside, item_of, member_of, try_item, try_value, read_part};
 
-    /// Returns the items, or `None` if the value isn't an array (`value_trait::ValueAsArray::as_array`).
+    /// Returns the items, or `None` if the value isn't an array. Port of `value_trait::ValueAsArray::as_array`.
     #[inline(always)]
     pub fn as_array(&self) -> Option<&Vec<Value<K, D>>>
         ensures { option_map (λ v. v.now.items) result ≡ items_inside self.now }
@@ -26,7 +26,7 @@ impl<K: ObjectKey, D: Literal> Value<K, D> {
         }
     }
 
-    /// Returns the members, or `None` if the value isn't an object (`value_trait::ValueAsObject::as_object`).
+    /// Returns the members, or `None` if the value isn't an object. Port of `value_trait::ValueAsObject::as_object`.
     #[inline(always)]
     pub fn as_object(&self) -> Option<&Object<K, Value<K, D>>>
         ensures { option_map (λ o. o.now) result ≡ members_inside self.now }
@@ -41,7 +41,7 @@ impl<K: ObjectKey, D: Literal> Value<K, D> {
     ///
     /// # Errors
     ///
-    /// An error with the expected type and the type of the value, if it isn't an array.
+    /// `TryTypeError` if the value isn't an array. The expected type is `Array`.
     pub fn try_as_array(&self) -> Result<&Vec<Value<K, D>>, TryTypeError>
         ensures { ok_map (λ v. v.now.items) result
             ≡ ok_or (items_inside self.now) (mismatch ValueType.Array (value_kind self.now)) }
@@ -56,7 +56,7 @@ impl<K: ObjectKey, D: Literal> Value<K, D> {
     ///
     /// # Errors
     ///
-    /// An error with the expected type and the type of the value, if it isn't an object.
+    /// `TryTypeError` if the value isn't an object. The expected type is `Object`.
     pub fn try_as_object(&self) -> Result<&Object<K, Value<K, D>>, TryTypeError>
         ensures { ok_map (λ o. o.now) result
             ≡ ok_or (members_inside self.now) (mismatch ValueType.Object (value_kind self.now)) }
@@ -118,7 +118,7 @@ impl<K: ObjectKey, D: Literal> Value<K, D> {
     ///
     /// # Errors
     ///
-    /// An error with the expected type and the type of the value, if it isn't an object.
+    /// `TryTypeError` if the value isn't an object. The expected type is `Object`.
     pub fn try_get(&self, name: &str) -> Result<Option<&Value<K, D>>, TryTypeError>
         ensures { ok_map option_copied result ≡ try_value K.text self.now name.now }
     {
@@ -132,7 +132,7 @@ impl<K: ObjectKey, D: Literal> Value<K, D> {
     ///
     /// # Errors
     ///
-    /// An error with the expected type and the type of the value, if it isn't an array.
+    /// `TryTypeError` if the value isn't an array. The expected type is `Array`.
     pub fn try_get_idx(&self, index: usize) -> Result<Option<&Value<K, D>>, TryTypeError>
         ensures { ok_map option_copied result ≡ try_item self.now index }
     {
@@ -146,8 +146,8 @@ impl<K: ObjectKey, D: Literal> Value<K, D> {
     ///
     /// # Errors
     ///
-    /// An error with the expected type and the type of the value, if the value isn't an object, or with the type of the
-    /// member, if that isn't an array.
+    /// `TryTypeError` if the value isn't an object, with the expected type `Object`, or if the member isn't an array, with
+    /// `Array`.
     pub fn try_get_array(&self, name: &str) -> Result<Option<&Vec<Value<K, D>>>, TryTypeError>
         ensures { ok_map (option_map (λ v. v.now.items)) result
             ≡ read_part items_inside ValueType.Array (try_value K.text self.now name.now) }
@@ -162,8 +162,8 @@ impl<K: ObjectKey, D: Literal> Value<K, D> {
     ///
     /// # Errors
     ///
-    /// An error with the expected type and the type of the value, if the value isn't an object, or with the type of the
-    /// member, if that isn't an object.
+    /// `TryTypeError` if the value isn't an object, with the expected type `Object`, or if the member isn't an object, with
+    /// `Object`.
     pub fn try_get_object(
         &self,
         name: &str,
@@ -177,7 +177,7 @@ impl<K: ObjectKey, D: Literal> Value<K, D> {
         }
     }
 
-    /// Returns the string, or `None` if the value isn't a string (`value_trait::ValueIntoString::into_string`).
+    /// Returns the string, or `None` if the value isn't a string. Port of `value_trait::ValueIntoString::into_string`.
     pub fn into_string(self) -> Option<K>
     where
         K: Drop,
@@ -190,7 +190,7 @@ impl<K: ObjectKey, D: Literal> Value<K, D> {
         }
     }
 
-    /// Returns the items, or `None` if the value isn't an array (`value_trait::ValueIntoArray::into_array`).
+    /// Returns the items, or `None` if the value isn't an array. Port of `value_trait::ValueIntoArray::into_array`.
     pub fn into_array(self) -> Option<Vec<Value<K, D>>>
     where
         K: Drop,
@@ -203,7 +203,7 @@ impl<K: ObjectKey, D: Literal> Value<K, D> {
         }
     }
 
-    /// Returns the members, or `None` if the value isn't an object (`value_trait::ValueIntoObject::into_object`).
+    /// Returns the members, or `None` if the value isn't an object. Port of `value_trait::ValueIntoObject::into_object`.
     pub fn into_object(self) -> Option<Object<K, Value<K, D>>>
     where
         K: Drop,
@@ -226,7 +226,7 @@ impl<K: ObjectKey, D: Literal> Value<K, D> {
     }
 }
 
-// No part of a value, which is let go.
+// No part of a value, which is dropped.
 fn nothing_of<T: Drop, P>(_value: T) -> Option<P>
     ensures { result ≡ None }
 {

@@ -244,7 +244,7 @@ impl<'v> Value<CowStr<'v>, DecimalCow<'v>> {
         convert(alloc, value)
     }
 
-    /// Converts the document to one that owns its texts (`simd_json::BorrowedValue::into_static`). Borrowed texts are
+    /// Converts the document to one that owns its texts. Port of `simd_json::BorrowedValue::into_static`. Borrowed texts are
     /// copied.
     ///
     /// The recursion is as deep as the value nests.
@@ -260,7 +260,7 @@ impl<'v> Value<CowStr<'v>, DecimalCow<'v>> {
         convert(alloc, self)
     }
 
-    /// Copies the document to one that owns its texts (`simd_json::BorrowedValue::clone_static`).
+    /// Copies the document to one that owns its texts. Port of `simd_json::BorrowedValue::clone_static`.
     ///
     /// The recursion is as deep as the value nests.
     ///

@@ -7,7 +7,7 @@ use crate::value::Value;
 use sj_base::AccessError;
 use sj_object::{Object, ObjectKey};
 
-// An edit's error. What was handed in is let go.
+// An edit's error. What was handed in is dropped.
 fn refuse<T: Drop, U>(_handed_in: T, error: AccessError) -> Result<U, AccessError>
     ensures { result ≡ Err error }
 {

@@ -102,7 +102,7 @@ fn append<K: ObjectKey, D: Literal>(
 }
 
 impl<K: ObjectKey, D: Literal> Value<K, D> {
-    /// Appends the compact text of the value to `out` (`value_trait::Writable::encode`).
+    /// Appends the compact text of the value to `out`. Port of `value_trait::Writable::encode`.
     ///
     /// The recursion is as deep as the value nests.
     ///
@@ -116,7 +116,7 @@ impl<K: ObjectKey, D: Literal> Value<K, D> {
     }
 
     /// Appends the text of the value to `out`, with each item and member on a line of its own, indented by two spaces a
-    /// level (`value_trait::Writable::encode_pp`).
+    /// level. Port of `value_trait::Writable::encode_pp`.
     ///
     /// The recursion is as deep as the value nests.
     ///

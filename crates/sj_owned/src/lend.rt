@@ -16,8 +16,8 @@ impl<K: ObjectKey, D: Literal> Value<K, D> {
     ghost use Rattle.sj_owned.specs.Views.{array_inside, members_inside};
     ghost use Rattle.sj_owned.specs.Lends.{lends_items, lends_members};
 
-    /// Returns the items for writing, or `None` if the value isn't an array
-    /// (`value_trait::ValueAsMutArray::as_array_mut`).
+    /// Returns the items for writing, or `None` if the value isn't an array.
+    /// Port of `value_trait::ValueAsMutArray::as_array_mut`.
     pub fn as_array_mut(&mut self) -> Option<&mut Vec<Value<K, D>>>
         ensures* writes_back { sem 𝓛 (lends_items K.row D.row K.ObjectKey self.entry result) }
         ensures value { option_copied_mut result ≡ array_inside self.old }
@@ -28,8 +28,8 @@ impl<K: ObjectKey, D: Literal> Value<K, D> {
         }
     }
 
-    /// Returns the members for writing, or `None` if the value isn't an object
-    /// (`value_trait::ValueAsMutObject::as_object_mut`).
+    /// Returns the members for writing, or `None` if the value isn't an object.
+    /// Port of `value_trait::ValueAsMutObject::as_object_mut`.
     pub fn as_object_mut(&mut self) -> Option<&mut Object<K, Value<K, D>>>
         ensures* writes_back { sem 𝓛 (lends_members K.row D.row K.ObjectKey self.entry result) }
         ensures value { option_copied_mut result ≡ members_inside self.old }
@@ -106,15 +106,15 @@ pub trait LendsParts {
 /// The clauses `writes_back` say what the value is after a write through the reference. Of a document, that part alone has
 /// changed. If a call returns `None`, the value is unchanged.
 pub trait MutableValue: LendsParts {
-    /// Returns the value of the member with this key for writing, or `None` if there is none or the value isn't an object
-    /// (`value_trait::MutableObject::get_mut`).
+    /// Returns the value of the member with this key for writing, or `None` if there is none or the value isn't an object.
+    /// Port of `value_trait::MutableObject::get_mut`.
     fn get_mut(&mut self, name: &str) -> Option<&mut Self::Part>
         ensures* writes_back { sem 𝓛 (LendsIf Self.row Self.Part.row self.entry result
             (member_set Self.Members.with_value Self.of_object self.old (Self.object self.old) name.now) self.old) }
         ensures value { option_copied_mut result ≡ Self.member self.old name.now };
 
-    /// Returns the item at this index for writing, or `None` if there is none or the value isn't an array
-    /// (`value_trait::MutableArray::get_idx_mut`).
+    /// Returns the item at this index for writing, or `None` if there is none or the value isn't an array.
+    /// Port of `value_trait::MutableArray::get_idx_mut`.
     fn get_idx_mut(&mut self, index: usize) -> Option<&mut Self::Part>
         ensures* writes_back { sem 𝓛 (LendsIf Self.row Self.Part.row self.entry result
             (item_set Self.of_array self.old (Self.array self.old) index) self.old) }

@@ -4,7 +4,7 @@ ghost use Rattle.std.specs.Char.{IsScalar, len_utf8};
 ghost use Rattle.sj_base.specs.Characters.{IsHex, hex_value};
 
 /// Returns the number that the first four bytes spell as hexadecimal digits of either case, or `None` if they spell
-/// none. Bytes behind them are ignored. Port of `simd_json::charutils::hex_to_u32_nocheck`.
+/// none. Bytes after them are ignored. Port of `simd_json::charutils::hex_to_u32_nocheck`.
 pub fn hex_to_u32(bytes: &[u8]) -> Option<u32>
     ensures { SomeIff result (IsHex (take 4 bytes.now)) (hex_value (take 4 bytes.now)) }
 {

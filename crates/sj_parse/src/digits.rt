@@ -31,7 +31,7 @@ fn value_of_word(digits: [u8; 8]) -> u64
     (fours * 10_000 + (fours >> 32)) & 0xFFFF_FFFF
 }
 
-/// The value of digits that stand behind those of a value.
+/// The value of digits that stand after those of a value.
 #[inline(always)]
 fn value_after(value: u64, digits: &[u8]) -> u64
     requires digits { all_ascii_digits digits.now ≡ true }

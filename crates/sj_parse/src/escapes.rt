@@ -9,14 +9,14 @@ ghost use Rattle.sj_parse.specs.inside.Decoded.{escaped_character};
 use crate::characters::hex_to_u32;
 use crate::descent_fault::DescentKind;
 
-/// A character, and the length of its escape behind the backslash, in bytes.
+/// A character, and the length of its escape after the backslash, in bytes.
 #[derive(Clone, Copy)]
 pub(crate) struct Escaped {
     pub(crate) character: char,
     pub(crate) len: usize,
 }
 
-/// Reads an escape. These bytes begin behind its backslash.
+/// Reads an escape. These bytes begin after its backslash.
 pub(crate) fn read_escape(bytes: &[u8]) -> Result<Escaped, DescentKind>
     ensures { MatchResult result
         (λ e. (escape bytes.now ≡ Ok e.len) × (escaped_character bytes.now ≡ e.character))
@@ -51,7 +51,7 @@ fn short_character(letter: u8) -> Option<char>
     }
 }
 
-// These bytes begin behind `\u`.
+// These bytes begin after `\u`.
 fn read_unicode_escape(digits: &[u8]) -> Result<Escaped, DescentKind>
     ensures { MatchResult result
         (λ e. (unicode_escape digits.now ≡ Ok e.len)

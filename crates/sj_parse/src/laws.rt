@@ -1,5 +1,5 @@
 //! Laws of the definitions that the contracts cite: each function does nothing but call other laws, and its contract is the
-//! law. [`descend`] is no law: it is stage two behind its reservations, and its contract says how often it reads a position.
+//! law. [`descend`] is no law: it is stage two after its reservations, and its contract says how often it reads a position.
 ghost use Rattle.sj_base.specs.Text.{text, pretty};
 ghost use Rattle.sj_parse.specs.Laws.{FaultOrTree, PrintsNoFault};
 

@@ -23,8 +23,8 @@ pub(crate) enum Shape {
     Other,
 }
 
-/// Returns the node of a number, or `None` for any other text. An integer in range with a minus is an `I64`, any other
-/// such a `U64`.
+/// Returns the node of a number, or `None` for any other text. An integer in range is an `I64` if it has a
+/// minus, and else a `U64`.
 #[inline(always)]
 pub(crate) fn number<'a>(text: &'a [u8], shape: Shape) -> Option<Node<'a>>
     requires { HasShape text.now shape }
@@ -106,7 +106,7 @@ fn is_whole(digits: &[u8]) -> bool
     }
 }
 
-// Whether a minus stands in front, and what stands behind it.
+// Whether a minus stands in front, and what stands after it.
 #[inline(always)]
 fn split_minus(text: &[u8]) -> (bool, &[u8])
     ensures negative { result.0 ≡ is_negative text.now }

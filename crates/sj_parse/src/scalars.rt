@@ -24,7 +24,7 @@ fn body_len(bytes: &[u8]) -> usize
         if len == bytes.len() || bytes[len] == b'"' {
             return len;
         }
-        // A backslash goes with the byte behind it.
+        // A backslash goes with the byte after it.
         if bytes.len() - len < 2 {
             return bytes.len();
         }
@@ -85,7 +85,7 @@ fn find_word(bytes: &[u8]) -> (usize, Shape)
     }
 }
 
-/// The word that begins at `skip`, its shape, and the input behind it.
+/// The word that begins at `skip`, its shape, and the input after it.
 #[inline(always)]
 pub(crate) fn take_word<'i>(skip: usize, rest: &'i mut [u8]) -> (&'i [u8], Shape, &'i mut [u8])
     requires { skip ≤ length rest.old }

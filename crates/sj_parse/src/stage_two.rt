@@ -85,12 +85,12 @@ impl State {
     }
 }
 
-/// What the first byte of a token is where the code is.
+/// What the first byte of a token is in a state.
 #[derive(Clone, Copy)]
 pub(crate) enum Role {
     /// A closing bracket.
     Close,
-    /// A comma or a colon, behind which that comes next.
+    /// A comma or a colon. The field is the state after it.
     Separator(State),
     /// It begins a key.
     Key,
@@ -190,7 +190,7 @@ fn number_node<'i>(place: usize, word: &'i [u8], shape: Shape) -> Result<Node<'i
     })
 }
 
-/// Reads the value that begins at `skip`: a scalar whole, of a container its bracket.
+/// Reads the value that begins at `skip`: a whole scalar, or the opening bracket of a container.
 #[inline(always)]
 fn read_value<'i>(
     unexpected: DescentKind,
@@ -284,7 +284,7 @@ fn step<'i>(
     }
 }
 
-/// Reads the tokens of a text: appends the nodes of its tree, or answers its first fault. This is all of stage two behind
+/// Reads the tokens of a text: appends the nodes of its tree, or answers its first fault. This is all of stage two after
 /// its reservations, so it can't lack memory.
 ///
 /// The places are the positions of the text, and each is read once at most. The vectors are empty, and have room: the nodes
@@ -351,7 +351,7 @@ pub fn descend<'i>(
     }
 }
 
-/// The kind of the fault where tokens are left behind a root with these nodes.
+/// The kind of the fault where tokens are left after a root with these nodes.
 fn left_kind(nodes: &[Node<'_>]) -> DescentKind
     ensures { (t : Tree) → entries nodes.now ≡ listing t → result ≡ left_kind_of t }
 {

@@ -9,7 +9,7 @@ ghost use Rattle.sj_reads.specs.Views.{ok_text, ok_literal};
 use crate::read::*;
 use sj_base::{Decimal, Scalar, StaticNode, TryTypeError, ValueType};
 
-/// A value that has a [`ValueType`] (`value_trait::TypedValue`).
+/// A value that has a [`ValueType`]. Port of `value_trait::TypedValue`.
 pub trait TypedValue {
     // What `value_type` answers.
     ghost kind: { Self → ValueType };
@@ -31,7 +31,7 @@ pub trait HasScalar: TypedValue {
         ensures kind { IfSome result (λ s. scalar_type s ≡ Self.kind self.now) };
 }
 
-/// Reads of a value as one type (`value_trait::ValueAsScalar`).
+/// Reads of a value as one type. Port of `value_trait::ValueAsScalar`.
 ///
 /// Every type that implements [`HasScalar`] has them; implement that trait and not this one. A read gives the value if it
 /// is of that type. An integer from -2^63 to 2^64 - 1 can be read as every type that it fits, whichever carrier holds it; one
@@ -49,7 +49,7 @@ pub trait ValueAsScalar: TypedValue {
     fn as_null(&self) -> Option<()>
         ensures { result ≡ null_read (scalar self.now) };
 
-    /// Returns whether the value is null.
+    /// Returns `true` if the value is null.
     fn is_null(&self) -> bool
         ensures { result ≡ is_some (null_read (scalar self.now)) };
 
@@ -66,7 +66,7 @@ pub trait ValueAsScalar: TypedValue {
     fn as_bool(&self) -> Option<bool>
         ensures { result ≡ bool_read (scalar self.now) };
 
-    /// Returns whether the value is a boolean.
+    /// Returns `true` if the value is a boolean.
     fn is_bool(&self) -> bool
         ensures { result ≡ is_some (bool_read (scalar self.now)) };
 
@@ -83,7 +83,7 @@ pub trait ValueAsScalar: TypedValue {
     fn as_i8(&self) -> Option<i8>
         ensures { result ≡ signed_read 7 (scalar self.now) };
 
-    /// Returns whether the value is an integer that fits an `i8`.
+    /// Returns `true` if the value is an integer that fits an `i8`.
     fn is_i8(&self) -> bool
         ensures { result ≡ is_some (signed_read 7 (scalar self.now)) };
 
@@ -100,7 +100,7 @@ pub trait ValueAsScalar: TypedValue {
     fn as_i16(&self) -> Option<i16>
         ensures { result ≡ signed_read 15 (scalar self.now) };
 
-    /// Returns whether the value is an integer that fits an `i16`.
+    /// Returns `true` if the value is an integer that fits an `i16`.
     fn is_i16(&self) -> bool
         ensures { result ≡ is_some (signed_read 15 (scalar self.now)) };
 
@@ -117,7 +117,7 @@ pub trait ValueAsScalar: TypedValue {
     fn as_i32(&self) -> Option<i32>
         ensures { result ≡ signed_read 31 (scalar self.now) };
 
-    /// Returns whether the value is an integer that fits an `i32`.
+    /// Returns `true` if the value is an integer that fits an `i32`.
     fn is_i32(&self) -> bool
         ensures { result ≡ is_some (signed_read 31 (scalar self.now)) };
 
@@ -134,7 +134,7 @@ pub trait ValueAsScalar: TypedValue {
     fn as_i64(&self) -> Option<i64>
         ensures { result ≡ signed_read 63 (scalar self.now) };
 
-    /// Returns whether the value is an integer that fits an `i64`.
+    /// Returns `true` if the value is an integer that fits an `i64`.
     fn is_i64(&self) -> bool
         ensures { result ≡ is_some (signed_read 63 (scalar self.now)) };
 
@@ -151,7 +151,7 @@ pub trait ValueAsScalar: TypedValue {
     fn as_i128(&self) -> Option<i128>
         ensures { result ≡ signed_read 127 (scalar self.now) };
 
-    /// Returns whether the value is an integer that fits an `i128`.
+    /// Returns `true` if the value is an integer that fits an `i128`.
     fn is_i128(&self) -> bool
         ensures { result ≡ is_some (signed_read 127 (scalar self.now)) };
 
@@ -168,7 +168,7 @@ pub trait ValueAsScalar: TypedValue {
     fn as_u8(&self) -> Option<u8>
         ensures { result ≡ unsigned_read 8 (scalar self.now) };
 
-    /// Returns whether the value is an integer that fits a `u8`.
+    /// Returns `true` if the value is an integer that fits a `u8`.
     fn is_u8(&self) -> bool
         ensures { result ≡ is_some (unsigned_read 8 (scalar self.now)) };
 
@@ -185,7 +185,7 @@ pub trait ValueAsScalar: TypedValue {
     fn as_u16(&self) -> Option<u16>
         ensures { result ≡ unsigned_read 16 (scalar self.now) };
 
-    /// Returns whether the value is an integer that fits a `u16`.
+    /// Returns `true` if the value is an integer that fits a `u16`.
     fn is_u16(&self) -> bool
         ensures { result ≡ is_some (unsigned_read 16 (scalar self.now)) };
 
@@ -202,7 +202,7 @@ pub trait ValueAsScalar: TypedValue {
     fn as_u32(&self) -> Option<u32>
         ensures { result ≡ unsigned_read 32 (scalar self.now) };
 
-    /// Returns whether the value is an integer that fits a `u32`.
+    /// Returns `true` if the value is an integer that fits a `u32`.
     fn is_u32(&self) -> bool
         ensures { result ≡ is_some (unsigned_read 32 (scalar self.now)) };
 
@@ -219,7 +219,7 @@ pub trait ValueAsScalar: TypedValue {
     fn as_u64(&self) -> Option<u64>
         ensures { result ≡ unsigned_read 64 (scalar self.now) };
 
-    /// Returns whether the value is an integer that fits a `u64`.
+    /// Returns `true` if the value is an integer that fits a `u64`.
     fn is_u64(&self) -> bool
         ensures { result ≡ is_some (unsigned_read 64 (scalar self.now)) };
 
@@ -236,7 +236,7 @@ pub trait ValueAsScalar: TypedValue {
     fn as_u128(&self) -> Option<u128>
         ensures { result ≡ unsigned_read 128 (scalar self.now) };
 
-    /// Returns whether the value is an integer that fits a `u128`.
+    /// Returns `true` if the value is an integer that fits a `u128`.
     fn is_u128(&self) -> bool
         ensures { result ≡ is_some (unsigned_read 128 (scalar self.now)) };
 
@@ -253,7 +253,7 @@ pub trait ValueAsScalar: TypedValue {
     fn as_usize(&self) -> Option<usize>
         ensures { result ≡ unsigned_read 64 (scalar self.now) };
 
-    /// Returns whether the value is an integer that fits a `usize`.
+    /// Returns `true` if the value is an integer that fits a `usize`.
     fn is_usize(&self) -> bool
         ensures { result ≡ is_some (unsigned_read 64 (scalar self.now)) };
 
@@ -270,7 +270,7 @@ pub trait ValueAsScalar: TypedValue {
     fn as_str(&self) -> Option<&str>
         ensures { option_map (λ s. s.now) result ≡ str_read (scalar self.now) };
 
-    /// Returns whether the value is a string.
+    /// Returns `true` if the value is a string.
     fn is_str(&self) -> bool
         ensures { result ≡ is_some (str_read (scalar self.now)) };
 
@@ -287,7 +287,7 @@ pub trait ValueAsScalar: TypedValue {
     fn as_decimal(&self) -> Option<Decimal<'_>>
         ensures { option_map decimal_text result ≡ decimal_read (scalar self.now) };
 
-    /// Returns whether the value is a decimal literal.
+    /// Returns `true` if the value is a decimal literal.
     fn is_decimal(&self) -> bool
         ensures { result ≡ is_some (decimal_read (scalar self.now)) };
 

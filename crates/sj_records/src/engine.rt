@@ -47,7 +47,7 @@ fn write_all<W: Sink>(writer: &mut W, bytes: &[u8]) -> Result<(), RunError>
 /// What is kept from one piece of the stream to the next.
 #[derive(Drop)]
 struct Pending {
-    /// The bytes behind the last line feed.
+    /// The bytes after the last line feed.
     line: Vec<u8>,
     scratch: Scratch,
 }
@@ -125,7 +125,7 @@ fn complete_line<'p, W: Sink>(
     Ok(())
 }
 
-/// Writes the record of each line that the piece ends, and keeps the bytes behind the last line feed. The piece is
+/// Writes the record of each line that the piece ends, and keeps the bytes after the last line feed. The piece is
 /// rewritten.
 fn process_piece<W: Sink>(
     writer: &mut W,

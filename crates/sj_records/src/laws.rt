@@ -35,7 +35,7 @@ pub fn kept_along()
 {}
 
 /// Two scripts can be run one after the other. The second, on the document that the first printed, gives the replies and the
-/// document that it gives behind the first, under the same limit of levels, form and rule for repeated keys.
+/// document that it gives after the first, under the same limit of levels, form and rule for repeated keys.
 ///
 /// `Script::read` accepts the first script, its line isn't refused for a repeated key, the second script has no `undo`, and the
 /// printed document has at most 4294967295 bytes.

@@ -1,4 +1,8 @@
 //! Scripts of commands over a stream of JSON lines.
+//!
+//! [`run`] reads a stream of lines, runs a script on the document of each, and writes one record a line, in order. [`run_with`]
+//! does so in buffers of the caller's, and [`run_within`] with a bound on the number of reads too. [`apply`] runs one command on
+//! a [`Document`]. The contracts of the first three say what is written at each way to end.
 #![tactic(auto)]
 
 mod engine;

@@ -51,13 +51,13 @@ pub(crate) struct Task<'s> {
 /// Room that is kept from one line to the next.
 #[derive(Drop)]
 pub(crate) struct Scratch {
-    /// What the commands of a line hand on to those behind a reload.
+    /// What the commands of a line hand on to those after a reload.
     pub(crate) room: Room,
     /// The record of the last line.
     pub(crate) out: Vec<u8>,
 }
 
-/// What the commands behind a reload need: two texts, of which one is read while the other is printed into, and the history of
+/// What the commands after a reload need: two texts, of which one is read while the other is printed into, and the history of
 /// the line.
 #[derive(Drop)]
 pub(crate) struct Room {
@@ -284,7 +284,7 @@ fn run_on_text<'s>(
 /// Runs commands on the document of a tape, in the task's form. `is_first` tells whether their first reply is the first of
 /// the record.
 ///
-/// Returns the commands behind the first reload that replied `true`, whose text is in `text` then, or `None` once all have
+/// Returns the commands after the first reload that replied `true`, whose text is in `text` then, or `None` once all have
 /// run and the record is complete.
 fn run_on_tape<'s>(
     tape: &mut Tape<'_>,

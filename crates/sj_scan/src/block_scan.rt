@@ -105,7 +105,7 @@ fn read_rest(bytes: &[u8], out: &mut Vec<u32>, walk: Walk) -> End
     }
 }
 
-// The classes of the bytes from `at` on, with spaces behind them, and whether the text is UTF-8.
+// The classes of the bytes from `at` on, with spaces after them, and whether the text is UTF-8.
 #[inline(always)]
 fn classify_rest(bytes: &[u8], at: usize, utf8: Checker) -> (Classes, bool)
     requires read { HasRead utf8 (take at bytes.now) }
@@ -129,7 +129,7 @@ fn classify_rest(bytes: &[u8], at: usize, utf8: Checker) -> (Classes, bool)
     (classes, is_utf8)
 }
 
-// The bytes, and spaces behind them.
+// The bytes, and spaces after them.
 fn filled_up(rest: &[u8]) -> u8x64
     requires { length rest.now ≤ BLOCK }
     ensures { result ≡ filled_up rest.now }

@@ -83,7 +83,7 @@ fn real_quotes(classes: Classes, carry: u64) -> (u64, u64)
     (classes.quotes & !escaped, next)
 }
 
-// The places directly behind a run of backslashes of odd length, and the carry of the next block.
+// The places directly after a run of backslashes of odd length, and the carry of the next block.
 #[inline(always)]
 fn escaped(backslashes: u64, carry: u64) -> (u64, u64)
     ensures places { (odd : Bool) → carry ≡ first_if odd → Marks result.0 (is_odd_run odd (is_set backslashes)) }
@@ -94,7 +94,7 @@ fn escaped(backslashes: u64, carry: u64) -> (u64, u64)
     }
     // A backslash that is escaped escapes nothing.
     let live = backslashes & !carry;
-    // The subtraction borrows along each run, and its result differs at the backslashes that escape and behind them.
+    // The subtraction borrows along each run, and its result differs at the backslashes that escape and after them.
     let codes = ((live << 1) | ODD_PLACES).wrapping_sub(live) ^ ODD_PLACES;
     (codes ^ (backslashes | carry), last(codes & backslashes))
 }

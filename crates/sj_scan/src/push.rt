@@ -3,7 +3,7 @@ ghost use Rattle.std.specs.Prelude.{◌≡◌, ℕ, ◌+◌, ◌^◌, ◌<◌, �
 ghost use Rattle.sj_scan.specs.inside.Masks.{set_places, IsPrefix};
 
 // Appends the place of each bit. The first eight need no test, which most blocks have no more of, and the vector is cut
-// behind those that the mask has.
+// after those that the mask has.
 #[inline(always)]
 pub(crate) fn push_places(out: &mut Vec<u32>, base: u32, mask: u64)
     requires room { vec_len out.old + 64 ≤ vec_capacity out.old }

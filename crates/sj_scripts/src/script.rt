@@ -201,7 +201,7 @@ impl Script {
         self.commands.len()
     }
 
-    /// Returns whether the script has no commands.
+    /// Returns `true` if the script has no commands.
     pub fn is_empty(&self) -> bool
         ensures { IsTrue result ↔ (length (steps_of self.now) ≡ 0) }
     {

@@ -21,6 +21,7 @@ pub(crate) fn tree_end(nodes: &[Node<'_>], start: usize) -> Option<usize>
             let end = contents_end(nodes, start + 1, len, true)?;
             counted(start + 1, end, count)
         }
+        // A leaf has a scalar. The call tells that it is valid.
         leaf => leaf.scalar().and(Some(start + 1)),
     }
 }

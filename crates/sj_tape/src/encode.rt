@@ -94,7 +94,7 @@ fn append(value: Value<'_, '_>, layout: Layout, out: &mut Vec<u8>) -> Result<(),
 }
 
 impl Value<'_, '_> {
-    /// Appends the compact text of the value to `out` (`value_trait::Writable::encode`).
+    /// Appends the compact text of the value to `out`. Port of `value_trait::Writable::encode`.
     ///
     /// The recursion is as deep as the value nests.
     ///
@@ -108,7 +108,7 @@ impl Value<'_, '_> {
     }
 
     /// Appends the text of the value to `out`, with each item and member on a line of its own, indented by two spaces a
-    /// level (`value_trait::Writable::encode_pp`).
+    /// level. Port of `value_trait::Writable::encode_pp`.
     ///
     /// The recursion is as deep as the value nests.
     ///
@@ -134,7 +134,7 @@ impl Value<'_, '_> {
         print(*self, Layout::Compact, out)
     }
 
-    /// Writes the compact text of the value to `writer` (`value_trait::Writable::write`).
+    /// Writes the compact text of the value to `writer`. Port of `value_trait::Writable::write`.
     ///
     /// The recursion is as deep as the value nests.
     ///
@@ -148,7 +148,7 @@ impl Value<'_, '_> {
     }
 
     /// Writes the text of the value to `writer`, with each item and member on a line of its own, indented by two spaces a
-    /// level (`value_trait::Writable::write_pp`).
+    /// level. Port of `value_trait::Writable::write_pp`.
     ///
     /// The recursion is as deep as the value nests.
     ///

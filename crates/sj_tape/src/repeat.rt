@@ -29,7 +29,7 @@ pub struct Repeat<'i> {
 }
 
 impl<'i> Repeat<'i> {
-    // Returns what is found, seen from one level further out, where the path grows from the innermost part on.
+    // Adds the part that leads to what was found from one level further out. The path is built from its end.
     fn inside(mut self, part: RepeatPart<'i>) -> Result<Option<Repeat<'i>>, AllocError>
         ensures { IfOk result (λ found. option_map growing found ≡ Some (part_view part.entry ∷ (growing self.entry).0, (growing self.entry).1)) }
     {

@@ -118,7 +118,7 @@ impl<'t, 'i> Value<'t, 'i> {
     ///
     /// # Errors
     ///
-    /// An error with the expected type and the type of the value, if it isn't an array.
+    /// `TryTypeError` if the value isn't an array. The expected type is `Array`.
     pub fn try_as_array(&self) -> Result<Array<'t, 'i>, TryTypeError>
         ensures tree { ok_items result ≡ ok_or (items_in (value_tree self.now))
             (mismatch ValueType.Array (value_kind self.now)) }
@@ -134,7 +134,7 @@ impl<'t, 'i> Value<'t, 'i> {
     ///
     /// # Errors
     ///
-    /// An error with the expected type and the type of the value, if it isn't an object.
+    /// `TryTypeError` if the value isn't an object. The expected type is `Object`.
     pub fn try_as_object(&self) -> Result<Object<'t, 'i>, TryTypeError>
         ensures tree { ok_members result ≡ ok_or (members_in (value_tree self.now))
             (mismatch ValueType.Object (value_kind self.now)) }
@@ -223,7 +223,7 @@ impl<'t, 'i> Value<'t, 'i> {
     ///
     /// # Errors
     ///
-    /// An error with the expected type and the type of the value, if it isn't an object.
+    /// `TryTypeError` if the value isn't an object. The expected type is `Object`.
     pub fn try_get(&self, name: &str) -> Result<Option<Value<'t, 'i>>, TryTypeError>
         ensures tree { found_tree result
             ≡ ok_or (option_map (λ ms. member_at ms name.now) (members_in (value_tree self.now)))
@@ -240,7 +240,7 @@ impl<'t, 'i> Value<'t, 'i> {
     ///
     /// # Errors
     ///
-    /// An error with the expected type and the type of the value, if it isn't an array.
+    /// `TryTypeError` if the value isn't an array. The expected type is `Array`.
     pub fn try_get_idx(&self, index: usize) -> Result<Option<Value<'t, 'i>>, TryTypeError>
         ensures tree { found_tree result
             ≡ ok_or (option_map (λ ts. item_at ts index) (items_in (value_tree self.now)))
@@ -258,8 +258,8 @@ impl<'t, 'i> Value<'t, 'i> {
     ///
     /// # Errors
     ///
-    /// An error with the expected type and the type of the value, if the value isn't an object, or with the type of the
-    /// member, if that isn't an array.
+    /// `TryTypeError` if the value isn't an object, with the expected type `Object`, or if the member isn't an array, with
+    /// `Array`.
     pub fn try_get_array(&self, name: &str) -> Result<Option<Array<'t, 'i>>, TryTypeError>
         ensures tree { found_items result ≡ try_member items_in ValueType.Array self.now name.now }
         ensures nodes { IfOk result (λ found. option_map array_part_of found
@@ -275,8 +275,8 @@ impl<'t, 'i> Value<'t, 'i> {
     ///
     /// # Errors
     ///
-    /// An error with the expected type and the type of the value, if the value isn't an object, or with the type of the
-    /// member, if that isn't an object.
+    /// `TryTypeError` if the value isn't an object, with the expected type `Object`, or if the member isn't an object, with
+    /// `Object`.
     pub fn try_get_object(&self, name: &str) -> Result<Option<Object<'t, 'i>>, TryTypeError>
         ensures tree { found_members result ≡ try_member members_in ValueType.Object self.now name.now }
         ensures nodes { IfOk result (λ found. option_map object_part_of found

@@ -1,7 +1,7 @@
 //! One module for each crate, and one for the shared types.
 //!
-//! What a test owns is handed to `drop`, which is proved once. A value that goes out of scope has to be proved let go in each form
-//! of it, at each place where the function returns.
+//! What a test owns is handed to `drop`, which is proved once. Of a value that goes out of scope each form is proved to be
+//! dropped, at each place where the function returns.
 mod counts;
 mod nodes;
 mod objects;

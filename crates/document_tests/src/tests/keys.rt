@@ -121,12 +121,12 @@ fn look_up_in_no_object(rt: HostRuntime) {
     drop(null);
 }
 
-// Whether a copy of a key, which is let go, equals another one.
+// Whether a copy of a key, which is dropped, equals another one. Unlike `is_equal` it takes keys of two lifetimes.
 fn is_copy(copy: KnownKey<'_>, key: &KnownKey<'_>) -> bool {
     copy == *key
 }
 
-// Whether a key equals another one, which is let go.
+// The same with the other one dropped.
 fn is_key(key: &KnownKey<'_>, other: KnownKey<'_>) -> bool {
     *key == other
 }

@@ -2,7 +2,9 @@
 ghost use Rattle.std.specs.Prelude.{◌≡◌, Some, OnOk, OnErr};
 ghost use Rattle.sj_lazy.specs.Contents.{own_document};
 
-use super::{borrowed_of, expect_at, expect_bytes, expect_eq, expect_that, is_made, number_in};
+use super::{
+    borrowed_of, expect_at, expect_bytes, expect_eq, expect_that, is_equal, is_made, number_in,
+};
 use sj_base::{AccessError, StaticNode, TryCopy, TryTypeError, ValueType};
 use sj_lazy::{Held, LazyComparand, Value};
 use sj_owned::{OwnedValue, SameAs};
@@ -88,7 +90,7 @@ fn expect_form(rt: &impl Abort, value: &Value<'_, '_, '_>, is_tape: bool) {
 
 fn insert_new(rt: &impl Abort, alloc: Global, value: &mut Value<'_, '_, '_>) {
     let inserted = value.insert(alloc, CowStr::Borrowed("new"), BorrowedValue::from(42u64));
-    expect_that(rt, "a new key", is_nothing(inserted));
+    expect_that(rt, "a new key", answers_nothing(inserted));
 }
 
 // Inserts a member into {"key": "value", "snot": 42}.
@@ -173,11 +175,11 @@ fn upgrade_keeps_types(rt: HostRuntime) {
 
 // Writes to the value 7, which has no parts.
 fn expect_no_parts(rt: &impl Abort, alloc: Global, value: &mut Value<'_, '_, '_>) {
-    expect_that(rt, "no array", is_nothing(value.as_array_mut(alloc)));
+    expect_that(rt, "no array", answers_nothing(value.as_array_mut(alloc)));
     expect_that(rt, "a document", value.is_value());
-    expect_that(rt, "no object", is_nothing(value.as_object_mut(alloc)));
-    expect_that(rt, "no member", is_nothing(value.get_mut(alloc, "a")));
-    expect_that(rt, "no item", is_nothing(value.get_idx_mut(alloc, 0)));
+    expect_that(rt, "no object", answers_nothing(value.as_object_mut(alloc)));
+    expect_that(rt, "no member", answers_nothing(value.get_mut(alloc, "a")));
+    expect_that(rt, "no item", answers_nothing(value.get_idx_mut(alloc, 0)));
 }
 
 // Takes parts away from it.
@@ -441,10 +443,10 @@ fn insert_null(rt: &impl Abort, alloc: Global, value: &mut Value<'_, '_, '_>) {
     let members = value.as_object_mut(alloc).expect(rt, "memory");
     let members = members.expect(rt, "an object");
     let inserted = members.insert(CowStr::Borrowed("k"), BorrowedValue::null());
-    expect_that(rt, "a new key", is_nothing(inserted));
+    expect_that(rt, "a new key", answers_nothing(inserted));
 }
 
-fn is_nothing<T: Drop, E: Drop>(answer: Result<Option<T>, E>) -> bool {
+fn answers_nothing<T: Drop, E: Drop>(answer: Result<Option<T>, E>) -> bool {
     matches!(answer, Ok(None))
 }
 
@@ -603,10 +605,6 @@ fn made_of_containers(rt: HostRuntime) {
     expect_some(&rt, alloc, Value::from_owned(alloc, owned), "3");
 }
 
-fn is_equal<T: PartialEq + Drop>(value: T, other: T) -> bool {
-    value == other
-}
-
 // A tape equals the document of the same bytes, which keeps the first of two equal keys.
 #[test]
 fn equal_to_its_document(rt: HostRuntime) {
@@ -616,7 +614,7 @@ fn equal_to_its_document(rt: HostRuntime) {
     let tape = tape_of(&rt, rt.alloc(), left);
     let value = lazy_of(&rt, &tape);
     let document = borrowed_of(&rt, rt.alloc(), right);
-    expect_that(&rt, "the document", is_equal(value, Value::from(document)));
+    expect_that(&rt, "the document", is_equal(&value, Value::from(document)));
 }
 
 // Compares a tape with another value, and then its document.

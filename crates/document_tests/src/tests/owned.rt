@@ -35,7 +35,7 @@ fn number(n: u64) -> Value {
 
 const SAMPLE: &str = r#"{"n":1,"s":"x","a":[1],"o":{}}"#;
 
-// Whether a value, which is let go, is the same as one of another type.
+// Whether a value, which is dropped, is the same as one of another type.
 fn is_same<T: SameAs<U> + Drop, U>(value: T, other: &U) -> bool {
     value.same_as(other)
 }

@@ -41,7 +41,7 @@ const UNSEEN_DOCUMENTS: [(&str, &str); 5] = [
     ("\t[1 ,2\r, {} ]\t\r", "[1,2,{}]"),
 ];
 
-// Looks for the record of a document by itself, and behind 1 to 130 spaces.
+// Looks for the record of a document by itself, and after 1 to 130 spaces.
 fn check_document(rt: &impl Abort, alloc: Global, line: &str, text: &str) {
     let record = record_of(rt, alloc, text);
     let mut lines = Stream::new(alloc);

@@ -1,4 +1,4 @@
-//! The first fault of a line, kind by kind, and of the same line behind spaces.
+//! The first fault of a line, kind by kind, and of the same line after spaces.
 use super::{LIMIT, MOST_SPACES, Stream, split_row};
 use std::alloc::{AllocError, Global};
 use std::process::Abort;
@@ -17,7 +17,7 @@ fn record_of_fault(
     }
 }
 
-// Looks for the record of a line, and for its records behind 1 to 130 spaces. The index moves along.
+// Looks for the record of a line, and for its records after 1 to 130 spaces. The index moves along.
 fn compare_line(
     rt: &impl Abort,
     alloc: Global,
@@ -75,7 +75,7 @@ time "a => Syntax
  => Eof
   => Eof"#;
 
-// A byte that begins no value, as the root, behind a colon and behind a comma in an array.
+// A byte that begins no value, as the root, after a colon and after a comma in an array.
 const WHERE_NO_VALUE_BEGINS: &str = r#"
 : => InternalError 0 :
 ] => InternalError 0 ]
@@ -99,7 +99,7 @@ True => InternalError 0 T
 [1,: => InternalError 3 :
 [1, ÿ] => InternalError 4 Ã"#;
 
-// Behind the bracket that begins an array, and behind an item.
+// After the bracket that begins an array, and after an item.
 const IN_ARRAYS: &str = r#"
 [,1] => ExpectedArrayContent 1 ,
 [} => ExpectedArrayContent 1 }
@@ -210,7 +210,7 @@ const OF_SURROGATES: &str = r#"
 ["\ud83d\ude00\ude00"] => InvalidUnicodeCodepoint 14 \\
 ["A\u0041\ud83d"] => InvalidUnicodeCodepoint 9 \\"#;
 
-// A token is left behind the root: the fault stands at a scalar, or at a container's closing bracket.
+// A token is left after the root: the fault stands at a scalar, or at a container's closing bracket.
 const BEHIND_THE_ROOT: &str = r#"
 1 2 => TrailingData 0 1
 -1.5] => TrailingData 0 -

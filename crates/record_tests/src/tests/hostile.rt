@@ -138,7 +138,7 @@ fn first_key_again(rt: HostRuntime) {
     }
 }
 
-// A line that is cut behind each of its bytes.
+// A line that is cut after each of its bytes.
 const CUT: &str = r#"
  => {"error":"Eof","index":0,"character":null}
 { => {"error":"Syntax","index":0,"character":"{"}
@@ -190,7 +190,7 @@ fn add_cuts(rt: &impl Abort, stream: &mut Vec<u8>, line: &[u8]) {
     }
 }
 
-// The worked lines, each cut behind each of its bytes.
+// The worked lines, each cut after each of its bytes.
 fn cuts(rt: &impl Abort, alloc: Global) -> Vec<u8> {
     let mut stream = Vec::new(alloc);
     for row in ROWS.lines().skip(1) {

@@ -44,7 +44,7 @@ fn expect_with(
     expect_at(rt, &(stream, form), output.as_slice(), records.as_bytes());
 }
 
-// Two runs of three lines, with a run of no line behind each.
+// Two runs of three lines, with a run of no line after each.
 fn run_twice(rt: &impl Abort, alloc: Global, form: Form) {
     let mut buffers = Buffers::with_max_depth(alloc, 0, 1).expect(rt, "memory");
     let script = r#"[["push",[],[]],["push",[],3]]"#;
@@ -67,7 +67,7 @@ fn streams_in_the_same_buffers(rt: HostRuntime) {
     }
 }
 
-// Looks for the record of a reload of repeated keys, and for the positions behind it.
+// Looks for the record of a reload of repeated keys, and for the positions after it.
 fn expect_positions(rt: &impl Abort, alloc: Global, form: Form, record: &str, positions: &[u32]) {
     let mut buffers = Buffers::new(alloc, 0).expect(rt, "memory");
     let script = r#"[["reload"],["len",[]]]"#;

@@ -276,7 +276,7 @@ fn helps(rt: HostRuntime) {
     }
 }
 
-// Looks for the first bytes of a text, in an output that fails behind them.
+// Looks for the first bytes of a text, in an output that fails after them.
 fn expect_write_fault(
     rt: &impl Abort,
     alloc: Global,
@@ -349,7 +349,7 @@ fn refuses_scripts(rt: HostRuntime) {
     }
 }
 
-// Looks for the records of lines, and for the flush behind them.
+// Looks for the records of lines, and for the flush after them.
 fn expect_flushed(rt: &impl Abort, alloc: Global, lines: &str, records: &str) {
     let mut output = Narrow::new(alloc, usize::MAX, false);
     let want = (0, records.as_bytes(), "");

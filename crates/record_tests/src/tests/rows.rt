@@ -33,7 +33,7 @@ time => {"error":"ExpectedTrue","index":0,"character":"t"}
 [-0, 1.50] => {"replies":[],"document":[0,1.50]}"#;
 
 // Lines whose strings end at the edge of a block of 64 bytes. In the first, bytes 63 and 64 are backslashes, and a bracket
-// stands in the string behind them. In the second, byte 63 is a backslash and byte 64 the quote that it escapes.
+// stands in the string after them. In the second, byte 63 is a backslash and byte 64 the quote that it escapes.
 pub(super) const ACROSS_BLOCKS: [&str; 2] = [
     r#"["aaaaaaaaaaaaaaaaaaaaaaaaaaaaaaaaaaaaaaaaaaaaaaaaaaaaaaaaaaaaa\\]"]"#,
     r#"["aaaaaaaaaaaaaaaaaaaaaaaaaaaaaaaaaaaaaaaaaaaaaaaaaaaaaaaaaaaaa\"]"]"#,
@@ -87,7 +87,7 @@ fn of_worked_lines(rt: HostRuntime) {
     streams.all.check_reloads(&rt, rt.alloc(), LIMIT);
 }
 
-// Adds a line behind each number of spaces up to 130, with the same record.
+// Adds a line after each number of spaces up to 130, with the same record.
 fn add_behind_spaces(rt: &impl Abort, lines: &mut Stream, line: &[u8], record: &str) {
     for spaces in 1..=MOST_SPACES {
         lines.add(rt, spaces, line, record);

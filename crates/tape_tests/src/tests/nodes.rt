@@ -149,7 +149,7 @@ impl Write for Narrow {
     }
 }
 
-// Fails where the value can be written behind these three bytes.
+// Fails where the value can be written after these three bytes.
 fn expect_no_room(
     rt: &impl Abort,
     alloc: Global,

@@ -147,7 +147,7 @@ fn put_numbered(rt: &impl Abort, alloc: Global, object: &mut Object<String, u64>
     }
 }
 
-// The order of these keys, where the first stands behind the others.
+// The order of these keys, where the first stands after the others.
 fn expect_order(rt: &impl Abort, alloc: Global, object: &Object<String, u64>) {
     let mut keys = String::new(alloc);
     show_keys(rt, &mut keys, object);
@@ -156,7 +156,7 @@ fn expect_order(rt: &impl Abort, alloc: Global, object: &Object<String, u64>) {
     expect_text(rt, keys, order);
 }
 
-// One of these keys is removed and put back behind the others.
+// One of these keys is removed and put back after the others.
 fn expect_at_the_end(rt: &impl Abort, alloc: Global, object: &mut Object<String, u64>) {
     expect_eq(rt, object.remove("k0"), Some(0));
     expect_eq(rt, object.get("k32"), Some(&32));

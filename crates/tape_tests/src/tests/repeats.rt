@@ -13,7 +13,7 @@ fn push_part(rt: &impl Abort, path: &mut String, part: &RepeatPart<'_>) {
     pushed.expect(rt, "memory");
 }
 
-// The path to a key that is repeated, and the key behind it, with slashes between. Without one it is `none`.
+// The path to a key that is repeated, and the key after it, with slashes between. Without one it is `none`.
 fn path_of(rt: &impl Abort, alloc: Global, repeat: Option<Repeat<'_>>) -> String {
     let mut path = String::new(alloc);
     match repeat {

@@ -38,7 +38,7 @@ fn positions(rt: HostRuntime) {
     }
 }
 
-// Texts with something to find near the end of a block, once they stand behind spaces, and the lines of the worked rows but
+// Texts with something to find near the end of a block, once they stand after spaces, and the lines of the worked rows but
 // the object of forty members, which `forty_members` makes.
 const TEXTS: &str = r#"1
 ""
@@ -94,7 +94,7 @@ null
 {"key":1}
 {:}[,]{:}[,]{:}[,]{:}[,]{:}[,]{:}[,]{:}[,]{:}[,]{:}[,]{:}[,]{:}[,]{:}[,]{:}[,]"#;
 
-// Scans a text up to each of its bytes, behind each number of spaces up to two blocks.
+// Scans a text up to each of its bytes, after each number of spaces up to two blocks.
 fn scan_prefixes(rt: &impl Abort, alloc: Global, text: &[u8]) {
     let mut spaced = Vec::new(alloc);
     spaced.resize(130, b' ').expect(rt, "memory");

@@ -50,7 +50,7 @@ fn scalars(rt: HostRuntime) {
     expect_scalar(&rt, alloc, &Scalar::Literal(literal), "1.50");
 }
 
-// The pieces alone: no value stands behind the key, and no item in the list.
+// The pieces alone: no value stands after the key, and no item in the list.
 fn put_pieces(out: &mut Vec<u8>) -> Result<(), AllocError> {
     let mut object = Layout::Indented(0).open_object(out)?;
     object.key("a", out)?;

@@ -215,14 +215,14 @@ fn second_text_of_a_kind(rt: HostRuntime) -> Result<(), Fail> {
     Ok(())
 }
 
-// [] with bytes behind it, each of which is `byte`, `size` bytes in all.
+// [] with bytes after it, each of which is `byte`, `size` bytes in all.
 fn padded(alloc: Global, size: usize, byte: u8) -> Result<Vec<u8>, AllocError> {
     let mut text = b"[]".to_vec(alloc)?;
     text.resize(size, byte)?;
     Ok(text)
 }
 
-// Reads [] with 64 of these bytes behind it.
+// Reads [] with 64 of these bytes after it.
 fn expect_empty_array(rt: &impl Abort, alloc: Global, buffers: &mut Buffers, byte: u8) {
     let mut text = padded(alloc, 66, byte).expect(rt, "memory");
     let mut tape = Tape::empty(alloc);
