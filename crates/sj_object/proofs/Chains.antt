@@ -184,19 +184,6 @@ chained_next heads ls ks i d within have is =
     (length-take-le i ls (omega (arith, within)))
     (chained_put heads (take i ls) (take i ks) (get_or ks i []) hash own is))
 
--- ---- the keys of pairs
-
-module _ {K V : Type 0} (text : K → List ℕ) where
-  keys_of-map : (es : List (Entry K V)) → keys_of text es ≡ map (λ (e : Entry K V). text e.key) es
-  keys_of-map [] = refl
-  keys_of-map (e ∷ es) = ap (λ ks. text e.key ∷ ks) (keys_of-map es)
-
-  pub keys_of-remove : (es : List (Entry K V)) (i : ℕ) → remove (keys_of text es) i ≡ keys_of text (remove es i)
-  keys_of-remove es i = ap (λ ks. remove ks i) (keys_of-map es) ∙ sym (map-remove (λ (e : Entry K V). text e.key) es i) ∙ sym (keys_of-map (remove es i))
-
-  pub keys_of-insert : (es : List (Entry K V)) (i : ℕ) (e : Entry K V) → insert (keys_of text es) i (text e.key) ≡ keys_of text (insert es i e)
-  keys_of-insert es i e = ap (λ ks. insert ks i (text e.key)) (keys_of-map es) ∙ sym (map-insert (λ (e : Entry K V). text e.key) es i e) ∙ sym (keys_of-map (insert es i e))
-
 -- ---- look-ups
 
 module _ {K V : Type 0} (text : K → List ℕ) (es : List (Entry K V)) (h : ℕ) (k : List ℕ) where

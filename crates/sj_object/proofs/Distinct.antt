@@ -1,7 +1,7 @@
 -- The keys stay distinct.
 use Rattle.std.proofs.Common.{◌≡◌, ℕ, zero, suc, false, List, [], ◌∷◌, ◌++◌, get_or, set, length, refl, ap, ◌∙◌, inl, inr}
 use Rattle.std.specs.Prelude.{bytes_eq}
-use Rattle.std.specs.List.{insert}
+use Rattle.std.specs.List.{insert, remove}
 use Rattle.std.proofs.lemmas.List.Edits.{insert_end}
 use Rattle.std.specs.Cmp.Lexicographic.{nat_list_eq_equiv}
 use Rattle.std.proofs.lemmas.Bool.{cases_Bool, or_parts, or_from}
@@ -35,6 +35,12 @@ module _ {K V : Type 0} (text : K → List ℕ) where
   keys_of-insert [] (suc i) e = refl
   keys_of-insert (x ∷ es) zero e = refl
   keys_of-insert (x ∷ es) (suc i) e = ap (λ l. text x.key ∷ l) (keys_of-insert es i e)
+
+  pub keys_of-remove : (es : List (Entry K V)) (i : ℕ) → keys_of text (remove es i) ≡ remove (keys_of text es) i
+  keys_of-remove [] zero = refl
+  keys_of-remove [] (suc i) = refl
+  keys_of-remove (x ∷ es) zero = refl
+  keys_of-remove (x ∷ es) (suc i) = ap (λ l. text x.key ∷ l) (keys_of-remove es i)
 
   -- a pair with a new key may stand anywhere
   pub distinct_insert : (es : List (Entry K V)) (i : ℕ) (e : Entry K V) → AreDistinct (keys_of text es) → has_text (keys_of text es) (text e.key) ≡ false → AreDistinct (keys_of text (insert es i e))

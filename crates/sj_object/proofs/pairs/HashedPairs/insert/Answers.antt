@@ -1,9 +1,9 @@
-use Rattle.std.proofs.Common.{List, subst, ap, sym, ◌∙◌, arith}
+use Rattle.std.proofs.Common.{ℕ, List, subst, ap, sym, ◌∙◌, arith}
 use Rattle.sj_object.specs.Hash.{text_hash}
 use Rattle.sj_object.specs.Pairs.{keys_of}
-use Rattle.sj_object.specs.declared.entry.Entry.{Entry}
 use Rattle.sj_object.specs.inside.Chains.{IsTable}
-use Rattle.sj_object.proofs.Chains.{length-keys_of, keys_of-insert}
+use Rattle.sj_object.proofs.Chains.{length-keys_of}
+use Rattle.sj_object.proofs.Distinct.{keys_of-insert}
 use Rattle.sj_object.proofs.pairs.HashedPairs.insert.Goals as goal
 
 pub insert-requires-clause-within : goal.insert-requires-clause-within
@@ -23,5 +23,5 @@ returns-clause-table g c =
     let entry = c.args.entry in
     let own = c.hash_key.ensures ∙ ap text_hash c.as_text.ensures in
     subst (IsTable c.insert.new.self)
-    (keys_of-insert text es c.args.place entry ∙ ap (keys_of text) (sym {A = List (Entry g.row.K.Denot g.row.V.Denot)} c.insert_reserved.ensures.items))
+    (sym {A = List (List ℕ)} (ap (keys_of text) c.insert_reserved.ensures.items ∙ keys_of-insert text es c.args.place entry))
     (c.insert.ensures (keys_of text es) (text entry.key) c.requires.table own)

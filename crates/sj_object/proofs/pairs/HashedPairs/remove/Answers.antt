@@ -1,9 +1,9 @@
-use Rattle.std.proofs.Common.{List, subst, ap, sym, ◌∙◌, length, arith}
+use Rattle.std.proofs.Common.{ℕ, List, subst, ap, sym, ◌∙◌, length, arith}
 use Rattle.std.proofs.lemmas.Bool.{ltb-true}
 use Rattle.sj_object.specs.Pairs.{keys_of}
-use Rattle.sj_object.specs.declared.entry.Entry.{Entry}
 use Rattle.sj_object.specs.inside.Chains.{IsTable}
-use Rattle.sj_object.proofs.Chains.{length-keys_of, keys_of-remove}
+use Rattle.sj_object.proofs.Chains.{length-keys_of}
+use Rattle.sj_object.proofs.Distinct.{keys_of-remove}
 use Rattle.sj_object.proofs.pairs.HashedPairs.remove.Goals as goal
 
 pub remove-requires-clause-within : goal.remove-requires-clause-within
@@ -18,5 +18,5 @@ returns-clause-table g c =
     let text = g.K.ObjectKey.text in
     let es = c.args.self.now.entries.items in
     subst (IsTable c.remove.new.self)
-    (keys_of-remove text es c.args.place ∙ ap (keys_of text) (sym {A = List (Entry g.row.K.Denot g.row.V.Denot)} c.remove-2.ensures.items))
+    (sym {A = List (List ℕ)} (ap (keys_of text) c.remove-2.ensures.items ∙ keys_of-remove text es c.args.place))
     (c.remove.ensures (keys_of text es) c.requires.table)
