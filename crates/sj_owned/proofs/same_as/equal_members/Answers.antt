@@ -17,3 +17,6 @@ returns g c =
     let none : c.loop-key.key-iterator ≡ [] = search rules in
     let all = c.loop-key.invariant.2.0 (subst (λ es. EqualsFound equals es ms) (sym none) tt) in
     ((λ t. (many ∙ sym c.len.ensures.len ∙ c.if-len.false ∙ c.len-2.ensures.len, all)), (λ h. refl))
+
+pub loop-key-preserved : goal.loop-key-preserved
+loop-key-preserved g c = search rules
