@@ -16,7 +16,7 @@ use Rattle.sj_owned.specs.Edits.{without_member, without_last, last_of}
 use Rattle.sj_owned.specs.Views.{value_tree, items_view, members_view, items_inside, members_inside}
 use Rattle.sj_owned.specs.declared.value.Value.{Value, Object}
 use Rattle.sj_owned.proofs.Layers.{tree-Object}
-use Rattle.sj_owned.proofs.Members.{value_member}
+use Rattle.sj_build.proofs.Members.{value_member}
 use Rattle.sj_documents.specs.Inverse.{drop_member, set_member, put_member, drop_item, put_member_at, place_of, place_in, place_at, changed}
 use Rattle.sj_documents.specs.inside.Documents.{is_taken}
 use Rattle.sj_documents.proofs.Edits.{members-inside, items-inside, count_members, removed, popped}

@@ -15,7 +15,7 @@ use Rattle.sj_base.specs.declared.fault.AccessError.TheVariants as AccessError
 use Rattle.sj_object.specs.Pairs.{value_at}
 use Rattle.sj_owned.specs.Edits.{with_member, without_member, without_last, last_of}
 use Rattle.sj_owned.specs.Parts.{member_of}
-use Rattle.sj_owned.proofs.Members.{value_member}
+use Rattle.sj_build.proofs.Members.{value_member}
 use Rattle.sj_documents.specs.Step.{if_fits, reply_of, insertion, removal, popping}
 use Rattle.sj_documents.proofs.Changes.{same_ok}
 

@@ -12,7 +12,7 @@ use Rattle.sj_owned.specs.Views.{value_tree, items_view, array_inside, members_i
 use Rattle.sj_owned.specs.inside.Lending.{made_of_items, made_of_members}
 use Rattle.sj_owned.specs.declared.value.Value.{Value, Array, Object}
 use Rattle.sj_owned.proofs.Layers.{tree-Array}
-use Rattle.sj_owned.proofs.Members.{value_member}
+use Rattle.sj_build.proofs.Members.{value_member}
 use Rattle.sj_owned.proofs.Writes.{tree_of_members, object_set, array_set}
 use Rattle.sj_scripts.specs.Command.{◌>>=◌}
 use Rattle.sj_documents.specs.Step.{Word, Rewrite, part_at, reply_of, write_at}

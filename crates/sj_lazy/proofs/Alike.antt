@@ -10,7 +10,7 @@ use Rattle.sj_base.specs.Tree.{Tree, list, object, Items, no_items, item, Member
 use Rattle.sj_base.proofs.Keeping.{member_at-keep}
 use Rattle.sj_base.proofs.Keys.{same_key}
 use Rattle.sj_owned.specs.Compare.{kept_alike}
-use Rattle.sj_owned.specs.Trees.{items_of}
+use Rattle.sj_build.specs.Trees.{items_of}
 use Rattle.sj_lazy.specs.Contents.{Contents, Value, contents}
 use Rattle.sj_lazy.specs.Views.{contents_tree, lazy_tree}
 use Rattle.sj_lazy.specs.inside.Comparing.{next_alike, among, first_keys, all_found}

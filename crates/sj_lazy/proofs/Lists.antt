@@ -3,7 +3,7 @@ use Rattle.std.proofs.Common.{◌≡◌, ℕ, suc, List, [], ◌∷◌, length, 
 use Rattle.std.proofs.lemmas.Simd.{map-map}
 use Rattle.sj_base.specs.Containers.{items_len, members_len, item_trees, member_pairs}
 use Rattle.sj_base.specs.Tree.{Tree}
-use Rattle.sj_owned.specs.Trees.{items_of, members_of, on_values}
+use Rattle.sj_build.specs.Trees.{items_of, members_of, on_values}
 use Rattle.sj_object.specs.declared.entry.Entry.{Entry}
 
 module _ {V : Type 0} (tree : V → Tree) where

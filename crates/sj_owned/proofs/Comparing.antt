@@ -12,7 +12,7 @@ use Rattle.sj_base.specs.Alike.{alike, alike_items, alike_members, keys_within}
 use Rattle.sj_base.proofs.KeyCounts.{no_more, no_other_key}
 use Rattle.sj_object.specs.Pairs.{keys_of, value_at, has_text, AreDistinct}
 use Rattle.sj_object.specs.declared.entry.Entry.{Entry}
-use Rattle.sj_owned.specs.Trees.{items_of, members_of, on_values}
+use Rattle.sj_build.specs.Trees.{items_of, members_of, on_values}
 use Rattle.sj_owned.specs.inside.Comparing.{Compares}
 
 -- the items that are kept

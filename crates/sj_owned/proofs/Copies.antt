@@ -10,7 +10,7 @@ use Rattle.sj_object.specs.Copies.{copied_pairs}
 use Rattle.sj_object.specs.Pairs.{keys_of, value_at, put_key, has_text, AreDistinct}
 use Rattle.sj_object.specs.declared.entry.Entry.{Entry}
 use Rattle.sj_owned.specs.Copies.{text_leaf, on_leaf, leaves}
-use Rattle.sj_owned.specs.Trees.{items_of, members_of, on_values}
+use Rattle.sj_build.specs.Trees.{items_of, members_of, on_values}
 use Rattle.sj_owned.specs.Views.{value_tree}
 use Rattle.sj_owned.specs.inside.Copying.{Kept, kept_key, kept_value, converted}
 use Rattle.sj_owned.specs.declared.value.Value.{Value, Array, Object, the_lemmas}

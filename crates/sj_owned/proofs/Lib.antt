@@ -2,13 +2,6 @@ pub mod Layers
 pub mod Edits
 pub mod Writes
 pub mod Pieces
-pub mod Kept
-pub mod MetKeys
-pub mod Placed
-pub mod Stacks
-pub mod Members
-pub mod Reading
-pub mod Steps
 pub mod Copies
 pub mod Comparing
 pub mod Made

@@ -3,7 +3,7 @@ use Rattle.std.proofs.Common.{◌≡◌, suc, List, [], ◌∷◌, length, map, 
 use Rattle.std.specs.List.{AllZip}
 use Rattle.sj_base.specs.Tree.{Tree}
 use Rattle.sj_base.specs.Containers.{item_trees}
-use Rattle.sj_owned.specs.Trees.{items_of}
+use Rattle.sj_build.specs.Trees.{items_of}
 
 module _ {U V : Type 0} (equals : U → Tree → Type 0) (tree : V → Tree) where
   -- each value equals the tree at its place

@@ -1,4 +1,3 @@
-pub mod Trees
 pub mod Views
 pub mod Compare
 pub mod Display
@@ -7,9 +6,6 @@ pub mod SameAs
 pub mod Parts
 pub mod Edits
 pub mod Lends
-pub mod Reading
-pub mod Steps
-pub mod Deserializers
 pub mod Copies
 pub mod Examples
 pub mod inside

@@ -6,7 +6,7 @@ use Rattle.sj_base.specs.Scalar.{static_tree, static_type}
 use Rattle.sj_base.specs.declared.static_node.ValueType.{ValueType}
 use Rattle.sj_base.specs.declared.static_node.ValueType.TheVariants.{Decimal as decimal_type, String as string_type, Array as array_type, Object as object_type}
 use Rattle.sj_object.specs.declared.entry.Entry.{Entry}
-use Rattle.sj_owned.specs.Trees.{items_of, members_of, on_values}
+use Rattle.sj_build.specs.Trees.{items_of, members_of, on_values}
 use Rattle.sj_owned.specs.declared.value.Value.{Value, fold-Value, out-Value}
 use Rattle.sj_owned.specs.declared.value.Value.TheOpen.{Value-F}
 

@@ -6,13 +6,11 @@
 #![tactic(auto)]
 
 mod access;
-mod build;
 mod built;
 mod compare;
 mod convert;
 mod copy;
 mod depth;
-mod deserializer;
 mod display;
 mod edit;
 mod encode;
@@ -21,15 +19,11 @@ mod index;
 mod lend;
 mod literal;
 pub mod owned;
-mod read;
 mod same_as;
 mod value;
 
-pub use build::{build_tape, build_value};
-pub use built::BuildValue;
 pub use convert::from_borrowed;
 pub use copy::CopyLiteral;
-pub use deserializer::ValueDeserializer;
 pub use display::FormatterOutput;
 pub use from::FromString;
 pub use lend::{LendsMembers, LendsParts, MutableValue};
@@ -38,6 +32,8 @@ pub use owned::{
     OwnedDeserializer, Value as OwnedValue, to_value as to_owned_value,
     to_value_with_buffers as to_owned_value_with_buffers,
 };
-pub use read::{deserialize, deserialize_with_buffers};
 pub use same_as::{Comparand, SameAs};
+pub use sj_build::{
+    BuildValue, ValueDeserializer, build_tape, build_value, deserialize, deserialize_with_buffers,
+};
 pub use value::Value;

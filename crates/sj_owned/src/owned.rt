@@ -6,12 +6,11 @@ ghost use Rattle.sj_base.specs.declared.TheConstants.{DEFAULT_MAX_DEPTH};
 ghost use Rattle.sj_base.specs.declared.error.ErrorType.TheVariants.{InputTooLarge};
 ghost use Rattle.sj_parse.specs.Fault.{generic};
 ghost use Rattle.sj_parse.specs.Answers.{Leaves, buffer_texts, buffer_positions, buffer_limit, buffer_room};
-ghost use Rattle.sj_owned.specs.Reading.{AnswersKept};
+ghost use Rattle.sj_build.specs.Reading.{AnswersKept};
 ghost use Rattle.sj_owned.specs.Views.{value_tree};
 
-use crate::deserializer::ValueDeserializer;
-use crate::read::{deserialize, deserialize_with_buffers};
 use sj_base::DecimalBuf;
+use sj_build::{ValueDeserializer, deserialize, deserialize_with_buffers};
 use sj_parse::{Buffers, Result};
 use std::alloc::Global;
 

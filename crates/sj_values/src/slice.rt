@@ -3,7 +3,7 @@ ghost use Rattle.std.specs.Prelude.{◌≡◌, ◌↔◌, ◌+◌, ◌<◌, ◌�
 ghost use Rattle.std.specs.Cow.{cow_str_bytes};
 ghost use Rattle.sj_base.specs.Scalar.{decimal_cow_text};
 ghost use Rattle.sj_tape.specs.Views.{value_nodes};
-ghost use Rattle.sj_owned.specs.Steps.{Takes};
+ghost use Rattle.sj_build.specs.Steps.{Takes};
 ghost use Rattle.sj_owned.specs.Views.{value_tree};
 
 use crate::borrowed::Value;

@@ -4,7 +4,7 @@ use Rattle.sj_tape.specs.Views.{value_nodes, value_tree as view_tree}
 use Rattle.sj_owned.specs.Views.{value_tree}
 use Rattle.std.specs.Cow.{cow_str_bytes}
 use Rattle.sj_base.specs.Scalar.{decimal_cow_text}
-use Rattle.sj_owned.proofs.Steps.{takes, fits}
+use Rattle.sj_build.proofs.Steps.{takes, fits}
 use Rattle.sj_values.specs.Slices.{slice_nodes, slice_next}
 use Rattle.sj_values.proofs.slice.BorrowSliceDeserializer.parse.Goals as goal
 

@@ -1,0 +1,5 @@
+pub mod Trees
+pub mod Reading
+pub mod Steps
+pub mod Deserializers
+pub mod inside

@@ -1,5 +1,0 @@
-use Rattle.std.proofs.Common.{rules}
-use Rattle.sj_owned.proofs.deserializer.ValueDeserializer.from_deserializer.Goals as goal
-
-pub returns : goal.returns
-returns g c = search rules
