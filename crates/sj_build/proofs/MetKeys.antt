@@ -1,10 +1,11 @@
 -- A member that is added has its key met, and no other key.
 use Rattle.std.proofs.Common.{◌≡◌, Bool, true, false, cond, ◌||◌, ◌<◌, ℕ, zero, suc, List, [], ◌∷◌, length, get_or, set, bytes_eq, Option, Some, None, IfSome, refl, sym, ap, ◌∙◌}
 use Rattle.std.proofs.lemmas.Bool.{false≢true}
-use Rattle.std.proofs.lemmas.List.{get_or-set_same}
+use Rattle.std.proofs.lemmas.List.{get_or-set_same, length-set}
 use Rattle.std.proofs.lemmas.Slice.Eq.{bytes_eq-Decides}
 use Rattle.sj_base.specs.Tree.{Tree, Members}
-use Rattle.sj_build.specs.inside.Kept.{has_key, with_last, add_member, mark_of}
+use Rattle.sj_build.specs.inside.Kept.{Knows, has_key, with_last, add_member, mark_of}
+use Rattle.sj_build.specs.declared.build.MetKeys.{MetKeys}
 use Rattle.sj_build.proofs.Kept.{has_key-with_last}
 
 or-cond : (a b : Bool) → (a || b) ≡ cond b true a
@@ -44,10 +45,18 @@ module _ (marks : List Bool) (ms : Members) (k : List ℕ) (t : Tree) (within : 
   marked_at false other has = stays_marked marks (mark_of k) (mark_of q) (old q has)
 
   -- with its mark, the added key is marked as those before it are
-  pub marked : has_key (add_member ms k t) q ≡ true → get_or (set marks (mark_of k) true) (mark_of q) false ≡ true
+  marked : has_key (add_member ms k t) q ≡ true → get_or (set marks (mark_of k) true) (mark_of q) false ≡ true
   marked has = marked_at (bytes_eq k q) refl (sym (has_key-add_member ms k t q) ∙ has)
 
 -- nothing is said of keys that are not listed
-pub unlisted : {A : Type 0} (P : A → Type 0) (o : Option A) → o ≡ None → IfSome o P
+unlisted : {A : Type 0} (P : A → Type 0) (o : Option A) → o ≡ None → IfSome o P
 unlisted P None none = tt
 unlisted P (Some x) none = absurd cc
+
+-- where no set lists the keys, the mark of the added key is all that changes
+pub marked_knows : (met : MetKeys) (ms : Members) (k : List ℕ) (t : Tree) (i : ℕ) → met.listed ≡ None → Knows met ms → i ≡ mark_of k → i < length met.marks → Knows (record met { marks = set met.marks i true }) (add_member ms k t)
+marked_knows met ms k t i none knows is within = (
+  unlisted _ met.listed none,
+  length-set met.marks i true ∙ knows.1,
+  λ same q has. rw is (marked met.marks ms k t (rw is at within) (knows.2 none) q has),
+)

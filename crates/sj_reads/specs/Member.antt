@@ -34,8 +34,13 @@ found_scalar _ = None
 abbrev pub result_some : {A : Type 0} → Result A TryTypeError → Result (Option A) TryTypeError
 result_some r = ok_map Some r
 
--- the result of a read of the member: `None` if there is no such member, and an error if it is of another type
+-- What a read of the member answers, where `read` is what it makes of the scalar that was found: `None` if there is no such
+-- member, and an error if it is of another type.
+abbrev pub answered : {A : Type 0} → Option A → ValueType → Result (Option Seen) TryTypeError → Result (Option A) TryTypeError
+answered read expected (Ok (Some m)) = result_some (ok_or read (mismatch expected m.kind))
+answered read expected (Ok None) = Ok None
+answered read expected (Err e) = Err e
+
+-- the same, by how a scalar is read
 abbrev pub try_found : {A : Type 0} → (Option Tree → Option A) → ValueType → Result (Option Seen) TryTypeError → Result (Option A) TryTypeError
-try_found read expected (Ok (Some m)) = result_some (ok_or (read m.scalar) (mismatch expected m.kind))
-try_found read expected (Ok None) = Ok None
-try_found read expected (Err e) = Err e
+try_found read expected found = answered (read (found_scalar found)) expected found

@@ -3,7 +3,7 @@ ghost use Rattle.std.specs.Prelude.{◌≡◌, ℕ, List, Option, option_map};
 ghost use Rattle.sj_base.specs.Scalar.{decimal_text, scalar_tree};
 ghost use Rattle.sj_reads.specs.Reads.{bool_read, signed_read, unsigned_read, str_read, decimal_read};
 ghost use Rattle.sj_reads.specs.Views.{found_text, found_literal};
-ghost use Rattle.sj_reads.specs.Member.{Seen, seen_result, looked_up, found_scalar, try_found};
+ghost use Rattle.sj_reads.specs.Member.{Seen, seen_result, looked_up, found_scalar, answered, try_found};
 
 use crate::found::Member;
 use crate::read::*;
@@ -16,6 +16,21 @@ fn found_scalar(found: Result<Option<Member<'_>>, TryTypeError>) -> Option<Scala
     match found {
         Ok(Some(member)) => member.scalar,
         _ => None,
+    }
+}
+
+// What a read of a member answers, where `read` is what it makes of the member's scalar.
+fn answer<T: Drop>(
+    found: Result<Option<Member<'_>>, TryTypeError>,
+    read: Option<T>,
+    expected: ValueType,
+) -> Result<Option<T>, TryTypeError>
+    ensures { result ≡ answered read expected (seen_result found.entry) }
+{
+    match found {
+        Ok(Some(member)) => or_mismatch(read, expected, member.kind).map(Some),
+        Ok(None) => Ok(None),
+        Err(error) => Err(error),
     }
 }
 
@@ -302,10 +317,8 @@ impl<T: HasMembers> ValueGetScalar for T {
     }
 
     fn try_get_bool(&self, key: &str) -> Result<Option<bool>, TryTypeError> {
-        let Some(member) = self.try_get_member(key)? else {
-            return Ok(None);
-        };
-        or_mismatch(read_bool(member.scalar), ValueType::Bool, member.kind).map(Some)
+        let found = self.try_get_member(key);
+        answer(found, read_bool(found_scalar(found)), ValueType::Bool)
     }
 
     fn get_i8(&self, key: &str) -> Option<i8> {
@@ -313,10 +326,8 @@ impl<T: HasMembers> ValueGetScalar for T {
     }
 
     fn try_get_i8(&self, key: &str) -> Result<Option<i8>, TryTypeError> {
-        let Some(member) = self.try_get_member(key)? else {
-            return Ok(None);
-        };
-        or_mismatch(read_i8(member.scalar), ValueType::I64, member.kind).map(Some)
+        let found = self.try_get_member(key);
+        answer(found, read_i8(found_scalar(found)), ValueType::I64)
     }
 
     fn get_i16(&self, key: &str) -> Option<i16> {
@@ -324,10 +335,8 @@ impl<T: HasMembers> ValueGetScalar for T {
     }
 
     fn try_get_i16(&self, key: &str) -> Result<Option<i16>, TryTypeError> {
-        let Some(member) = self.try_get_member(key)? else {
-            return Ok(None);
-        };
-        or_mismatch(read_i16(member.scalar), ValueType::I64, member.kind).map(Some)
+        let found = self.try_get_member(key);
+        answer(found, read_i16(found_scalar(found)), ValueType::I64)
     }
 
     fn get_i32(&self, key: &str) -> Option<i32> {
@@ -335,10 +344,8 @@ impl<T: HasMembers> ValueGetScalar for T {
     }
 
     fn try_get_i32(&self, key: &str) -> Result<Option<i32>, TryTypeError> {
-        let Some(member) = self.try_get_member(key)? else {
-            return Ok(None);
-        };
-        or_mismatch(read_i32(member.scalar), ValueType::I64, member.kind).map(Some)
+        let found = self.try_get_member(key);
+        answer(found, read_i32(found_scalar(found)), ValueType::I64)
     }
 
     fn get_i64(&self, key: &str) -> Option<i64> {
@@ -346,10 +353,8 @@ impl<T: HasMembers> ValueGetScalar for T {
     }
 
     fn try_get_i64(&self, key: &str) -> Result<Option<i64>, TryTypeError> {
-        let Some(member) = self.try_get_member(key)? else {
-            return Ok(None);
-        };
-        or_mismatch(read_i64(member.scalar), ValueType::I64, member.kind).map(Some)
+        let found = self.try_get_member(key);
+        answer(found, read_i64(found_scalar(found)), ValueType::I64)
     }
 
     fn get_i128(&self, key: &str) -> Option<i128> {
@@ -357,10 +362,8 @@ impl<T: HasMembers> ValueGetScalar for T {
     }
 
     fn try_get_i128(&self, key: &str) -> Result<Option<i128>, TryTypeError> {
-        let Some(member) = self.try_get_member(key)? else {
-            return Ok(None);
-        };
-        or_mismatch(read_i128(member.scalar), ValueType::I64, member.kind).map(Some)
+        let found = self.try_get_member(key);
+        answer(found, read_i128(found_scalar(found)), ValueType::I64)
     }
 
     fn get_u8(&self, key: &str) -> Option<u8> {
@@ -368,10 +371,8 @@ impl<T: HasMembers> ValueGetScalar for T {
     }
 
     fn try_get_u8(&self, key: &str) -> Result<Option<u8>, TryTypeError> {
-        let Some(member) = self.try_get_member(key)? else {
-            return Ok(None);
-        };
-        or_mismatch(read_u8(member.scalar), ValueType::U64, member.kind).map(Some)
+        let found = self.try_get_member(key);
+        answer(found, read_u8(found_scalar(found)), ValueType::U64)
     }
 
     fn get_u16(&self, key: &str) -> Option<u16> {
@@ -379,10 +380,8 @@ impl<T: HasMembers> ValueGetScalar for T {
     }
 
     fn try_get_u16(&self, key: &str) -> Result<Option<u16>, TryTypeError> {
-        let Some(member) = self.try_get_member(key)? else {
-            return Ok(None);
-        };
-        or_mismatch(read_u16(member.scalar), ValueType::U64, member.kind).map(Some)
+        let found = self.try_get_member(key);
+        answer(found, read_u16(found_scalar(found)), ValueType::U64)
     }
 
     fn get_u32(&self, key: &str) -> Option<u32> {
@@ -390,10 +389,8 @@ impl<T: HasMembers> ValueGetScalar for T {
     }
 
     fn try_get_u32(&self, key: &str) -> Result<Option<u32>, TryTypeError> {
-        let Some(member) = self.try_get_member(key)? else {
-            return Ok(None);
-        };
-        or_mismatch(read_u32(member.scalar), ValueType::U64, member.kind).map(Some)
+        let found = self.try_get_member(key);
+        answer(found, read_u32(found_scalar(found)), ValueType::U64)
     }
 
     fn get_u64(&self, key: &str) -> Option<u64> {
@@ -401,10 +398,8 @@ impl<T: HasMembers> ValueGetScalar for T {
     }
 
     fn try_get_u64(&self, key: &str) -> Result<Option<u64>, TryTypeError> {
-        let Some(member) = self.try_get_member(key)? else {
-            return Ok(None);
-        };
-        or_mismatch(read_u64(member.scalar), ValueType::U64, member.kind).map(Some)
+        let found = self.try_get_member(key);
+        answer(found, read_u64(found_scalar(found)), ValueType::U64)
     }
 
     fn get_u128(&self, key: &str) -> Option<u128> {
@@ -412,10 +407,8 @@ impl<T: HasMembers> ValueGetScalar for T {
     }
 
     fn try_get_u128(&self, key: &str) -> Result<Option<u128>, TryTypeError> {
-        let Some(member) = self.try_get_member(key)? else {
-            return Ok(None);
-        };
-        or_mismatch(read_u128(member.scalar), ValueType::U64, member.kind).map(Some)
+        let found = self.try_get_member(key);
+        answer(found, read_u128(found_scalar(found)), ValueType::U64)
     }
 
     fn get_usize(&self, key: &str) -> Option<usize> {
@@ -423,10 +416,8 @@ impl<T: HasMembers> ValueGetScalar for T {
     }
 
     fn try_get_usize(&self, key: &str) -> Result<Option<usize>, TryTypeError> {
-        let Some(member) = self.try_get_member(key)? else {
-            return Ok(None);
-        };
-        or_mismatch(read_usize(member.scalar), ValueType::U64, member.kind).map(Some)
+        let found = self.try_get_member(key);
+        answer(found, read_usize(found_scalar(found)), ValueType::U64)
     }
 
     fn get_str(&self, key: &str) -> Option<&str> {
@@ -434,10 +425,8 @@ impl<T: HasMembers> ValueGetScalar for T {
     }
 
     fn try_get_str(&self, key: &str) -> Result<Option<&str>, TryTypeError> {
-        let Some(member) = self.try_get_member(key)? else {
-            return Ok(None);
-        };
-        or_mismatch(read_str(member.scalar), ValueType::String, member.kind).map(Some)
+        let found = self.try_get_member(key);
+        answer(found, read_str(found_scalar(found)), ValueType::String)
     }
 
     fn get_decimal(&self, key: &str) -> Option<Decimal<'_>> {
@@ -445,9 +434,7 @@ impl<T: HasMembers> ValueGetScalar for T {
     }
 
     fn try_get_decimal(&self, key: &str) -> Result<Option<Decimal<'_>>, TryTypeError> {
-        let Some(member) = self.try_get_member(key)? else {
-            return Ok(None);
-        };
-        or_mismatch(read_decimal(member.scalar), ValueType::Decimal, member.kind).map(Some)
+        let found = self.try_get_member(key);
+        answer(found, read_decimal(found_scalar(found)), ValueType::Decimal)
     }
 }

@@ -67,8 +67,7 @@ impl<'i> Tape<'i> {
         ensures nodes { IfOk result (λ tape. tape_nodes tape ≡ Node.Static StaticNode.Null ∷ []) }
         ensures tree { IfOk result (λ tape. tape_tree tape ≡ Some null) }
     {
-        let mut nodes = Vec::new(alloc);
-        nodes.push(Node::Static(StaticNode::Null))?;
+        let nodes = Vec::from_array(alloc, [Node::Static(StaticNode::Null)])?;
         Ok(Tape::from_listing(nodes))
     }
 

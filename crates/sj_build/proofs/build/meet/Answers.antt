@@ -1,9 +1,8 @@
 use Rattle.std.proofs.Common.{true, false, cond, get_or, sym, ap, ap₂, ◌∙◌, arith, rules}
-use Rattle.std.proofs.lemmas.List.{length-set}
 use Rattle.std.proofs.lemmas.Map.Text.{is_eq-slice_cmp}
 use Rattle.sj_build.specs.Trees.{members_of, on_values}
 use Rattle.sj_build.specs.inside.Kept.{has_key, mark_of}
-use Rattle.sj_build.proofs.MetKeys.{has_key-add_member, marked, not_met, unlisted}
+use Rattle.sj_build.proofs.MetKeys.{has_key-add_member, marked_knows, not_met}
 use Rattle.sj_build.proofs.Members.{has_member}
 use Rattle.sj_build.proofs.build.meet.Goals as goal
 
@@ -38,21 +37,9 @@ returns-else-is_marked-clause-found g c =
 pub returns-then-is_marked-clause-knows : goal.returns-then-is_marked-clause-knows
 returns-then-is_marked-clause-knows g c =
     let ms = members_of g.K.ObjectKey.text (on_values g.V.BuildValue.tree c.args.members.now) in
-    let key = c.args.key.now in
-    let marks = c.args.met.now.marks in
-    λ t. (
-      unlisted _ c.args.met.now.listed c.in-None.is,
-      length-set marks c.mark_of-mark.result true ∙ c.requires.1,
-      λ none k has. rw c.mark_of-mark.ensures.mark (marked marks ms key t (omega (arith, c.mark_of-mark.ensures.mark, c.mark_of-mark.ensures.within, c.requires.1)) (c.requires.2 none) k has),
-    )
+    λ t. marked_knows c.args.met.now ms c.args.key.now t c.mark_of-mark.result c.in-None.is c.requires c.mark_of-mark.ensures.mark (omega (arith, c.mark_of-mark.ensures.within, c.requires.1))
 
 pub returns-else-is_marked-clause-knows : goal.returns-else-is_marked-clause-knows
 returns-else-is_marked-clause-knows g c =
     let ms = members_of g.K.ObjectKey.text (on_values g.V.BuildValue.tree c.args.members.now) in
-    let key = c.args.key.now in
-    let marks = c.args.met.now.marks in
-    λ t. (
-      unlisted _ c.args.met.now.listed c.in-None.is,
-      length-set marks c.mark_of-mark.result true ∙ c.requires.1,
-      λ none k has. rw c.mark_of-mark.ensures.mark (marked marks ms key t (omega (arith, c.mark_of-mark.ensures.mark, c.mark_of-mark.ensures.within, c.requires.1)) (c.requires.2 none) k has),
-    )
+    λ t. marked_knows c.args.met.now ms c.args.key.now t c.mark_of-mark.result c.in-None.is c.requires c.mark_of-mark.ensures.mark (omega (arith, c.mark_of-mark.ensures.within, c.requires.1))
