@@ -34,3 +34,12 @@ returns-clause-runs c = λ s readable printed stands.
 
 pub returns-clause-texts : goal.returns-clause-texts
 returns-clause-texts c = subst (λ (bytes : List ℕ). HasRead c.args.buffers.now c.read_tape.new.buffers (bytes ∷ [])) c.deref_mut.ensures.value c.in-Ok.ensures.texts
+
+pub returns-in-Err-Memory-clause-limit : goal.returns-in-Err-Memory-clause-limit
+returns-in-Err-Memory-clause-limit c = c.read_tape.ensures.limit
+
+pub returns-in_err-left-clause-limit : goal.returns-in_err-left-clause-limit
+returns-in_err-left-clause-limit c = c.read_tape.ensures.limit
+
+pub returns-clause-limit : goal.returns-clause-limit
+returns-clause-limit c = c.read_tape.ensures.limit

@@ -1,4 +1,4 @@
-use Rattle.std.proofs.Common.{◌≡◌, ℕ, List, Result, inl, ap, sym, ◌∙◌}
+use Rattle.std.proofs.Common.{◌≡◌, ℕ, List, Result, inl, ap, sym, ◌∙◌, rules}
 use Rattle.std.proofs.lemmas.Result.{err_from_is_err_and}
 use Rattle.sj_base.specs.Tree.{Tree}
 use Rattle.sj_scripts.specs.declared.script.ScriptFault.{ScriptFault}
@@ -31,3 +31,6 @@ returns-clause-ok c =
 pub invariant_of-result : goal.invariant_of-result
 invariant_of-result c =
     record { is_accepted = ∣ (c.args.bytes.now, read_as c.args.bytes.now (owned_tree c.in_ok-document.document) _ c.in_ok-document.ensures.answers c.in_ok-commands.ensures) ∣₁ }
+
+pub returns-in_err-document-clause-refused : goal.returns-in_err-document-clause-refused
+returns-in_err-document-clause-refused c = search rules
