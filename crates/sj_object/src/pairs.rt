@@ -202,7 +202,7 @@ impl<K: ObjectKey, V> HashedPairs<K, V> {
     {
         self.entries.reserve(1)?;
         if !self.table.has_room() {
-            self.table = Table::of(*self.entries.allocator(), &self.entries)?;
+            self.table.make_room(self.entries.capacity())?;
         }
         Ok(())
     }

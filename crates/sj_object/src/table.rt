@@ -3,7 +3,7 @@
 //! The hash of a key says in which chain its pair stands. A chain begins at its newest pair, and each link leads to the pair that
 //! came before it. Where a pair has the hash that is looked for, the texts of the keys decide. A new pair goes to the head of its
 //! chain, which takes one step however many keys share its hash.
-ghost use Rattle.std.specs.Prelude.{◌≡◌, ◌+◌, ◌<◌, ◌≤◌, ℕ, List, [], ◌∷◌, ◌++◌, length, set, true, Some, None, IfSome, IfOk};
+ghost use Rattle.std.specs.Prelude.{◌≡◌, ◌+◌, ◌<◌, ◌≤◌, ℕ, List, [], ◌∷◌, ◌++◌, length, set, true, Some, None, IfSome, IfOk, OnOk};
 ghost use Rattle.std.specs.List.{insert, remove};
 ghost use Rattle.std.specs.Vec.{vec_capacity};
 ghost use Rattle.sj_object.specs.Hash.{text_hash};
@@ -108,6 +108,18 @@ impl Table {
         }
     }
 
+    // Makes room for this many pairs, which are more than there are.
+    pub(crate) fn make_room(&mut self, pairs: usize) -> Result<(), AllocError>
+        requires { length self.old.links.items < pairs }
+        ensures table { (ks : List (List ℕ)) → IsTable self.old ks → IsTable self.new ks }
+        ensures room { OnOk result (HasRoomFor pairs self.new) }
+    {
+        self.links.reserve_exact(pairs - self.links.len())?;
+        self.heads.resize(pairs, None)?;
+        self.relink();
+        Ok(())
+    }
+
     // Puts a pair into the table at a place. The places of the pairs after it go up by one.
     pub(crate) fn insert(&mut self, place: usize, hash: u64)
         requires within { place ≤ length self.old.links.items }
@@ -132,7 +144,9 @@ impl Table {
     // Makes the chains anew, of the hashes that the table keeps.
     fn relink(&mut self)
         requires { 0 < length self.old.heads.items }
-        ensures { (ks : List (List ℕ)) → HaveHashes self.old.links.items ks → IsTable self.new ks }
+        ensures table { (ks : List (List ℕ)) → HaveHashes self.old.links.items ks → IsTable self.new ks }
+        ensures heads { 0 < length self.new.heads.items }
+        ensures room { vec_capacity self.new.links ≡ vec_capacity self.old.links }
     {
         self.heads.fill(None);
         for place in 0..self.links.len() {

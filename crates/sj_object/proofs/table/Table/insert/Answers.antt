@@ -10,7 +10,7 @@ returns c = λ ks k is own.
     let old = c.args.self.now in
     let at = c.args.place in
     let hash = λ (l : Link). l.hash in
-    c.relink.ensures (insert ks at k)
+    c.relink.ensures.table (insert ks at k)
     (ap (map hash) c.insert_reserved.ensures.items
     ∙ map-insert hash old.links.items at (record { hash = c.args.hash; next = None })
     ∙ ap₂ (λ hs h. insert hs at h) (have_hashes old.heads.items old.links.items ks is) own

@@ -15,7 +15,7 @@ pub loop-place-init : goal.loop-place-init
 loop-place-init c =
     let heads = c.fill.new.self in
     let some : 0 < length heads.items = omega (arith, c.fill.ensures.len, c.requires) in
-    (some, refl, λ ks have. (have, (lt-ltb 0 (length heads.items) some, refl, λ p k none. absurd cc)))
+    (some, refl, refl, λ ks have. (have, (lt-ltb 0 (length heads.items) some, refl, λ p k none. absurd cc)))
 
 pub loop-place-preserved : goal.loop-place-preserved
 loop-place-preserved c =
@@ -33,16 +33,17 @@ loop-place-preserved c =
     let new : record_of x.hash c.replace.result ≡ record_of link.hash (head_of heads link.hash) = ap (λ h. record_of h c.replace.result) hash ∙ ap (record_of link.hash) next in (
       omega (arith, length-set heads c.home-home.result c.replace.new.dest, c.loop-place.invariant.0),
       length-set links i (record_of x.hash c.replace.result) ∙ c.loop-place.invariant.1,
+      c.loop-place.invariant.2,
       λ ks have.
-          let old = c.loop-place.invariant.2 ks have in (
+          let old = c.loop-place.invariant.3 ks have in (
             map-set_same (λ (l : Link). l.hash) links i (record_of x.hash c.replace.result) x hash ∙ old.0,
             rw (at, c.replace.ensures.after, new) (chained_next heads links ks i x within old.0 old.1),
           ),
     )
 
-pub returns : goal.returns
-returns c = λ ks have.
-    let is = c.loop-place.invariant.2 ks have in
+pub returns-clause-table : goal.returns-clause-table
+returns-clause-table c = λ ks have.
+    let is = c.loop-place.invariant.3 ks have in
     let links = c.loop-place.self.links.items in
     let i = c.loop-place.place in
     let all = take_all i links (omega (arith, c.loop-place-test.false, c.len-place-end.ensures, c.loop-place.invariant.1)) in

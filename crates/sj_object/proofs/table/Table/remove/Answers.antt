@@ -10,7 +10,7 @@ returns c = λ ks is.
     let old = c.args.self.now in
     let at = c.args.place in
     let hash = λ (l : Link). l.hash in
-    c.relink.ensures (remove ks at)
+    c.relink.ensures.table (remove ks at)
     (ap (map hash) c.remove.ensures.items
     ∙ map-remove hash old.links.items at
     ∙ ap (λ hs. remove hs at) (have_hashes old.heads.items old.links.items ks is)
