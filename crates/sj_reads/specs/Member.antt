@@ -34,13 +34,13 @@ found_scalar _ = None
 abbrev pub result_some : {A : Type 0} → Result A TryTypeError → Result (Option A) TryTypeError
 result_some r = ok_map Some r
 
--- What a read of the member answers, where `read` is what it makes of the scalar that was found: `None` if there is no such
--- member, and an error if it is of another type.
+-- What a read by key answers: `None` if there is no such member, and an error if the value is no object or the member is of
+-- another type. `read` is what the read makes of the member's scalar.
 abbrev pub answered : {A : Type 0} → Option A → ValueType → Result (Option Seen) TryTypeError → Result (Option A) TryTypeError
 answered read expected (Ok (Some m)) = result_some (ok_or read (mismatch expected m.kind))
 answered read expected (Ok None) = Ok None
 answered read expected (Err e) = Err e
 
--- the same, by how a scalar is read
+-- The same, where `read` is a function of the scalar.
 abbrev pub try_found : {A : Type 0} → (Option Tree → Option A) → ValueType → Result (Option Seen) TryTypeError → Result (Option A) TryTypeError
 try_found read expected found = answered (read (found_scalar found)) expected found

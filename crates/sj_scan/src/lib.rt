@@ -1,7 +1,8 @@
 //! Stage one of reading JSON: it finds the positions of a text, the byte offsets at which its tokens begin.
 //!
-//! A token is an operator, a string, or any other byte with the bytes up to the next whitespace, operator or the end,
-//! valid JSON or not. A quote in such a run begins a token of its own, unless an odd number of backslashes stands before it.
+//! A token begins at an operator, at a quote that opens a string, and, valid JSON or not, at any other byte outside strings
+//! that is no whitespace and stands first, or after whitespace, an operator or a quote. A quote opens or closes a string,
+//! unless an odd number of backslashes stands before it.
 //! A scan also tests the text as a whole: it must be UTF-8, with each string closed, no control character in a string, and
 //! at least one token.
 //!

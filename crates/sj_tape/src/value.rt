@@ -1,5 +1,5 @@
 //! Views of the values of a tape.
-ghost use Rattle.std.specs.Prelude.{◌≡◌, ◌<◌, ◌++◌, List, Some, IfOk, IfSome, drop, is_some, length, ok_or, option_and_then, option_map};
+ghost use Rattle.std.specs.Prelude.{◌≡◌, ◌<◌, ◌++◌, List, [], Some, IfOk, IfSome, drop, is_some, length, ok_or, option_and_then, option_map};
 ghost use Rattle.sj_base.specs.Containers.{items_in, members_in, scalar_in};
 ghost use Rattle.sj_base.specs.Tree.{Tree, null, IsValidTree};
 ghost use Rattle.sj_base.specs.Path.{key, place, member_at, item_at, child};
@@ -33,6 +33,7 @@ impl<'t, 'i> Value<'t, 'i> {
     /// Creates a null that is in no tape.
     #[tactic(auto, unfolding(crate::specs::Listed::tree_of, crate::specs::Listed::listed_tree))]
     pub fn null() -> Value<'t, 'i>
+        ensures nodes { value_nodes result ≡ [] }
         ensures tree { value_tree result ≡ null }
         ensures kind { value_kind result ≡ ValueType.Null }
     {

@@ -1,4 +1,4 @@
-//! One module for each crate, and one for the shared types.
+//! One module for each subject.
 //!
 //! What a test owns is handed to `drop`, which is proved once. Of a value that goes out of scope each form is proved to be
 //! dropped, at each place where the function returns.
