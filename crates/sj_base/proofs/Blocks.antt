@@ -1,9 +1,9 @@
 -- Blocks of bytes that are tested for bytes that need an escape.
-use Rattle.std.proofs.Common.{◌≡◌, ℕ, suc, ◌+◌, ◌-◌, ◌%◌, ◌^◌, ◌≤◌, ◌<◌, Bool, true, false, cond, ◌==◌, ◌||◌, ◌&&◌, inl, inr, List, [], ◌∷◌, ◌++◌, take, drop, set, append_assoc, map, length, get_or, replicate, bit_or, Fits, w8, flat_map, refl, sym, ap, ap₂, ◌∙◌, arith, rules}
-use Rattle.std.specs.Prelude.{IsTrue, nat_lt, slice_range}
-use Rattle.std.proofs.lemmas.Bool.{agree_below, agree_below_at, false≢true, cases_lt}
+use Rattle.std.proofs.Common.{◌≡◌, ℕ, suc, ◌+◌, ◌-◌, ◌%◌, ◌^◌, ◌≤◌, ◌<◌, Bool, true, false, cond, ◌==◌, ◌||◌, inl, inr, List, [], ◌∷◌, ◌++◌, take, drop, set, append_assoc, map, length, get_or, replicate, bit_or, Fits, w8, flat_map, refl, sym, ap, ap₂, ◌∙◌, arith, rules}
+use Rattle.std.specs.Prelude.{nat_lt, slice_range}
+use Rattle.std.proofs.lemmas.Bool.{agree_below, agree_below_at, cases_lt}
 use Rattle.std.proofs.lemmas.Simd.{length-chunk, zip2_splat, zip2_of_maps, map-map, mask_l-mod, none_from_empty_mask}
-use Rattle.std.proofs.lemmas.List.{length-map, take-append-drop, take-take, take-set-le, take-append-le, length-set, get_or-take, take_at, take_all, drop-take, length-take-le, length-append}
+use Rattle.std.proofs.lemmas.List.{length-map, take-append-drop, take-take, take-set-le, get_or-take, take_at, take_all, drop-take, length-take-le, length-append}
 use Rattle.std.proofs.lemmas.List.Concat.{flat_map-append}
 use lib.Lanes.{chunk, mask_l, zip2, top}
 use Rattle.sj_base.specs.Text.{escaped}
@@ -89,12 +89,10 @@ plain_whole [] h = refl
 plain_whole (x ∷ xs) h = ap₂ (λ (a b : List ℕ). a ++ b) (h 0 (omega arith) (omega arith)) (plain_whole xs (λ k p q. h (suc k) (omega arith) (omega arith)))
 
 -- one more block whose bytes need no escape
-pub plain_more_block : (text : List ℕ) (done n : ℕ) (a b : Bool) → (IsTrue a → IsPlain text 0 done) → (IsTrue b → IsPlain text done (done + n)) → IsTrue (a && b) → IsPlain text 0 (done + n)
-plain_more_block text done n false b before after h = absurd (false≢true h)
-plain_more_block text done n true false before after h = absurd (false≢true h)
-plain_more_block text done n true true before after h = λ k from to. elim (cases_lt k done) [
-  | inl low ↦ before refl k from low
-  | inr high ↦ after refl k high to
+pub plain_more_block : (text : List ℕ) (done n : ℕ) → IsPlain text 0 done → IsPlain text done (done + n) → IsPlain text 0 (done + n)
+plain_more_block text done n before after k from to = elim (cases_lt k done) [
+  | inl low ↦ before k from low
+  | inr high ↦ after k high to
 ]
 
 -- the last block of a text of which `done` bytes stand behind the first `at` bytes of a buffer
@@ -115,17 +113,20 @@ more_placed old text buf placed at done n shown stored =
     let place : at + (done + n) ≡ at + done + n = omega arith in
     ap (λ (k : ℕ). take k placed) place ∙ stored ∙ block_more (take at old) text (take (at + done) buf) done n shown
 
+-- The bytes before a place stay where others are stored from there on.
+pub kept_before : (old new xs : List ℕ) (at n : ℕ) → at ≤ length old → at ≤ n → take n new ≡ take at old ++ xs → take at new ≡ take at old
+kept_before old new xs at n room ordered stored =
+    sym (take-take at n new ordered)
+    ∙ ap (λ (ys : List ℕ). take at ys) stored
+    ∙ take_at (take at old) xs at (length-take-le at old room)
+
 -- The text of a buffer stays where only its room is written: a quote, some bytes and a quote.
-pub kept_front : (buf placed text : List ℕ) (len : ℕ) → len < length buf → take (len + 1 + length text) placed ≡ take (len + 1) (set buf len 0x22) ++ text → take len (set placed (len + 1 + length text) 0x22) ≡ take len buf
-kept_front buf placed text len room stored =
-    let opened = set buf len 0x22 in
-    let within : len + 1 ≤ length opened = omega (arith, room, length-set buf len 0x22) in
-    let front : len ≤ length (take (len + 1) opened) = omega (arith, length-take-le (len + 1) opened within) in
-    take-set-le len placed (len + 1 + length text) 0x22 (omega arith)
-    ∙ sym (take-take len (len + 1 + length text) placed (omega arith))
-    ∙ ap (λ (xs : List ℕ). take len xs) stored
-    ∙ take-append-le len (take (len + 1) opened) text front
-    ∙ take-take len (len + 1) opened (omega arith)
+pub kept_front : (buf placed : List ℕ) (len end : ℕ) → len < end → take (len + 1) placed ≡ take (len + 1) (set buf len 0x22) → take len (set placed end 0x22) ≡ take len buf
+kept_front buf placed len end behind kept =
+    take-set-le len placed end 0x22 (omega arith)
+    ∙ sym (take-take len (len + 1) placed (omega arith))
+    ∙ ap (λ (xs : List ℕ). take len xs) kept
+    ∙ take-take len (len + 1) (set buf len 0x22) (omega arith)
     ∙ take-set-le len buf len 0x22 (omega arith)
 
 -- a run without escapes, and the bytes behind it

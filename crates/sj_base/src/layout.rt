@@ -16,7 +16,7 @@ ghost use Rattle.sj_base.specs.Text.{quoted};
 ghost use Rattle.sj_base.specs.Layout.{level_of, inside, line_start, colon, opened_list, opened_object, filled, before_next, before_value, end_text};
 
 use crate::output::Output;
-use crate::put::{print_break, print_string};
+use crate::put::{print_break, print_pieces, print_string};
 
 /// A layout of JSON text.
 #[derive(Clone, Copy, Debug)]
@@ -94,8 +94,19 @@ impl Layout {
     fn print_key<O: Output>(self, key: &str, out: &mut O) -> Result<(), O::Fault>
         ensures { Prints O.appends O.begins result out.old out.new (quoted key.now ++ colon self) }
     {
-        print_string(out, key)?;
+        self.print_quoted_key(key, out)?;
         self.print_colon(out)
+    }
+
+    // Prints the key between quotes. In the compact layout `put_plain_key` has declined it, so `put_plain` isn't asked.
+    #[inline(always)]
+    fn print_quoted_key<O: Output>(self, key: &str, out: &mut O) -> Result<(), O::Fault>
+        ensures { Prints O.appends O.begins result out.old out.new (quoted key.now) }
+    {
+        match self {
+            Layout::Compact => print_pieces(out, key),
+            Layout::Indented(_) => print_string(out, key),
+        }
     }
 
     #[inline(always)]

@@ -47,7 +47,7 @@ pub trait Output {
     /// appends nothing and returns `false`.
     ///
     /// This is what stands before a member's value in the compact layout. `true` is for keys in which no byte needs an
-    /// escape, as with [`put_plain`](Output::put_plain).
+    /// escape, as with [`put_plain`](Output::put_plain). After `false` the key is printed by [`put`](Output::put) alone.
     ///
     /// # Errors
     ///

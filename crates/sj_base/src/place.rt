@@ -1,4 +1,4 @@
-//! Stores bytes at a place of a slice, in pieces of a fixed size, each of which is one load and one store.
+//! Stores bytes at a place of a slice, most of them in pieces of a fixed size, each of which is one load and one store.
 //!
 //! Each piece is also tested for bytes that need an escape. A text is one piece, or several that overlap.
 ghost use Rattle.std.specs.Prelude.{◌≡◌, ◌+◌, ◌≤◌, ◌<◌, ◌++◌, [], ◌∷◌, length, take, slice_range, IsTrue, flat_map};
@@ -9,7 +9,8 @@ ghost use Rattle.sj_base.specs.inside.Plain.{IsPlain};
 
 use std::simd::Simd;
 
-// Stores the text between quotes, and returns whether it is known that no byte of it needs an escape.
+// Stores the text between quotes and returns `true`, or returns `false` if a byte of it may need an escape. What is stored
+// then is of no use.
 #[inline(always)]
 pub(crate) fn place_quoted(buf: &mut [u8], at: usize, text: &[u8]) -> bool
     requires { at + (length text.now + 2) ≤ length buf.old }
@@ -20,13 +21,13 @@ pub(crate) fn place_quoted(buf: &mut [u8], at: usize, text: &[u8]) -> bool
 {
     let end = at + 1 + text.len();
     buf[at] = b'"';
-    let plain = place_text(buf, at + 1, text);
+    let plain = place_plain(buf, at + 1, text);
     buf[end] = b'"';
     plain
 }
 
-// Stores the key between quotes, with a comma before it if `with_comma` and a colon after it, and returns whether it is
-// known that no byte of it needs an escape. A comma that isn't wanted is overwritten.
+// Stores the key between quotes, with a comma before it if `with_comma` and a colon after it, and returns `true`, or returns
+// `false` if a byte of the key may need an escape. A comma that isn't wanted is overwritten.
 #[inline(always)]
 pub(crate) fn place_plain_key(buf: &mut [u8], at: usize, with_comma: bool, key: &[u8]) -> bool
     requires { at + (length key.now + 4) ≤ length buf.old }
@@ -42,19 +43,70 @@ pub(crate) fn place_plain_key(buf: &mut [u8], at: usize, with_comma: bool, key: 
     plain
 }
 
+// Stores the text.
+#[inline(always)]
+pub(crate) fn place_text(buf: &mut [u8], at: usize, text: &[u8])
+    requires { at + length text.now ≤ length buf.old }
+    ensures front { take (at + length text.now) buf.new ≡ take at buf.old ++ text.now }
+    ensures len { length buf.new ≡ length buf.old }
+{
+    if text.len() > 32 {
+        buf[at..at + text.len()].copy_from_slice(text);
+    } else {
+        place_short(buf, at, text);
+    }
+}
+
+// Stores the text and returns `true`, or returns `false` if a byte of it may need an escape. What is stored then is of no
+// use.
+#[inline(always)]
+fn place_plain(buf: &mut [u8], at: usize, text: &[u8]) -> bool
+    requires { at + length text.now ≤ length buf.old }
+    ensures kept { take at buf.new ≡ take at buf.old }
+    ensures len { length buf.new ≡ length buf.old }
+    ensures front { IsTrue result → take (at + length text.now) buf.new ≡ take at buf.old ++ text.now }
+    ensures plain { IsTrue result → flat_map escaped text.now ≡ text.now }
+{
+    if text.len() > 32 {
+        place_plain_long(buf, at, text)
+    } else {
+        place_short(buf, at, text)
+    }
+}
+
+// Stops at the first block with a byte that may need an escape.
+#[tactic(auto, using(crate::proofs::Blocks::plain_whole))]
+fn place_plain_long(buf: &mut [u8], at: usize, text: &[u8]) -> bool
+    requires long { 32 < length text.now }
+    requires room { at + length text.now ≤ length buf.old }
+    ensures kept { take at buf.new ≡ take at buf.old }
+    ensures len { length buf.new ≡ length buf.old }
+    ensures front { IsTrue result → take (at + length text.now) buf.new ≡ take at buf.old ++ text.now }
+    ensures plain { IsTrue result → flat_map escaped text.now ≡ text.now }
+{
+    let last = text.len() - 32;
+    let mut done = 0;
+    while done < last {
+        if !place_block::<32>(buf, at + done, text, done) {
+            return false;
+        }
+        done += 32;
+    }
+    place_block::<32>(buf, at + last, text, last)
+}
+
 // Stores the text, and returns whether it is known that no byte of it needs an escape.
 #[tactic(auto, using(crate::proofs::Blocks::plain_whole))]
 #[inline(always)]
-pub(crate) fn place_text(buf: &mut [u8], at: usize, text: &[u8]) -> bool
-    requires { at + length text.now ≤ length buf.old }
+fn place_short(buf: &mut [u8], at: usize, text: &[u8]) -> bool
+    requires short { length text.now ≤ 32 }
+    requires room { at + length text.now ≤ length buf.old }
     ensures front { take (at + length text.now) buf.new ≡ take at buf.old ++ text.now }
     ensures len { length buf.new ≡ length buf.old }
     ensures plain { IsTrue result → flat_map escaped text.now ≡ text.now }
 {
     let len = text.len();
-    if len > 32 {
-        place_long(buf, at, text)
-    } else if len >= 16 {
+    if len >= 16 {
         place_ends::<16>(buf, at, text)
     } else if len >= 8 {
         place_ends::<8>(buf, at, text)
@@ -67,23 +119,6 @@ pub(crate) fn place_text(buf: &mut [u8], at: usize, text: &[u8]) -> bool
     } else {
         true
     }
-}
-
-fn place_long(buf: &mut [u8], at: usize, text: &[u8]) -> bool
-    requires long { 32 < length text.now }
-    requires room { at + length text.now ≤ length buf.old }
-    ensures front { take (at + length text.now) buf.new ≡ take at buf.old ++ text.now }
-    ensures len { length buf.new ≡ length buf.old }
-    ensures plain { IsTrue result → IsPlain text.now 0 (length text.now) }
-{
-    let last = text.len() - 32;
-    let mut plain = true;
-    let mut done = 0;
-    while done < last {
-        plain &= place_block::<32>(buf, at + done, text, done);
-        done += 32;
-    }
-    place_block::<32>(buf, at + last, text, last) & plain
 }
 
 #[inline(always)]

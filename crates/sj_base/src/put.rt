@@ -122,7 +122,7 @@ pub(crate) fn print_string<O: Output>(out: &mut O, text: &str) -> Result<(), O::
 
 // Prints the string between quotes, in as many pieces as its escapes ask for.
 #[inline(never)]
-fn print_pieces<O: Output>(out: &mut O, text: &str) -> Result<(), O::Fault>
+pub(crate) fn print_pieces<O: Output>(out: &mut O, text: &str) -> Result<(), O::Fault>
     ensures { Prints O.appends O.begins result out.old out.new (quoted text.now) }
 {
     out.put(b"\"")?;
