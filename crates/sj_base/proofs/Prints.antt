@@ -1,5 +1,5 @@
 -- Steps of printing line breaks and strings.
-use Rattle.std.proofs.Common.{◌≡◌, ℕ, ◌+◌, ◌-◌, ◌*◌, ◌<◌, List, [], ◌∷◌, ◌++◌, take, drop, flat_map, replicate, Result, Ok, Err, ap, sym, ◌∙◌, arith}
+use Rattle.std.proofs.Common.{◌≡◌, ℕ, ◌+◌, ◌-◌, ◌*◌, ◌≤◌, List, ◌++◌, take, drop, flat_map, replicate, Result, Ok, Err, ap, sym, ◌∙◌, arith}
 use Rattle.std.proofs.lemmas.List.{replicate-append-replicate, take-append-drop}
 use Rattle.std.proofs.lemmas.List.Concat.{flat_map-append}
 use Rattle.sj_base.specs.Output.{Continues, Prints}
@@ -10,22 +10,11 @@ pub prints_behind : {S X E : Type 0} {A B : S → S → List ℕ → Type 0} →
 prints_behind l (Ok x) s t u xs ys first then = l.then s t u xs ys first then
 prints_behind l (Err e) s t u xs ys first then = l.fails s t u xs ys first then
 
--- the spaces of one more level
-pub level_more : (i : ℕ) → replicate (2 * i) 0x20 ++ 0x20 ∷ 0x20 ∷ [] ≡ replicate {A = ℕ} (2 * (i + 1)) 0x20
-level_more i =
-    let count : 2 * i + 2 ≡ 2 * (i + 1) = omega arith in
-    replicate-append-replicate (2 * i) 2 0x20 ∙ ap (λ (n : ℕ). replicate n 0x20) count
-
-two_first : (n : ℕ) → 0x20 ∷ 0x20 ∷ replicate n 0x20 ≡ replicate {A = ℕ} (2 + n) 0x20
-two_first n = replicate-append-replicate 2 n 0x20
-
--- the spaces of the levels so far, of the next level, and of the rest
-pub levels_left : (level i : ℕ) → i < level → replicate (2 * i) 0x20 ++ (0x20 ∷ 0x20 ∷ replicate (2 * (level - i - 1)) 0x20) ≡ replicate {A = ℕ} (2 * level) 0x20
-levels_left level i within =
-    let count : 2 * i + (2 + 2 * (level - i - 1)) ≡ 2 * level = omega arith in
-    ap (λ (xs : List ℕ). replicate (2 * i) 0x20 ++ xs) (two_first (2 * (level - i - 1)))
-    ∙ replicate-append-replicate (2 * i) (2 + 2 * (level - i - 1)) 0x20
-    ∙ ap (λ (n : ℕ). replicate n 0x20) count
+-- the spaces of the first levels, and of the others
+pub levels_first : (left levels : ℕ) → levels ≤ left → replicate (2 * left) 0x20 ≡ replicate (2 * levels) 0x20 ++ replicate {A = ℕ} (2 * (left - levels)) 0x20
+levels_first left levels within =
+    let count : 2 * levels + 2 * (left - levels) ≡ 2 * left = omega arith in
+    sym (replicate-append-replicate (2 * levels) (2 * (left - levels)) 0x20 ∙ ap (λ (n : ℕ). replicate n 0x20) count)
 
 -- the bytes so far and the rest
 pub body_split : (text : List ℕ) (i : ℕ) → flat_map escaped (take i text) ++ flat_map escaped (drop i text) ≡ flat_map escaped text

@@ -2,7 +2,7 @@
 //!
 //! The `put_` functions append to a vector, all of the text or nothing. [`print_text`] appends to any [`Output`], and
 //! leaves a prefix of the text if the output fails.
-ghost use Rattle.std.specs.Prelude.{◌≡◌, ◌<◌, OnOk, OnErr, take, flat_map};
+ghost use Rattle.std.specs.Prelude.{◌≡◌, ◌*◌, ◌<◌, OnOk, OnErr, take, flat_map, replicate};
 ghost use Rattle.sj_base.specs.Output.{Prints, AppendsOrLeaves};
 ghost use Rattle.std.specs.Char.{digit_char};
 ghost use Rattle.sj_base.specs.Tree.{integer};
@@ -16,6 +16,8 @@ use crate::scalar::Scalar;
 use crate::static_node::StaticNode;
 use itoa::Buffer;
 use std::alloc::AllocError;
+
+static SPACES: [u8; 64] = [b' '; 64];
 
 /// Appends the string between quotes, with an escape for each quote, backslash and control character.
 ///
@@ -135,8 +137,18 @@ pub(crate) fn print_break<O: Output>(out: &mut O, level: usize) -> Result<(), O:
     ensures { Prints O.appends O.begins result out.old out.new (line_break level) }
 {
     out.put(b"\n")?;
-    for _i in 0..level {
-        out.put(b"  ")?;
+    print_indent(out, level)
+}
+
+// Prints two spaces for each level, those of up to 32 levels at once.
+fn print_indent<O: Output>(out: &mut O, level: usize) -> Result<(), O::Fault>
+    ensures { Prints O.appends O.begins result out.old out.new (replicate (2 * level) 0x20) }
+{
+    let mut left = level;
+    while left > 0 {
+        let levels = left.min(32);
+        out.put(&SPACES[..2 * levels])?;
+        left -= levels;
     }
     Ok(())
 }
