@@ -1,11 +1,11 @@
--- The first byte of a text that passes a test, by the bits of its first block.
-use Rattle.std.specs.Prelude.{◌≡◌, ◌≢◌, ℕ, zero, suc, ◌/◌, ◌^◌, ◌<◌, ◌≤◌, ◌||◌, nat_lt, Bool, true, false, List, [], ◌∷◌, length, take, bit_or, slice_index, if◌then◌else◌}
+-- The first byte of a text that passes a test, by the bits of its first block, and behind a block where none passes.
+use Rattle.std.specs.Prelude.{◌≡◌, ◌≢◌, ℕ, zero, suc, ◌/◌, ◌^◌, ◌+◌, ◌<◌, ◌≤◌, ◌||◌, nat_lt, Bool, true, false, List, [], ◌∷◌, length, take, drop, bit_or, slice_index, if◌then◌else◌}
 use Rattle.std.specs.Int.{bit_at, trailing_zeros}
 use Rattle.std.specs.Simd.Lanes.{chunk}
 use Rattle.std.proofs.Common.{refl, sym, ap, ◌∙◌, arith, zero-add, zero-lt-suc, mod-lt, w64, inl, inr}
 use Rattle.std.specs.Char.{is_ascii_digit}
 use Rattle.std.proofs.lemmas.Bool.{cases_eq, or_cases, or_parts, or_left, or_right, false_from_ne_true, ltb-true, ltb-false}
-use Rattle.std.proofs.lemmas.Nat.Bits.{bit_at-trailing_zeros, bit_at_or}
+use Rattle.std.proofs.lemmas.Nat.Bits.{bit_at-trailing_zeros, bit_at_or, bit_at-zero}
 use Rattle.std.proofs.lemmas.Simd.{get_or-chunk}
 use Rattle.sj_base.specs.NumberTests.{front_digits}
 use Rattle.sj_base.proofs.Literals.{from_test, to_test}
@@ -75,6 +75,19 @@ lowest_place test bytes m long fits some places =
           let unset = low.2 k h in omega (arith, set, unset));
     }
 
+-- ---- no bit
+
+-- None of the first n bytes passes the test.
+abbrev pub PassesNone : (ℕ → Bool) → List ℕ → ℕ → Type 0
+PassesNone test bytes n = (k : ℕ) → k < n → test (slice_index bytes k) ≡ false
+
+pub no_place : (test : ℕ → Bool) (bytes : List ℕ) (m : ℕ) → m ≡ 0 → Places test (chunk 0 32 bytes) m → PassesNone test bytes 32
+no_place test bytes m none places = λ k h. false_from_ne_true (test (slice_index bytes k)) (λ e.
+    let same = get_or-chunk 0 32 bytes k 0 h ∙ ap (slice_index bytes) (zero-add k) in
+    let set = (places.bits k).1 (h, ap test same ∙ e) in
+    let unset : bit_at m k ≡ 0 = ap (λ n. bit_at n k) none ∙ bit_at-zero k in
+    omega (arith, set, unset))
+
 -- ---- words
 
 abbrev pub is_separator : ℕ → Bool
@@ -86,6 +99,16 @@ word-first (b ∷ bs) zero first = sym (ap (λ (stop : Bool). if stop then [] el
 word-first (b ∷ bs) (suc n) first =
     let rest : IsFirst is_separator bs n = record { within = omega (arith, first.within); passes = first.passes; none = λ k h. first.none (suc k) (omega arith) } in
     ap (λ (ys : List ℕ). b ∷ ys) (word-first bs n rest) ∙ sym (ap (λ (stop : Bool). if stop then [] else b ∷ word bs) (first.none 0 (omega arith)))
+
+-- behind bytes that end no word
+pub word-behind : (bytes : List ℕ) (n r : ℕ) → n ≤ length bytes → PassesNone is_separator bytes n → take r (drop n bytes) ≡ word (drop n bytes) → take (n + r) bytes ≡ word bytes
+word-behind bytes zero r within none rest = ap (λ (k : ℕ). take k bytes) (zero-add r) ∙ rest
+word-behind [] (suc n) r within none rest = absurd (omega (arith, within))
+word-behind (b ∷ bs) (suc n) r within none rest =
+    let one_more : suc n + r ≡ suc (n + r) = omega arith in
+    ap (λ (k : ℕ). take k (b ∷ bs)) one_more
+    ∙ ap (λ (ys : List ℕ). b ∷ ys) (word-behind bs n r (omega (arith, within)) (λ k h. none (suc k) (omega arith)) rest)
+    ∙ sym (ap (λ (stop : Bool). if stop then [] else b ∷ word bs) (none 0 (omega arith)))
 
 -- ---- digits
 
@@ -116,3 +139,13 @@ digits-first (b ∷ bs) zero first = sym (ap (λ (is : Bool). if is then b ∷ f
 digits-first (b ∷ bs) (suc n) first =
     let rest : IsFirst is_no_digit bs n = record { within = omega (arith, first.within); passes = first.passes; none = λ k h. first.none (suc k) (omega arith) } in
     ap (λ (ys : List ℕ). b ∷ ys) (digits-first bs n rest) ∙ sym (ap (λ (is : Bool). if is then b ∷ front_digits bs else []) (digit b (first.none 0 (omega arith))))
+
+-- behind digits
+pub digits-behind : (bytes : List ℕ) (n r : ℕ) → n ≤ length bytes → PassesNone is_no_digit bytes n → take r (drop n bytes) ≡ front_digits (drop n bytes) → take (n + r) bytes ≡ front_digits bytes
+digits-behind bytes zero r within none rest = ap (λ (k : ℕ). take k bytes) (zero-add r) ∙ rest
+digits-behind [] (suc n) r within none rest = absurd (omega (arith, within))
+digits-behind (b ∷ bs) (suc n) r within none rest =
+    let one_more : suc n + r ≡ suc (n + r) = omega arith in
+    ap (λ (k : ℕ). take k (b ∷ bs)) one_more
+    ∙ ap (λ (ys : List ℕ). b ∷ ys) (digits-behind bs n r (omega (arith, within)) (λ k h. none (suc k) (omega arith)) rest)
+    ∙ sym (ap (λ (is : Bool). if is then b ∷ front_digits bs else []) (digit b (none 0 (omega arith))))

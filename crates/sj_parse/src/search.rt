@@ -1,4 +1,4 @@
-//! The search for the ends of strings and words, by blocks of 32 bytes.
+//! The search for the ends of strings, words and runs of digits: in the first 32 bytes at once, and then in the rest.
 ghost use Rattle.std.specs.Prelude.{◌≡◌, ◌==◌, ◌||◌, true, nat_lt, ℕ, ◌<◌, ◌≤◌, length, take, slice_index};
 ghost use Rattle.sj_base.specs.NumberTests.{front_digits};
 ghost use Rattle.sj_scan.specs.Positions.{is_whitespace, is_operator};
@@ -26,8 +26,9 @@ pub(crate) fn plain_len(bytes: &[u8]) -> usize
         if ends != 0 {
             return ends.trailing_zeros() as usize;
         }
+        return BLOCK + scan_plain(&bytes[BLOCK..]);
     }
-    memchr2(b'"', b'\\', bytes).unwrap_or(bytes.len())
+    scan_plain(bytes)
 }
 
 /// The number of bytes before the first whitespace or operator, or of all bytes if there is none.
@@ -43,6 +44,7 @@ pub(crate) fn word_len(bytes: &[u8]) -> usize
         if ends != 0 {
             return ends.trailing_zeros() as usize;
         }
+        return BLOCK + scan_word(&bytes[BLOCK..]);
     }
     scan_word(bytes)
 }
@@ -60,11 +62,21 @@ pub(crate) fn digits_len(bytes: &[u8]) -> usize
         if others != 0 {
             return others.trailing_zeros() as usize;
         }
+        return BLOCK + count_digits(&bytes[BLOCK..]);
     }
     count_digits(bytes)
 }
 
-/// The same, byte by byte.
+/// As [`plain_len`], by `memchr`.
+fn scan_plain(bytes: &[u8]) -> usize
+    ensures within { result ≤ length bytes.now }
+    ensures plain { (k : ℕ) → k < result → IsPlain (slice_index bytes.now k) }
+    ensures ends { result < length bytes.now → (slice_index bytes.now result == 0x22 || slice_index bytes.now result == 0x5c) ≡ true }
+{
+    memchr2(b'"', b'\\', bytes).unwrap_or(bytes.len())
+}
+
+/// As [`digits_len`], byte by byte.
 fn count_digits(bytes: &[u8]) -> usize
     ensures within { result ≤ length bytes.now }
     ensures digits { take result bytes.now ≡ front_digits bytes.now }
