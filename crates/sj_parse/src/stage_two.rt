@@ -44,6 +44,7 @@ impl State {
     /// The kind of the fault where something else comes.
     #[inline(always)]
     fn unexpected(self) -> DescentKind
+        requires { self ≢ State.End }
         ensures { result ≡ unexpected_kind self }
     {
         match self {
@@ -54,7 +55,7 @@ impl State {
             State::Key => DescentKind::ExpectedObjectKey,
             State::Colon => DescentKind::ExpectedObjectColon,
             State::MemberEnd => DescentKind::ExpectedMapComma,
-            State::End => DescentKind::TrailingData,
+            State::End => unreachable!(),
         }
     }
 
@@ -287,7 +288,8 @@ fn step<'i>(
 /// Reads the tokens of a text: appends the nodes of its tree, or answers its first fault. This is all of stage two after
 /// its reservations, so it can't lack memory.
 ///
-/// The places are the positions of the text, and each is read once at most. The vectors are empty, and have room: the nodes
+/// The text has at most `u32::MAX` bytes, and a scan ([`Stage1::scan`](sj_scan::Stage1::scan)) answered `Ok` for it; the
+/// places are the positions that it gave. Each place is read once at most. The vectors are empty, and have room: the nodes
 /// for as many as there are places, the stack for as many frames as there are places or levels, whichever are fewer. Nodes
 /// and frames go into this room, which doesn't grow.
 ///
