@@ -75,6 +75,13 @@ impl Buffers {
         self.max_depth
     }
 
+    /// Returns the number of positions for which there is room.
+    pub fn capacity(&self) -> usize
+        ensures { result ≡ buffer_room self.now }
+    {
+        self.positions.capacity()
+    }
+
     /// Gives back all room, and forgets the positions.
     pub fn release(&mut self)
         ensures texts { buffer_texts self.new ≡ buffer_texts self.old }
