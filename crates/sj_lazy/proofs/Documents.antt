@@ -1,6 +1,7 @@
 -- Parts of a document, and what edits of it return, seen on its tree.
-use Rattle.std.proofs.Common.{◌≡◌, ℕ, List, [], ◌∷◌, Option, Some, None, Result, Ok, Err, ok_or, option_map, option_and_then, IfOk, refl, ap, sym, ◌∙◌, rules}
+use Rattle.std.proofs.Common.{◌≡◌, ℕ, List, [], ◌∷◌, Option, Some, None, Result, Ok, Err, ok_or, option_map, option_and_then, IfOk, IfErr, IsOk, IsSome, IsNone, refl, ap, subst, sym, ◌∙◌, rules}
 use native.Mathlib.Numerals.{unary_clauses}
+use Rattle.std.proofs.lemmas.Bool.{false≢true}
 use Rattle.sj_base.specs.Containers.{items_in, members_in}
 use Rattle.sj_base.specs.Edit.{last_item}
 use Rattle.sj_base.specs.Path.{key, member_at, child}
@@ -55,6 +56,18 @@ module _ {K D : Type 0} (text : K → List ℕ) (literal : D → List ℕ) where
       → IfOk r (λ old. option_map (value_tree text literal) old ≡ child t (key k))
   replaced v t k (Ok old) is h = ap (option_map (value_tree text literal)) h ∙ member_of_tree v t k is
   replaced v t k (Err e) is h = tt
+
+  -- where `insert` is refused, no child has the key
+  pub no_child : (v : Value K D) (t : Tree) (k : List ℕ) (r : Result (Option (Value K D)) AccessError)
+      → value_tree text literal v ≡ t
+      → (IsSome (member_of text v k) → IsOk r)
+      → IfErr r (λ e. IsNone (child t (key k)))
+  no_child v t k (Ok old) is succeeds = tt
+  no_child v t k (Err e) is succeeds = by_member (member_of text v k) refl
+    where
+      by_member : (m : Option (Value K D)) → member_of text v k ≡ m → IsNone (child t (key k))
+      by_member None none = subst IsNone (ap (option_map (value_tree text literal)) (sym none) ∙ member_of_tree v t k is) refl
+      by_member (Some w) some = absurd (false≢true (subst (λ m. IsSome m → IsOk {T = Option (Value K D)} (Err e)) some succeeds refl))
 
   removed_from : (m : Option (List (Entry K (Value K D)))) (t : Tree) (k : List ℕ) (e : AccessError) (r : Result (Option (Value K D)) AccessError)
       → option_map (value_tree text literal) (option_and_then (λ es. value_at text es k) m) ≡ child t (key k)

@@ -151,7 +151,8 @@ impl<'i> Value<'_, '_, 'i> {
             ≡ child (upgraded self.old) (key_part (cow_str_bytes key.entry))) }
         ensures document { IfOk result (λ old. WritesBy (λ e d. (old ≡ member_of cow_str_bytes e (cow_str_bytes key.entry))
             × (members_inside d ≡ option_map (λ es. put_key cow_str_bytes es key.entry value.entry) (members_inside e))) self.old self.new) }
-        ensures err { IfErr result (Refuses (λ e. e ≡ refusal AccessError.NotAnObject (members_in (upgraded self.old))) self.old self.new) }
+        ensures err { IfErr result (Refuses (λ e. (e ≡ refusal AccessError.NotAnObject (members_in (upgraded self.old)))
+            × IsNone (child (upgraded self.old) (key_part (cow_str_bytes key.entry)))) self.old self.new) }
     {
         let Ok(owned) = self.value_mut(alloc) else {
             return refuse((key, value), AccessError::Memory);
