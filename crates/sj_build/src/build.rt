@@ -248,7 +248,7 @@ fn finish<'de, V: BuildValue<'de, K> + Drop, K: MakeKey<'de> + Drop>(
     }
 }
 
-/// The most parts for which room is taken at first.
+/// The most parts for which room is taken at first. The C library serves requests of that size from its cache.
 const FIRST_PARTS: usize = 18;
 
 /// Builds a value of a view of a tape. Of members with equal keys the first one is kept. Room for the items of an array

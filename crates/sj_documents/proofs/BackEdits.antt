@@ -110,7 +110,7 @@ module _ {K D : Type 0} (text : K → List ℕ) (literal : D → List ℕ) where
       ∙ sym (ap (λ c. cond c (member (text e.key) (tree w) (members es)) (member (text e.key) (tree e.value) (edits.put_member (members es) k (tree w)))) is)
   set_or_on false e es k w is rest = set_first (bytes_eq (text e.key) k) e es k w (rest refl)
 
-  members_set : (es : List (Entry K (Value K D))) (k : List ℕ) (w old : Value K D) → pairs.value_at text es k ≡ Some old → members (pairs.set_value text es k w) ≡ edits.put_member (members es) k (tree w)
+  pub members_set : (es : List (Entry K (Value K D))) (k : List ℕ) (w old : Value K D) → pairs.value_at text es k ≡ Some old → members (pairs.set_value text es k w) ≡ edits.put_member (members es) k (tree w)
   members_set [] k w old found = absurd (none-some old found)
   members_set (e ∷ es) k w old found =
       set_or_on (bytes_eq (text e.key) k) e es k w refl (λ other. members_set es k w old (found_behind (bytes_eq (text e.key) k) e.value old (pairs.value_at text es k) other found))

@@ -1,20 +1,20 @@
 -- The part of a document, and the document after an edit of it.
 use Rattle.std.proofs.Common.{◌≡◌, ℕ, suc, List, [], ◌∷◌, length, Option, Some, None, Ok, refl, sym, ap, ◌∙◌, rules, option_map}
-use Rattle.std.specs.Prelude.{option_and_then, ok_or, true, codes}
+use Rattle.std.specs.Prelude.{ok_or, true, codes}
 use Rattle.sj_base.specs.Tree.{Tree, list, object}
 use Rattle.sj_base.specs.Path.{member_at}
 use Rattle.sj_base.specs.Containers.{items_len, members_len, items_in, members_in}
 use Rattle.sj_base.specs.Edit.{put_member, drop_member, last_item, pop_item}
 use Rattle.sj_object.specs.declared.entry.Entry.{Entry}
 use Rattle.sj_owned.specs.Views.{value_tree, items_view, members_view, items_inside, members_inside}
-use Rattle.sj_owned.specs.declared.value.Value.{Value, Static, Decimal, String, Array', Object', the_lemmas}
+use Rattle.sj_owned.specs.declared.value.Value.{Value, Static, Decimal, String, Object, Array', Object', the_lemmas}
+use Rattle.sj_owned.proofs.Layers.{tree-Object}
 use Rattle.sj_scripts.specs.Command.{◌>>=◌}
 use native.Mathlib.Numerals.{unary_clauses}
 use Rattle.std.proofs.lemmas.Option.{none-some, same_Some}
 use Rattle.sj_base.specs.declared.fault.AccessError.TheVariants as AccessError
 use Rattle.sj_object.specs.Pairs.{value_at}
-use Rattle.sj_owned.specs.Edits.{with_member, without_member, without_last, last_of}
-use Rattle.sj_owned.specs.Parts.{member_of}
+use Rattle.sj_owned.specs.Edits.{without_member, without_last, last_of}
 use Rattle.sj_build.proofs.Members.{value_member}
 use Rattle.sj_documents.specs.Step.{if_fits, reply_of, insertion, removal, popping}
 use Rattle.sj_documents.proofs.Changes.{same_ok}
@@ -53,22 +53,19 @@ module _ {K D : Type 0} (text : K → List ℕ) (literal : D → List ℕ) where
   last_of_items (v ∷ []) = refl
   last_of_items (v ∷ w ∷ vs) = simp unary_clauses (simp unary_clauses at (last_of_items (w ∷ vs)))
 
+  -- an insertion into the members of an object
+  module _ (v : Value K D) (es : List (Entry K (Value K D))) (is : members_inside v ≡ Some es) (k : List ℕ) (u : Tree) where
+    object_found : members_in (tree v) ≡ Some (members_view text literal es)
+    object_found = members-inside v ∙ ap (option_map (members_view text literal)) is
+
+    pub inserted : (fs : List (Entry K (Value K D))) (old : Option (Value K D)) → members_view text literal fs ≡ put_member (members_view text literal es) k u → old ≡ value_at text es k
+        → insertion true k u (tree v) ≡ Ok (reply_of (option_map tree old), tree (Object fs))
+    inserted fs old puts was =
+        ap (λ o. ok_or o (codes "NotAnObject") >>= λ ms. if_fits true (reply_of (member_at ms k), object (put_member ms k u))) object_found
+        ∙ ap (λ r. Ok (reply_of r, object (put_member (members_view text literal es) k u))) (sym (value_member text tree es k) ∙ ap (option_map tree) (sym was))
+        ∙ ap (λ t. Ok (reply_of (option_map tree old), t)) (ap object (sym puts) ∙ sym (tree-Object text literal fs))
+
   module _ (v w : Value K D) (old : Option (Value K D)) where
-    module _ (k : List ℕ) (u : Tree) where
-      inserted_at : (o : Option (List (Entry K (Value K D)))) → members_inside v ≡ o → Some (tree w) ≡ with_member (tree v) k u → old ≡ member_of text v k
-          → insertion true k u (tree v) ≡ Ok (reply_of (option_map tree old), tree w)
-      inserted_at None is now was = absurd (none-some _ (sym (now ∙ ap (option_map (λ ms. object (put_member ms k u))) (members-inside v ∙ ap (option_map (members_view text literal)) is))))
-      inserted_at (Some es) is now was =
-          let found : members_in (tree v) ≡ Some (members_view text literal es) = members-inside v ∙ ap (option_map (members_view text literal)) is in
-          let put : object (put_member (members_view text literal es) k u) ≡ tree w = same_Some _ _ (sym (now ∙ ap (option_map (λ ms. object (put_member ms k u))) found)) in
-          let reply : member_at (members_view text literal es) k ≡ option_map tree old = sym (value_member text tree es k) ∙ ap (option_map tree) (sym (was ∙ ap (option_and_then (λ es. value_at text es k)) is)) in
-          ap (λ o. ok_or o (codes "NotAnObject") >>= λ ms. if_fits true (reply_of (member_at ms k), object (put_member ms k u))) found
-          ∙ ap (λ r. Ok (reply_of r, object (put_member (members_view text literal es) k u))) reply
-          ∙ ap (λ t. Ok (reply_of (option_map tree old), t)) put
-
-      pub inserted : Some (tree w) ≡ with_member (tree v) k u → old ≡ member_of text v k → insertion true k u (tree v) ≡ Ok (reply_of (option_map tree old), tree w)
-      inserted = inserted_at (members_inside v) refl
-
     module _ (k : List ℕ) where
       removed_at : (o : Option (List (Entry K (Value K D)))) → members_inside v ≡ o → Some (tree w) ≡ without_member (tree v) k
           → Ok old ≡ ok_or (option_map (λ es. value_at text es k) (members_inside v)) AccessError.NotAnObject → removal k (tree v) ≡ Ok (reply_of (option_map tree old), tree w)

@@ -12,7 +12,7 @@ ghost use Rattle.sj_object.specs.Pairs.{value_at};
 
 use crate::inverse::Change;
 use crate::refusal::Refusal;
-use sj_base::{AccessError, DecimalBuf, DecimalCow, TryCopy};
+use sj_base::{AccessError, DecimalBuf, DecimalCow, StaticNode, TryCopy};
 use sj_object::{Object, ObjectKey};
 use sj_owned::{FromString, Literal, OwnedValue, Value, from_borrowed};
 use sj_scripts::MemoryOr::Refused;
@@ -24,8 +24,7 @@ use std::mem;
 /// The value that an edit replaced or took out, if any, or why the edit is refused.
 type Edited<V> = Result<Option<V>, MemoryOr<Refusal>>;
 
-/// A type of texts for documents whose values are made from owned ones, and owned ones from them, with `D` as type of
-/// literals.
+/// A type of strings and keys. Documents of it, whose literals have the type `D`, are converted from owned ones and into them.
 pub trait ScriptText<D: Literal>: FromString {
     /// Converts a value that owns its texts. These are moved.
     ///
@@ -41,7 +40,8 @@ pub trait ScriptText<D: Literal>: FromString {
     ///
     /// `AllocError` if there is no memory for the owned value. The one that was taken is dropped.
     fn take_owned(alloc: Global, value: &mut Value<Self, D>) -> Result<OwnedValue, AllocError>
-        ensures { IfOk result (λ v. owned_tree v ≡ value_tree Self.text D.literal value.old) };
+        ensures value { IfOk result (λ v. owned_tree v ≡ value_tree Self.text D.literal value.old) }
+        ensures left { value.new ≡ Value.Static StaticNode.Null };
 }
 
 impl ScriptText<DecimalBuf> for String {
@@ -248,18 +248,21 @@ fn insert_member<K: ScriptText<D> + Drop, D: Literal + Drop>(
 ) -> Edited<Value<K, D>>
     ensures { IsEditBy (value_tree K.text D.literal) result part.old part.new (insertion fits key.now (owned_tree value.now)) }
 {
-    if !part.is_object() {
+    let Some(members) = part.as_object_mut() else {
         return Err(Refused(Refusal::NotAnObject));
-    }
+    };
     if !fits {
         return Err(Refused(Refusal::TooDeep));
     }
-    let name = K::from_string(String::from_str(alloc, key)?);
     let new = K::from_owned(alloc, value.try_clone()?)?;
-    match part.insert(name, new) {
-        Ok(old) => Ok(old),
-        Err(_) => Err(MemoryOr::Memory),
+    if let Some(member) = members.get_mut(key) {
+        return Ok(Some(mem::replace(member, new)));
     }
+    let name = K::from_string(String::from_str(alloc, key)?);
+    if members.push_new(name, new).is_err() {
+        return Err(MemoryOr::Memory);
+    }
+    Ok(None)
 }
 
 fn push_last<K: ScriptText<D> + Drop, D: Literal + Drop>(

@@ -1,4 +1,4 @@
-//! Want of memory, or another reason.
+//! Lack of memory, or another reason.
 ghost use Rattle.std.specs.Prelude.{◌≡◌};
 ghost use Rattle.sj_scripts.specs.declared.memory_or.MemoryOr.TheVariants.{Memory};
 ghost use Rattle.sj_scripts.specs.inside.ReadErrors.{IsReadError};

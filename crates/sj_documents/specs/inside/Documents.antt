@@ -69,12 +69,12 @@ abbrev pub is_taken : {A : Type 0} → Result (Option A) AccessError → Bool
 is_taken (Ok found) = is_some found
 is_taken (Err e) = false
 
--- What a change leaves of the tree t: whether it can be made, and the tree after it. Want of memory leaves t.
+-- What a change leaves of the tree t: whether it can be made, and the tree after it. Lack of memory leaves t.
 abbrev pub IsChanged : {E : Type 0} → Result Bool E → Tree → Tree → Change → Type 0
 IsChanged (Ok is_made) t u change = (is_made ≡ is_some (changed change t)) × (u ≡ unwrap_or (changed change t) t)
 IsChanged (Err e) t u change = u ≡ t
 
--- What an edit of the tree t leaves: what it replaced or took out and the new tree, or a refusal and the old tree. Want of
+-- What an edit of the tree t leaves: what it replaced or took out and the new tree, or a refusal and the old tree. Lack of
 -- memory leaves the old tree.
 abbrev pub IsEdited : {V : Type 0} → (V → Tree) → Result (Option V) (MemoryOr Refusal) → Tree → Tree → Result (Tree × Tree) Word → Type 0
 IsEdited tree (Ok found) t u w = w ≡ Ok (reply_of (option_map tree found), u)

@@ -1,5 +1,5 @@
 -- What reading answers, against the definitions: a document against the line, a command and a script against those of the
--- tree. Want of memory says nothing.
+-- tree. Lack of memory says nothing.
 use Rattle.std.specs.Prelude.{◌≡◌, ◌≢◌, ℕ, List, Result, Ok, Err, ⊤}
 use Rattle.sj_base.specs.Tree.{Tree}
 use Rattle.sj_base.specs.Spelling.{Document}
@@ -16,12 +16,12 @@ use Rattle.sj_scripts.specs.Command.{Refusal, not_an_array, command}
 abbrev pub IsReadTree : List ℕ → ℕ → Tree → Type 0
 IsReadTree line limit u = (t : Tree) × Document line limit t × (u ≡ keep t)
 
--- for a refusal, and not for want of memory
+-- for a refusal, and not for lack of memory
 abbrev pub IfRefused : {T : Type 0} → MemoryOr T → (T → Type 0) → Type 0
 IfRefused Memory P = ⊤
 IfRefused (Refused why) P = P why
 
--- What the error of a reading call is carried on as: want of memory, or the fault of the text.
+-- What the error of a reading call is carried on as: lack of memory, or the fault of the text.
 abbrev pub IsReadError : Error → MemoryOr Error → Type 0
 IsReadError e Memory = e.error ≡ OutOfMemory
 IsReadError e (Refused why) = (why ≡ e) × (e.error ≢ OutOfMemory)
