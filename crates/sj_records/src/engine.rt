@@ -145,7 +145,7 @@ fn process_piece<W: Sink>(
     ensures limit { buffer_limit buffers.new ≡ buffer_limit buffers.old }
     ensures writes { WritesFor result (W.calls writer.old) (W.calls writer.new) }
 {
-    // Its nodes borrow from the lines of the piece.
+    // One tape for the piece: its nodes borrow from the lines.
     let mut tape = Tape::empty(*pending.line.allocator());
     let mut rest = piece;
     loop {

@@ -18,7 +18,7 @@ pub enum RunError {
     /// A read failed other than by an interruption. The records of the lines that a line feed ended are written.
     #[error("Read")]
     Read,
-    /// The reader gave no end within 2^62 reads, or as many as `run_within` is given. The same records are written as before `Read`.
+    /// The reader gave no end within 2^62 reads, or as many as `run_within` is given. What is written is as for `Read`.
     #[error("TooManyReads")]
     TooManyReads,
 }

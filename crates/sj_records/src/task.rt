@@ -128,7 +128,7 @@ fn put_record<'de>(
     }
 }
 
-/// The most positions of a text after which the room for positions is kept.
+/// The most positions for which room is kept from one text to the next.
 const KEPT_POSITIONS: usize = 1 << 20;
 
 /// Reads a line into the tape, under the limit of the buffers. The line is rewritten. The buffers keep its positions until the
@@ -145,7 +145,7 @@ fn read_tape<'de>(
     ensures refused_texts { IfErr result (λ e. IfRefused e (λ why. HasRead buffers.old buffers.new (line.entry.now ∷ []))) }
     ensures limit { buffer_limit buffers.new ≡ buffer_limit buffers.old }
 {
-    if buffers.structural_indexes().len() > KEPT_POSITIONS {
+    if buffers.capacity() > KEPT_POSITIONS {
         buffers.release();
     }
     fill_tape(line, buffers, tape)?;
