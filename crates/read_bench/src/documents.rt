@@ -9,6 +9,9 @@ pub(crate) fn split(alloc: Global, bytes: Vec<u8>, name: &str) -> Result<Vec<Vec
         return Ok(vec![in alloc; bytes]?);
     }
     let mut documents = Vec::new(alloc);
+    if bytes.is_empty() {
+        return Ok(documents);
+    }
     for line in lines(&bytes).split(|byte| *byte == b'\n') {
         documents.push(Vec::from_slice(alloc, line)?)?;
     }

@@ -126,7 +126,7 @@ fn borrowed_from_a_tape(rt: HostRuntime) {
     expect_made(&rt, alloc, part, r#"{"a":1}"#);
 }
 
-// The integers of [5,-5,"a","\u0061",1.5] have the carriers of their tokens.
+// The integers of the array have the carriers of their tokens.
 fn expect_carrier(rt: &impl Abort, value: &BorrowedValue<'_>, place: usize, kind: ValueType) {
     let item = value.get_idx(place).expect(rt, "an item");
     expect_eq(rt, item.value_type(), kind);
