@@ -3,6 +3,7 @@
 mod cookbook;
 mod system;
 
+use super::readers::Pieces;
 use super::{expect_eq, expect_that};
 use records_program::program::program;
 use records_program::{LoadFault, read_rest};
@@ -82,29 +83,6 @@ const LINE: &str = "{\"key\": \"value\", \"snot\": 42}\n";
 const SCRIPT: &str = r#"[["get",["key"]]]"#;
 
 const RECORD: &str = "{\"replies\":[[\"value\"]],\"document\":{\"key\":\"value\",\"snot\":42}}\n";
-
-// Gives its bytes, one a read where `is_slow`, then an error of the kind, and then its end.
-#[derive(Drop)]
-struct Failing<'a> {
-    bytes: &'a [u8],
-    kind: Option<ErrorKind>,
-    is_slow: bool,
-}
-
-impl Read for Failing<'_> {
-    fn read(&mut self, buf: &mut [u8]) -> io::Result<usize> {
-        if self.bytes.is_empty() {
-            return match self.kind.take() {
-                Some(kind) => Err(io::Error::from(kind)),
-                None => Ok(0),
-            };
-        }
-        if self.is_slow && !buf.is_empty() {
-            return self.bytes.read(&mut buf[..1]);
-        }
-        self.bytes.read(buf)
-    }
-}
 
 // Takes so many bytes and then fails, as does its flush where `is_stuck`.
 #[derive(Drop)]
@@ -249,11 +227,8 @@ fn refuses_arguments(rt: HostRuntime) {
 
 // Looks for the help, with the script and the input left alone.
 fn expect_help(rt: &impl Abort, alloc: Global, words: &[&str]) {
-    let mut input = Failing {
-        bytes: LINE.as_bytes(),
-        kind: Some(ErrorKind::Other),
-        is_slow: false,
-    };
+    let mut input = Pieces::new(LINE.as_bytes(), usize::MAX);
+    input.failure = Some(ErrorKind::Other);
     let mut output = Narrow::new(alloc, usize::MAX, false);
     let given = Given {
         words,
@@ -375,12 +350,9 @@ fn writes_records(rt: HostRuntime) {
 }
 
 // Looks for the records before an input's failure, which are flushed where they can be.
-fn expect_read_fault(rt: &impl Abort, alloc: Global, bytes: &[u8], is_slow: bool, is_stuck: bool) {
-    let input = Failing {
-        bytes,
-        kind: Some(ErrorKind::Other),
-        is_slow,
-    };
+fn expect_read_fault(rt: &impl Abort, alloc: Global, bytes: &[u8], step: usize, is_stuck: bool) {
+    let mut input = Pieces::new(bytes, step);
+    input.failure = Some(ErrorKind::Other);
     let mut output = Narrow::new(alloc, usize::MAX, is_stuck);
     let want = (1, RECORD.as_bytes(), "records: read\n");
     expect(rt, alloc, Given::new(RUN), input, &mut output, want);
@@ -390,8 +362,8 @@ fn expect_read_fault(rt: &impl Abort, alloc: Global, bytes: &[u8], is_slow: bool
 #[test]
 fn input_fails_in_mid_stream(rt: HostRuntime) {
     let bytes = format!(in rt.alloc(); "{LINE}[1").expect(&rt, "memory");
-    for (is_slow, is_stuck) in &[(false, false), (true, false), (false, true)] {
-        expect_read_fault(&rt, rt.alloc(), bytes.as_bytes(), *is_slow, *is_stuck);
+    for (step, is_stuck) in &[(65536, false), (1, false), (65536, true)] {
+        expect_read_fault(&rt, rt.alloc(), bytes.as_bytes(), *step, *is_stuck);
     }
 }
 
@@ -424,11 +396,8 @@ fn expect_read(
     want: Result<(), LoadFault>,
 ) {
     let mut bytes = Vec::new(alloc);
-    let mut slow = Failing {
-        bytes: b"abc",
-        kind,
-        is_slow: true,
-    };
+    let mut slow = Pieces::new(b"abc", 1);
+    slow.failure = kind;
     expect_eq(rt, read_rest(&mut slow, &mut bytes, reads), want);
     expect_eq(rt, bytes.as_slice(), b"abc".as_slice());
 }

@@ -13,9 +13,9 @@ use std::process::Abort;
 // an interruption comes before each read.
 #[derive(Drop)]
 pub(super) struct Pieces<'a> {
-    bytes: &'a [u8],
+    pub(super) bytes: &'a [u8],
     step: usize,
-    failure: Option<ErrorKind>,
+    pub(super) failure: Option<ErrorKind>,
     is_cut: bool,
     was_cut: bool,
 }
