@@ -35,7 +35,7 @@ PATH is an array of keys and of indexes from 0; [] is the whole document.";
 
 /// What the arguments ask for.
 #[derive(Debug, Drop)]
-pub enum Arguments<'a> {
+pub(crate) enum Arguments<'a> {
     /// To run a script.
     Run(RunArguments<'a>),
     /// To print this help.
@@ -44,15 +44,15 @@ pub enum Arguments<'a> {
 
 /// The run that the arguments ask for.
 #[derive(Clone, Copy, Debug)]
-pub struct RunArguments<'a> {
+pub(crate) struct RunArguments<'a> {
     /// The name of the script's file.
-    pub script: &'a str,
+    pub(crate) script: &'a str,
     /// The form of the documents.
-    pub form: Form,
+    pub(crate) form: Form,
     /// The most levels that a document may nest.
-    pub depth: usize,
+    pub(crate) depth: usize,
     /// Whether a document that repeats a key is refused.
-    pub repeats: Repeats,
+    pub(crate) repeats: Repeats,
 }
 
 /// Parses the words of the command line, of which the first is the program's name.
@@ -60,7 +60,10 @@ pub struct RunArguments<'a> {
 /// # Errors
 ///
 /// Returns `Fault::Arguments` if the words are refused, and `Fault::Memory` if an allocation failed.
-pub fn parse_arguments<'a, S: AsStr>(alloc: Global, words: &'a [S]) -> Result<Arguments<'a>, Fault>
+pub(crate) fn parse_arguments<'a, S: AsStr>(
+    alloc: Global,
+    words: &'a [S],
+) -> Result<Arguments<'a>, Fault>
     ensures { AreParsedAs (map S.text words.now) result }
 {
     match parse_words(alloc, words) {

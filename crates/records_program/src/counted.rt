@@ -15,7 +15,7 @@ use std::io::{Read, Write};
 use std::marker::{Brand, PhantomData};
 
 /// A `&mut` reference, by its ghost name, so that a type can say which reference a value holds.
-pub trait Named {
+pub(crate) trait Named {
     ghost name: { ℕ };
 }
 
@@ -45,7 +45,7 @@ impl<O: Write, N: Named> Write for Lent<'_, O, N> {
 }
 
 /// Runs the script on the input as the arguments ask, and returns the output. Its reads and writes are counted, as `run` needs.
-pub fn run_counted<'a, I: Read + Drop, O: Write, N: Named>(
+pub(crate) fn run_counted<'a, I: Read + Drop, O: Write, N: Named>(
     alloc: Global,
     input: I,
     output: &'a mut O,
@@ -81,7 +81,7 @@ pub fn run_counted<'a, I: Read + Drop, O: Write, N: Named>(
 /// # Errors
 ///
 /// Returns `WriteFault` if a write failed, was interrupted or took no byte. A prefix of the bytes is written then.
-pub fn put_counted<'a, O: Write, N: Named>(
+pub(crate) fn put_counted<'a, O: Write, N: Named>(
     output: &'a mut O,
     bytes: &[u8],
 ) -> (Result<(), WriteFault>, &'a mut O)
