@@ -27,6 +27,7 @@ pub use error::{Error, ErrorType};
 pub use fault::{AccessError, TryTypeError, WriteFault};
 pub use integer::JsonInteger;
 pub use layout::{Container, Layout};
+pub use number::{is_whole, split_minus};
 pub use output::Output;
 pub use put::{print_text, put_break, put_int, put_string, put_text, whole_or_none};
 pub use reads::Reads;

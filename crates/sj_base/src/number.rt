@@ -1,4 +1,4 @@
-//! Recognition of decimal literals, part by part.
+//! The parts of numbers, and recognition of decimal literals by them (RFC 8259, section 6).
 ghost use Rattle.std.specs.Prelude.{◌≡◌, ◌||◌, true};
 ghost use Rattle.std.specs.Str.{all_ascii_digits};
 ghost use Rattle.sj_base.specs.NumberTests.{is_negative, magnitude, unsigned, front_digits, behind_digits, is_digits, is_whole, is_exponent, is_behind_point, is_fraction_or_exponent, is_in_range, is_kept_by, is_decimal};
@@ -36,9 +36,9 @@ fn is_in_range(is_negative: bool, digits: &[u8]) -> bool
     }
 }
 
-/// Whether a minus stands in front, and the bytes after it.
+/// Returns whether a number begins with a minus, and the bytes after it: its magnitude.
 #[inline(always)]
-fn split_minus(bytes: &[u8]) -> (bool, &[u8])
+pub fn split_minus(bytes: &[u8]) -> (bool, &[u8])
     ensures negative { result.0 ≡ is_negative bytes.now }
     ensures magnitude { result.1.now ≡ magnitude bytes.now }
 {
@@ -73,9 +73,9 @@ fn split_digits(bytes: &[u8]) -> (&[u8], &[u8])
     (bytes, &[])
 }
 
-/// Whether the digits are `0`, or begin with another one.
+/// Returns `true` if the digits are those of a whole number: `0` alone, or any that begin with another one.
 #[inline(always)]
-fn is_whole(digits: &[u8]) -> bool
+pub fn is_whole(digits: &[u8]) -> bool
     requires { all_ascii_digits digits.now ≡ true }
     ensures { result ≡ is_whole digits.now }
 {

@@ -4,8 +4,9 @@ use Rattle.std.specs.Borrow.{Bor}
 use Rattle.std.specs.List.{insert, remove}
 use Rattle.std.specs.Slice.{IsGetResult}
 use Rattle.std.specs.Option.{option_copied}
-use Rattle.std.specs.Prelude.{bytes_eq, eqb, ◌&&◌, ◌||◌}
-use Rattle.std.proofs.lemmas.Nat.{mod_below}
+use Rattle.std.specs.Prelude.{◌*◌, ◌^◌, bytes_eq, eqb, ◌&&◌, ◌||◌}
+use native.Mathlib.Nat as nat
+use Rattle.std.proofs.lemmas.Nat.{mod_below, div_below}
 use Rattle.std.proofs.lemmas.List.{length-set, length-map, length-take-le, get_or-map, map-append, take-map, drop-map, take_more, take_more_set}
 use Rattle.std.proofs.lemmas.Bool.{ltb-true, cases_Bool, or_left, or_right, and_from, and_parts, false≢true}
 use Rattle.std.proofs.lemmas.Bool.Decides.{eqb_tells}
@@ -16,8 +17,14 @@ use Rattle.sj_object.specs.Pairs.{keys_of, place_of, has_text, AreDistinct}
 use Rattle.sj_object.specs.declared.entry.Entry.{Entry}
 use Rattle.sj_object.specs.declared.table.Link.{Link}
 use Rattle.sj_object.specs.declared.table.Table.{Table}
-use Rattle.sj_object.specs.inside.Chains.{home, head_of, has_hash, next_of, reaches, stands, AreChained, HaveHashes, IsTable, has_key, sought}
+use Rattle.sj_object.specs.inside.Chains.{mixed, home, head_of, has_hash, next_of, reaches, stands, AreChained, HaveHashes, IsTable, has_key, sought}
 use Rattle.sj_object.proofs.Places.{at_place, some_same, none_some}
+
+-- The chain of a hash is one of the chains.
+pub home_below : (n h : ℕ) → 0 < n → home n h < n
+home_below n h some =
+    let small : mixed h < 2 ^ 64 = mod_below (h * 0x9e3779b97f4a7c15) (2 ^ 64) (omega arith) in
+    div_below (mixed h * n) (2 ^ 64) n (omega arith) (subst (λ m. mixed h * n < m) (nat.mul_comm (2 ^ 64) n) (nat.mul-lt-mul_of_pos_right {k = n} small some))
 
 -- ---- one link more
 
@@ -124,7 +131,7 @@ module _ (heads : List (Option ℕ)) (ls : List Link) (h : ℕ) (some : home (le
 pub chained_put : (heads : List (Option ℕ)) (ls : List Link) (ks : List (List ℕ)) (k : List ℕ) (h : ℕ) → h ≡ text_hash k → AreChained heads ls ks
     → AreChained (set heads (home (length heads) h) (Some (length ls))) (ls ++ (record { hash = h; next = head_of heads h }) ∷ []) (ks ++ k ∷ [])
 chained_put heads ls ks k h own is =
-    let some = mod_below h (length heads) (ltb-true 0 (length heads) is.0) in
+    let some = home_below (length heads) h (ltb-true 0 (length heads) is.0) in
     let size = length-set heads (home (length heads) h) (Some (length ls)) in (
       rw size is.0,
       omega (arith, length-append ls ((record { hash = h; next = head_of heads h }) ∷ []), is.1, length-append ks (k ∷ [])),

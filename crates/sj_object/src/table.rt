@@ -34,6 +34,10 @@ pub(crate) struct Table {
     links: Vec<Link>,
 }
 
+// 2^64 by the golden ratio, as an odd number. A product with it depends in its high bits on all bits of a hash, whose own high
+// bits are 0 for a short key.
+const MIX: u64 = 0x9e37_79b9_7f4a_7c15;
+
 // Returns `true` if the pair at this place has the key.
 fn has_key<K: ObjectKey, V>(entries: &[Entry<K, V>], place: usize, key: &str) -> bool
     ensures { result ≡ has_key K.text entries.now place key.now }
@@ -168,13 +172,15 @@ impl Table {
         self.links.push_reserved(Link { hash, next });
     }
 
-    // The chain in which this hash stands.
+    // The chain in which this hash stands. A multiplication takes a fraction of the time of a division.
+    #[inline]
     fn home(&self, hash: u64) -> usize
         requires { 0 < length self.now.heads.items }
         ensures home { result ≡ home (length self.now.heads.items) hash }
         ensures within { result < length self.now.heads.items }
     {
-        hash as usize % self.heads.len()
+        let (_, home) = hash.wrapping_mul(MIX).carrying_mul(self.heads.len() as u64, 0);
+        home as usize
     }
 
     // Returns the place of the key, whose hash is given.

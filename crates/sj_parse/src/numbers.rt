@@ -1,15 +1,14 @@
 //! Numbers: an integer in range by its value, any other by its text.
 ghost use Rattle.std.specs.Prelude.{◌≡◌, ◌<◌, ◌≤◌, ◌^◌, true, false, pos, neg_ℤ, length, take, MatchOption, IfSome, IfNone, SomeIff};
-ghost use Rattle.std.specs.Str.{all_ascii_digits};
 ghost use Rattle.sj_parse.specs.Token.{word};
 ghost use Rattle.std.specs.Str.Parse.{digits_value};
-ghost use Rattle.sj_base.specs.NumberTests.{is_negative, magnitude, is_whole, is_integer, is_decimal, is_number};
+ghost use Rattle.sj_base.specs.NumberTests.{magnitude, is_whole, is_integer, is_decimal, is_number};
 ghost use Rattle.sj_parse.specs.inside.NumberNode.{IsNumberNode, HasShape};
 
 use crate::atoms::ends_word;
 use crate::digits::value_of;
 use crate::search::digits_len;
-use sj_base::{Decimal, StaticNode};
+use sj_base::{Decimal, StaticNode, is_whole, split_minus};
 use sj_tape::Node;
 
 /// What is known of a word.
@@ -91,30 +90,6 @@ pub(crate) fn plain_number(bytes: &[u8]) -> Option<(usize, Shape)>
         Some((len + 1 + places, Shape::Decimal))
     } else {
         None
-    }
-}
-
-// Whether the digits are `0`, or begin with another one.
-#[inline(always)]
-fn is_whole(digits: &[u8]) -> bool
-    requires { all_ascii_digits digits.now ≡ true }
-    ensures { result ≡ is_whole digits.now }
-{
-    match digits {
-        [] => false,
-        [first, others @ ..] => *first != b'0' || others.is_empty(),
-    }
-}
-
-// Whether a minus stands in front, and what stands after it.
-#[inline(always)]
-fn split_minus(text: &[u8]) -> (bool, &[u8])
-    ensures negative { result.0 ≡ is_negative text.now }
-    ensures magnitude { result.1.now ≡ magnitude text.now }
-{
-    match text.split_first() {
-        Some((b'-', digits)) => (true, digits),
-        _ => (false, text),
     }
 }
 

@@ -1,5 +1,5 @@
 -- A hash table. The pairs stand in chains: each chain has a head, and each pair has a link.
-use Rattle.std.specs.Prelude.{◌≡◌, ℕ, zero, suc, ◌<◌, ◌≤◌, ◌%◌, Bool, true, false, ◌&&◌, ◌||◌, eqb, ltb, if◌then◌else◌, List, length, map, Option, Some, None, bytes_eq, get_or, slice_get}
+use Rattle.std.specs.Prelude.{◌≡◌, ℕ, zero, suc, ◌<◌, ◌≤◌, ◌*◌, ◌/◌, ◌%◌, ◌^◌, Bool, true, false, ◌&&◌, ◌||◌, eqb, ltb, if◌then◌else◌, List, length, map, Option, Some, None, bytes_eq, get_or, slice_get}
 use mathlib.Core.Bool.{Bool-set}
 use native.Mathlib.Nat.{ℕ_set}
 use Rattle.std.specs.Vec.{vec_capacity}
@@ -8,9 +8,13 @@ use Rattle.sj_object.specs.declared.entry.Entry.{Entry}
 use Rattle.sj_object.specs.declared.table.Link.{Link}
 use Rattle.sj_object.specs.declared.table.Table.{Table}
 
--- the chain in which a hash stands, of n chains
+-- a hash with its bits mixed, so that the high ones depend on all: 2 ^ 64 by the golden ratio is this odd number
+abbrev pub mixed : ℕ → ℕ
+mixed h = (h * 0x9e3779b97f4a7c15) % 2 ^ 64
+
+-- the chain in which a hash stands, of n chains: the mixed hash's share of 2 ^ 64
 abbrev pub home : ℕ → ℕ → ℕ
-home n h = h % n
+home n h = (mixed h * n) / 2 ^ 64
 
 -- where the chain of a hash begins
 abbrev pub head_of : List (Option ℕ) → ℕ → Option ℕ

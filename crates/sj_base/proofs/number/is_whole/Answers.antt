@@ -1,5 +1,5 @@
 use Rattle.std.proofs.Common.{rules}
-use Rattle.sj_parse.proofs.numbers.is_whole.Goals as goal
+use Rattle.sj_base.proofs.number.is_whole.Goals as goal
 
 pub returns-else-first-ne48 : goal.returns-else-first-ne48
 returns-else-first-ne48 c = search rules
