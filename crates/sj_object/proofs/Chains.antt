@@ -1,14 +1,14 @@
 -- Pairs go into chains, and look-ups find them there.
-use Rattle.std.proofs.Common.{◌≡◌, ◌≢◌, ℕ, zero, suc, ◌-◌, ◌<◌, ◌≤◌, ◌⊎◌, Bool, true, false, List, [], ◌∷◌, ◌++◌, ◌+◌, length, map, set, take, drop, get_or, slice_get, Option, Some, None, refl, sym, subst, ap, ap₂, ◌∙◌, inl, inr, arith, length-append}
+use Rattle.std.proofs.Common.{◌≡◌, ◌≢◌, ℕ, zero, suc, ◌-◌, ◌<◌, ◌≤◌, ◌⊎◌, Bool, true, false, List, [], ◌∷◌, ◌++◌, ◌+◌, length, map, set, take, drop, replicate, get_or, slice_get, Option, Some, None, refl, sym, subst, ap, ap₂, ◌∙◌, inl, inr, arith, length-append}
 use Rattle.std.specs.Borrow.{Bor}
 use Rattle.std.specs.List.{insert, remove}
 use Rattle.std.specs.Slice.{IsGetResult}
 use Rattle.std.specs.Option.{option_copied}
-use Rattle.std.specs.Prelude.{◌*◌, ◌^◌, bytes_eq, eqb, ◌&&◌, ◌||◌}
+use Rattle.std.specs.Prelude.{◌*◌, ◌^◌, bytes_eq, eqb, ◌&&◌, ◌||◌, ltb}
 use native.Mathlib.Nat as nat
 use Rattle.std.proofs.lemmas.Nat.{mod_below, div_below}
-use Rattle.std.proofs.lemmas.List.{length-set, length-map, length-take-le, get_or-map, map-append, take-map, drop-map, take_more, take_more_set}
-use Rattle.std.proofs.lemmas.Bool.{ltb-true, cases_Bool, or_left, or_right, and_from, and_parts, false≢true}
+use Rattle.std.proofs.lemmas.List.{length-set, length-map, length-take-le, get_or-map, map-append, append-nil, take_all, drop_all, take-map, drop-map, take_more, take_more_set}
+use Rattle.std.proofs.lemmas.Bool.{ltb-true, lt-ltb, cases_Bool, or_left, or_right, and_from, and_parts, false≢true}
 use Rattle.std.proofs.lemmas.Bool.Decides.{eqb_tells}
 use Rattle.std.proofs.lemmas.Slice.Eq.{bytes_eq-Decides}
 use Rattle.std.proofs.Math.Seq.{get_or-set_same, get_or-set_other}
@@ -17,7 +17,7 @@ use Rattle.sj_object.specs.Pairs.{keys_of, place_of, has_text, AreDistinct}
 use Rattle.sj_object.specs.declared.entry.Entry.{Entry}
 use Rattle.sj_object.specs.declared.table.Link.{Link}
 use Rattle.sj_object.specs.declared.table.Table.{Table}
-use Rattle.sj_object.specs.inside.Chains.{mixed, home, head_of, has_hash, next_of, reaches, stands, AreChained, HaveHashes, IsTable, has_key, sought}
+use Rattle.sj_object.specs.inside.Chains.{mixed, home, head_of, has_hash, next_of, reaches, stands, belongs, AreChained, HaveHashes, IsTable, has_key, sought}
 use Rattle.sj_object.proofs.Places.{at_place, some_same, none_some}
 
 -- The chain of a hash is one of the chains.
@@ -50,6 +50,9 @@ module _ {X : Type 0} where
 
 same_eqb : (n : ℕ) → eqb n n ≡ true
 same_eqb n = elim (eqb_tells n n) [ inl t ↦ t.0 | inr f ↦ absurd (f.1 refl) ]
+
+same_of_eqb : (a b : ℕ) → eqb a b ≡ true → a ≡ b
+same_of_eqb a b e = elim (eqb_tells a b) [ inl t ↦ t.1 | inr f ↦ absurd (false≢true (sym f.0 ∙ e)) ]
 
 or_second : (a b c : Bool) → (b ≡ true → c ≡ true) → a || b ≡ true → a || c ≡ true
 or_second true b c f h = refl
@@ -84,6 +87,23 @@ module _ (ls : List Link) (x : Link) where
       by_link : (o : Option Link) → slice_get ls p ≡ o → has_hash (slice_get (ls ++ x ∷ []) p) h ≡ true
       by_link None e = absurd (false≢true (rw e at t))
       by_link (Some l) e = rw (get-more ls x p l e) (rw e at t)
+
+  belongs-more : (n p h : ℕ) → belongs n (slice_get ls p) h ≡ true → belongs n (slice_get (ls ++ x ∷ []) p) h ≡ true
+  belongs-more n p h t = by_link (slice_get ls p) refl
+    where
+      by_link : (o : Option Link) → slice_get ls p ≡ o → belongs n (slice_get (ls ++ x ∷ []) p) h ≡ true
+      by_link None e = absurd (false≢true (rw e at t))
+      by_link (Some l) e = rw (get-more ls x p l e) (rw e at t)
+
+-- what belongs to a chain is a link
+belongs-within : (n : ℕ) (ls : List Link) (i h : ℕ) → belongs n (slice_get ls i) h ≡ true → i < length ls
+belongs-within n [] i h t = absurd (false≢true t)
+belongs-within n (l ∷ ls) zero h t = omega arith
+belongs-within n (l ∷ ls) (suc i) h t = omega (arith, belongs-within n ls i h t)
+
+belongs-same : (n : ℕ) (o : Option Link) (g h : ℕ) → home n g ≡ home n h → belongs n o h ≡ true → belongs n o g ≡ true
+belongs-same n None g h e t = absurd (false≢true t)
+belongs-same n (Some l) g h e t = rw e t
 
 -- ---- a pair more
 
@@ -127,6 +147,29 @@ module _ (heads : List (Option ℕ)) (ls : List Link) (h : ℕ) (some : home (le
       (rw last (same_eqb h))
       (rw (one_more, head-same h refl) (or_left (eqb (length ls) (length ls)) (reaches (length ls) new_links (next_of (slice_get new_links (length ls))) (length ls)) (same_eqb (length ls))))
 
+  module _ (begins : (g i : ℕ) → head_of heads g ≡ Some i → belongs (length heads) (slice_get ls i) g ≡ true) where
+    begins-more : (g i : ℕ) → head_of new_heads g ≡ Some i → belongs (length heads) (slice_get new_links i) g ≡ true
+    begins-more g i e = elim (eqb_tells (home (length heads) g) (home (length heads) h)) [
+      | inl t ↦
+          let place : length ls ≡ i = some_same (length ls) i (sym (head-same g t.1) ∙ e) in
+          rw (← place, get-last ls (record { hash = h; next = head_of heads h }), t.1, same_eqb (home (length heads) h)) refl
+      | inr f ↦ belongs-more ls (record { hash = h; next = head_of heads h }) (length heads) i g (begins g i (sym (head-other g f.1) ∙ e))
+    ]
+
+    leads-more : ((p i : ℕ) (l : Link) → slice_get ls p ≡ Some l → l.next ≡ Some i → (ltb i p && belongs (length heads) (slice_get ls i) l.hash) ≡ true)
+        → (p i : ℕ) (l : Link) → slice_get new_links p ≡ Some l → l.next ≡ Some i → (ltb i p && belongs (length heads) (slice_get new_links i) l.hash) ≡ true
+    leads-more leads p i l e f = elim (get-cases ls (record { hash = h; next = head_of heads h }) p l e) [
+      | inl old ↦
+          let parts = and_parts (ltb i p) (belongs (length heads) (slice_get ls i) l.hash) (leads p i l old f) in
+          and_from (ltb i p) (belongs (length heads) (slice_get new_links i) l.hash) parts.0 (belongs-more ls (record { hash = h; next = head_of heads h }) (length heads) i l.hash parts.1)
+      | inr new ↦
+          let first = begins h i (ap (λ (x : Link). x.next) new.1 ∙ f) in
+          let own : h ≡ l.hash = ap (λ (x : Link). x.hash) new.1 in
+          and_from (ltb i p) (belongs (length heads) (slice_get new_links i) l.hash)
+          (lt-ltb i p (omega (arith, new.0, belongs-within (length heads) ls i h first)))
+          (subst (λ k. belongs (length heads) (slice_get new_links i) k ≡ true) own (belongs-more ls (record { hash = h; next = head_of heads h }) (length heads) i h first))
+    ]
+
 -- A link that is put to the head of its hash's chain is one of a key more.
 pub chained_put : (heads : List (Option ℕ)) (ls : List Link) (ks : List (List ℕ)) (k : List ℕ) (h : ℕ) → h ≡ text_hash k → AreChained heads ls ks
     → AreChained (set heads (home (length heads) h) (Some (length ls))) (ls ++ (record { hash = h; next = head_of heads h }) ∷ []) (ks ++ k ∷ [])
@@ -141,6 +184,8 @@ chained_put heads ls ks k h own is =
             let place : p ≡ length ls = omega (arith, new.0, is.1) in
             rw (place, ← new.1, ← own) (stands-last heads ls h some size)
       ],
+      λ g i e. rw size (begins-more heads ls h some size is.3 g i e),
+      λ p i l e f. rw size (leads-more heads ls h some size is.3 is.4 p i l e f),
     )
 
 -- A table has a key more where its hash was put into the table.
@@ -150,10 +195,190 @@ pub table_put : (t u : Table) (ks : List (List ℕ)) (k : List ℕ) (h : ℕ) �
     → IsTable t ks → IsTable u (ks ++ k ∷ [])
 table_put t u ks k h own heads links is = rw (heads, links) (chained_put t.heads.items t.links.items ks k h own is)
 
--- ---- the hashes that the links keep
+-- ---- no pairs
 
-same_of_eqb : (a b : ℕ) → eqb a b ≡ true → a ≡ b
-same_of_eqb a b e = elim (eqb_tells a b) [ inl t ↦ t.1 | inr f ↦ absurd (false≢true (sym f.0 ∙ e)) ]
+no_head : (n i : ℕ) → get_or {A = Option ℕ} (replicate n None) i None ≡ None
+no_head zero i = refl
+no_head (suc n) zero = refl
+no_head (suc n) (suc i) = no_head n i
+
+-- No chain begins anywhere.
+pub chained_none : (n : ℕ) (heads : List (Option ℕ)) → 0 < length heads → heads ≡ replicate n None → AreChained heads [] []
+chained_none n heads some empty = (
+  lt-ltb 0 (length heads) some,
+  refl,
+  λ p k e. absurd (none_some k e),
+  λ h i e. absurd (none_some i (sym (ap (λ l. get_or l (home (length heads) h) None) empty ∙ no_head n (home (length heads) h)) ∙ e)),
+  λ p i l e f. absurd (none_some l e),
+)
+
+-- ---- a pair less
+
+module _ {X : Type 0} where
+  get-take : (m : ℕ) (xs : List X) (i : ℕ) → i < m → slice_get (take m xs) i ≡ slice_get xs i
+  get-take zero xs i w = absurd (omega arith)
+  get-take (suc m) [] i w = refl
+  get-take (suc m) (x ∷ xs) zero w = refl
+  get-take (suc m) (x ∷ xs) (suc i) w = get-take m xs i (omega arith)
+
+  pub get_within : (xs : List X) (i : ℕ) (d : X) → i < length xs → Some (get_or xs i d) ≡ slice_get xs i
+  get_within [] i d within = absurd (omega arith)
+  get_within (x ∷ xs) zero d within = refl
+  get_within (x ∷ xs) (suc i) d within = get_within xs i d (omega arith)
+
+  -- what is got of the front stands in it
+  got-within : (m : ℕ) (xs : List X) (i : ℕ) (y : X) → slice_get (take m xs) i ≡ Some y → i < m
+  got-within zero xs i y e = absurd (none_some y e)
+  got-within (suc m) [] i y e = absurd (none_some y e)
+  got-within (suc m) (x ∷ xs) zero y e = omega arith
+  got-within (suc m) (x ∷ xs) (suc i) y e = omega (arith, got-within m xs i y e)
+
+module _ (ls : List Link) (back : (p i : ℕ) (l : Link) → slice_get ls p ≡ Some l → l.next ≡ Some i → i < p) where
+  next-back : (i j : ℕ) → next_of (slice_get ls i) ≡ Some j → j < i
+  next-back i j e = by_link (slice_get ls i) refl
+    where
+      by_link : (o : Option Link) → slice_get ls i ≡ o → j < i
+      by_link None none = absurd (none_some j (rw none at e))
+      by_link (Some l) some = back i j l some (rw some at e)
+
+  -- a chain goes down
+  reaches-down : (n i p : ℕ) → reaches n ls (Some i) p ≡ true → p ≤ i
+  reaches-down zero i p r = absurd (false≢true r)
+  reaches-down (suc n) i p r = elim (eqb_tells i p) [
+    | inl t ↦ omega (arith, t.1)
+    | inr f ↦ by_next (next_of (slice_get ls i)) refl (λ j. reaches-down n j p) (rw f.0 at r)
+  ]
+    where
+      by_next : (o : Option ℕ) → next_of (slice_get ls i) ≡ o → ((j : ℕ) → reaches n ls (Some j) p ≡ true → p ≤ j) → reaches n ls (next_of (slice_get ls i)) p ≡ true → p ≤ i
+      by_next None e rest s = absurd (reaches-none n ls p (rw e at s))
+      by_next (Some j) e rest s = omega (arith, rest j (rw e at s), next-back i j e)
+
+  -- so from place i on it takes at most i steps and one
+  reaches-steps : (n k i p : ℕ) → i < k → reaches n ls (Some i) p ≡ true → reaches k ls (Some i) p ≡ true
+  reaches-steps zero k i p w r = absurd (false≢true r)
+  reaches-steps (suc n) zero i p w r = absurd (omega arith)
+  reaches-steps (suc n) (suc k) i p w r =
+      or_second (eqb i p) (reaches n ls (next_of (slice_get ls i)) p) (reaches k ls (next_of (slice_get ls i)) p) (by_next (next_of (slice_get ls i)) refl (λ j. reaches-steps n k j p)) r
+    where
+      by_next : (o : Option ℕ) → next_of (slice_get ls i) ≡ o → ((j : ℕ) → j < k → reaches n ls (Some j) p ≡ true → reaches k ls (Some j) p ≡ true)
+          → reaches n ls (next_of (slice_get ls i)) p ≡ true → reaches k ls (next_of (slice_get ls i)) p ≡ true
+      by_next None e rest s = absurd (reaches-none n ls p (rw e at s))
+      by_next (Some j) e rest s = rw e (rest j (omega (arith, w, next-back i j e)) (rw e at s))
+
+  -- and meets none of the links above
+  reaches-front : (m n i p : ℕ) → i < m → reaches n ls (Some i) p ≡ true → reaches n (take m ls) (Some i) p ≡ true
+  reaches-front m zero i p w r = absurd (false≢true r)
+  reaches-front m (suc n) i p w r =
+      or_second (eqb i p) (reaches n ls (next_of (slice_get ls i)) p) (reaches n (take m ls) (next_of (slice_get (take m ls) i)) p) (λ s. rw (get-take m ls i w) (by_next (next_of (slice_get ls i)) refl (λ j. reaches-front m n j p) s)) r
+    where
+      by_next : (o : Option ℕ) → next_of (slice_get ls i) ≡ o → ((j : ℕ) → j < m → reaches n ls (Some j) p ≡ true → reaches n (take m ls) (Some j) p ≡ true)
+          → reaches n ls (next_of (slice_get ls i)) p ≡ true → reaches n (take m ls) (next_of (slice_get ls i)) p ≡ true
+      by_next None e rest s = absurd (reaches-none n ls p (rw e at s))
+      by_next (Some j) e rest s = rw e (rest j (omega (arith, w, next-back i j e)) (rw e at s))
+
+module _ (heads : List (Option ℕ)) (ls : List Link) (ks : List (List ℕ)) (is : AreChained heads ls ks) (m : ℕ) (count : length ls ≡ suc m) (l : Link) (last : slice_get ls m ≡ Some l) where
+  abbrev less_heads : List (Option ℕ)
+  less_heads = set heads (home (length heads) l.hash) l.next
+
+  less_size : length less_heads ≡ length heads
+  less_size = length-set heads (home (length heads) l.hash) l.next
+
+  leads_back : (p i : ℕ) (x : Link) → slice_get ls p ≡ Some x → x.next ≡ Some i → i < p
+  leads_back p i x e f = ltb-true i p (and_parts (ltb i p) (belongs (length heads) (slice_get ls i) x.hash) (is.4 p i x e f)).0
+
+  less-same : (g : ℕ) → home (length heads) g ≡ home (length heads) l.hash → head_of less_heads g ≡ l.next
+  less-same g e = ap (λ n. get_or less_heads (home n g) None) less_size ∙ ap (λ i. get_or less_heads i None) e
+      ∙ get_or-set_same heads (home (length heads) l.hash) l.next None (home_below (length heads) l.hash (ltb-true 0 (length heads) is.0))
+
+  less-other : (g : ℕ) → home (length heads) g ≢ home (length heads) l.hash → head_of less_heads g ≡ head_of heads g
+  less-other g n = ap (λ n. get_or less_heads (home n g) None) less_size ∙ get_or-set_other heads (home (length heads) l.hash) (home (length heads) g) l.next None n
+
+  -- another chain begins below the last link
+  begins-below : (g i : ℕ) → home (length heads) g ≢ home (length heads) l.hash → head_of heads g ≡ Some i → i < m
+  begins-below g i other e =
+      let own = is.3 g i e in
+      elim (eqb_tells i m) [
+        | inl t ↦ absurd (other (sym (same_of_eqb (home (length heads) l.hash) (home (length heads) g) (rw (t.1, last) at own))))
+        | inr f ↦ omega (arith, belongs-within (length heads) ls i g own, count, f.1)
+      ]
+
+  -- the last link is the first of its chain
+  begins-last : (k : List ℕ) → slice_get ks m ≡ Some k → head_of heads l.hash ≡ Some m
+  begins-last k e =
+      let parts = and_parts (has_hash (slice_get ls m) (text_hash k)) (reaches (length ls) ls (head_of heads (text_hash k)) m) (is.2 m k e) in
+      let own : l.hash ≡ text_hash k = same_of_eqb l.hash (text_hash k) (rw last at parts.0) in
+      by_head (head_of heads l.hash) refl (subst (λ h. reaches (length ls) ls (head_of heads h) m ≡ true) (sym own) parts.1)
+    where
+      by_head : (o : Option ℕ) → head_of heads l.hash ≡ o → reaches (length ls) ls (head_of heads l.hash) m ≡ true → head_of heads l.hash ≡ Some m
+      by_head None e r = absurd (reaches-none (length ls) ls m (rw e at r))
+      by_head (Some i) e r =
+          let low = reaches-down ls leads_back (length ls) i m (rw e at r) in
+          let high = belongs-within (length heads) ls i l.hash (is.3 l.hash i e) in
+          e ∙ ap (λ j. Some j) (omega (arith, low, high, count))
+
+  -- what stands below the last link stands there without it
+  stands-less : (k : List ℕ) → slice_get ks m ≡ Some k → (g p : ℕ) → p < m → stands heads ls g p ≡ true → stands less_heads (take m ls) g p ≡ true
+  stands-less k key g p below s =
+      let parts = and_parts (has_hash (slice_get ls p) g) (reaches (length ls) ls (head_of heads g) p) s in
+      let there = reaches-below g p below (subst (λ n. reaches n ls (head_of heads g) p ≡ true) count parts.1) in
+      and_from (has_hash (slice_get (take m ls) p) g) (reaches (length (take m ls)) (take m ls) (head_of less_heads g) p)
+      (rw (get-take m ls p below) parts.0)
+      (rw (length-take-le m ls (omega (arith, count))) there)
+    where
+      reaches-below : (g p : ℕ) → p < m → reaches (suc m) ls (head_of heads g) p ≡ true → reaches m (take m ls) (head_of less_heads g) p ≡ true
+      reaches-below g p below r = elim (eqb_tells (home (length heads) g) (home (length heads) l.hash)) [
+        | inl t ↦
+            let first : head_of heads g ≡ Some m = ap (λ i. get_or heads i None) t.1 ∙ begins-last k key in
+            let behind : reaches m ls (next_of (slice_get ls m)) p ≡ true = elim (eqb_tells m p) [
+              | inl same ↦ absurd (omega (arith, same.1, below))
+              | inr other ↦ rw other.0 at (rw first at r)
+            ] in
+            rw (less-same g t.1) (from_next l.next refl (rw last at behind))
+        | inr f ↦ rw (less-other g f.1) (from_head (head_of heads g) refl f.1 r)
+      ]
+        where
+          from_next : (o : Option ℕ) → l.next ≡ o → reaches m ls l.next p ≡ true → reaches m (take m ls) l.next p ≡ true
+          from_next None e s = absurd (reaches-none m ls p (rw e at s))
+          from_next (Some j) e s = rw e (reaches-front ls leads_back m m j p (leads_back m j l last e) (rw e at s))
+
+          from_head : (o : Option ℕ) → head_of heads g ≡ o → home (length heads) g ≢ home (length heads) l.hash → reaches (suc m) ls (head_of heads g) p ≡ true → reaches m (take m ls) (head_of heads g) p ≡ true
+          from_head None e other s = absurd (reaches-none (suc m) ls p (rw e at s))
+          from_head (Some i) e other s =
+              let low = begins-below g i other e in
+              rw e (reaches-front ls leads_back m m i p low (reaches-steps ls leads_back (suc m) m i p low (rw e at s)))
+
+  begins-less : (g i : ℕ) → head_of less_heads g ≡ Some i → belongs (length heads) (slice_get (take m ls) i) g ≡ true
+  begins-less g i e = elim (eqb_tells (home (length heads) g) (home (length heads) l.hash)) [
+    | inl t ↦
+        let next : l.next ≡ Some i = sym (less-same g t.1) ∙ e in
+        let own = and_parts (ltb i m) (belongs (length heads) (slice_get ls i) l.hash) (is.4 m i l last next) in
+        rw (get-take m ls i (ltb-true i m own.0)) (belongs-same (length heads) (slice_get ls i) g l.hash t.1 own.1)
+    | inr f ↦
+        let old : head_of heads g ≡ Some i = sym (less-other g f.1) ∙ e in
+        rw (get-take m ls i (begins-below g i f.1 old)) (is.3 g i old)
+  ]
+
+  leads-less : (p i : ℕ) (x : Link) → slice_get (take m ls) p ≡ Some x → x.next ≡ Some i → (ltb i p && belongs (length heads) (slice_get (take m ls) i) x.hash) ≡ true
+  leads-less p i x e f =
+      let below = got-within m ls p x e in
+      let old : slice_get ls p ≡ Some x = sym (get-take m ls p below) ∙ e in
+      rw (get-take m ls i (omega (arith, below, leads_back p i x old f))) (is.4 p i x old f)
+
+  -- Without the last link, to which its chain's head led, the links are those of a key less.
+  pub chained_pop : AreChained less_heads (take m ls) (take m ks)
+  chained_pop =
+      let keys : m < length ks = omega (arith, count, is.1) in
+      let key = sym (get_within ks m [] keys) in (
+        rw less_size is.0,
+        length-take-le m ls (omega (arith, count)) ∙ sym (length-take-le m ks (omega (arith, keys))),
+        λ p k e.
+            let below = got-within m ks p k e in
+            stands-less (get_or ks m []) key (text_hash k) p below (is.2 p k (sym (get-take m ks p below) ∙ e)),
+        λ g i e. rw less_size (begins-less g i e),
+        λ p i x e f. rw less_size (leads-less p i x e f),
+      )
+
+-- ---- the hashes that the links keep
 
 have_all : (ls : List Link) (ks : List (List ℕ)) → length ls ≡ length ks
     → ((p : ℕ) (k : List ℕ) → slice_get ks p ≡ Some k → has_hash (slice_get ls p) (text_hash k) ≡ true) → HaveHashes ls ks
@@ -165,6 +390,14 @@ have_all (l ∷ ls) (k ∷ ks) same each = ap₂ (λ x xs. x ∷ xs) (same_of_eq
 -- Chained links have the hashes of their keys.
 pub have_hashes : (heads : List (Option ℕ)) (ls : List Link) (ks : List (List ℕ)) → AreChained heads ls ks → HaveHashes ls ks
 have_hashes heads ls ks is = have_all ls ks is.1 (λ p k e. (and_parts (has_hash (slice_get ls p) (text_hash k)) (reaches (length ls) ls (head_of heads (text_hash k)) p) (is.2 p k e)).0)
+
+-- A key that is put at the end stands last, and one that is taken out there leaves the others.
+module _ {X : Type 0} where
+  pub inserted_last : (xs : List X) (i : ℕ) (x : X) → i ≡ length xs → insert xs i x ≡ xs ++ x ∷ []
+  inserted_last xs i x e = ap₂ (λ a b. a ++ x ∷ b) (take_all i xs (omega (arith, e))) (drop_all i xs (omega (arith, e)))
+
+  pub removed_last : (xs : List X) (i : ℕ) → length xs ≡ suc i → remove xs i ≡ take i xs
+  removed_last xs i e = ap (λ b. take i xs ++ b) (drop_all (suc i) xs (omega (arith, e))) ∙ append-nil (take i xs)
 
 module _ {A B : Type 0} (f : A → B) where
   pub map-remove : (xs : List A) (i : ℕ) → map f (remove xs i) ≡ remove (map f xs) i
@@ -286,11 +519,6 @@ keys_of-take_more text d (e ∷ es) zero within = refl
 keys_of-take_more text d (e ∷ es) (suc i) within = ap (λ l. text e.key ∷ l) (keys_of-take_more text d es i (omega arith))
 
 module _ {X : Type 0} where
-  get_within : (xs : List X) (i : ℕ) (d : X) → i < length xs → Some (get_or xs i d) ≡ slice_get xs i
-  get_within [] i d within = absurd (omega arith)
-  get_within (x ∷ xs) zero d within = refl
-  get_within (x ∷ xs) (suc i) d within = get_within xs i d (omega arith)
-
   get_past : (xs : List X) (i : ℕ) → length xs ≤ i → None ≡ slice_get xs i
   get_past [] i past = refl
   get_past (x ∷ xs) zero past = absurd (omega arith)

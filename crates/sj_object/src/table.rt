@@ -131,8 +131,12 @@ impl Table {
         ensures { (ks : List (List ℕ)) (k : List ℕ) → IsTable self.old ks → hash ≡ text_hash k
             → IsTable self.new (insert ks place k) }
     {
-        insert_reserved(&mut self.links, place, Link { hash, next: None });
-        self.relink();
+        if place == self.links.len() {
+            self.put(hash, place);
+        } else {
+            insert_reserved(&mut self.links, place, Link { hash, next: None });
+            self.relink();
+        }
     }
 
     // Takes the pair at a place out of the table. The places of the pairs after it go down by one.
@@ -141,8 +145,14 @@ impl Table {
         requires some { 0 < length self.old.heads.items }
         ensures { (ks : List (List ℕ)) → IsTable self.old ks → IsTable self.new (remove ks place) }
     {
-        self.links.remove(place);
-        self.relink();
+        let link = self.links.remove(place);
+        if place == self.links.len() {
+            // Its chain began at the last pair.
+            let home = self.home(link.hash);
+            self.heads[home] = link.next;
+        } else {
+            self.relink();
+        }
     }
 
     // Makes the chains anew, of the hashes that the table keeps.

@@ -40,12 +40,20 @@ reaches (suc n) links (Some i) p = eqb i p || reaches n links (next_of (slice_ge
 abbrev pub stands : List (Option ℕ) → List Link → ℕ → ℕ → Bool
 stands heads links h p = has_hash (slice_get links p) h && reaches (length links) links (head_of heads h) p
 
--- There is a link for each of the keys, and each stands in the chain of its hash.
+-- whether there is such a link, and it belongs to the chain of this hash, of n chains
+abbrev pub belongs : ℕ → Option Link → ℕ → Bool
+belongs n None h = false
+belongs n (Some l) h = eqb (home n l.hash) (home n h)
+
+-- There is a link for each of the keys, and each stands in the chain of its hash. A chain begins at a link of its own, and each
+-- link leads to an earlier one of its chain, or to none.
 abbrev pub AreChained : List (Option ℕ) → List Link → List (List ℕ) → Type 0
 AreChained heads links ks =
     (ltb 0 (length heads) ≡ true)
     × (length links ≡ length ks)
     × ((p : ℕ) (k : List ℕ) → slice_get ks p ≡ Some k → stands heads links (text_hash k) p ≡ true)
+    × ((h i : ℕ) → head_of heads h ≡ Some i → belongs (length heads) (slice_get links i) h ≡ true)
+    × ((p i : ℕ) (l : Link) → slice_get links p ≡ Some l → l.next ≡ Some i → (ltb i p && belongs (length heads) (slice_get links i) l.hash) ≡ true)
 
 -- the links have the hashes of the keys
 abbrev pub HaveHashes : List Link → List (List ℕ) → Type 0
@@ -56,7 +64,13 @@ abbrev pub IsTable : Table → List (List ℕ) → Type 0
 IsTable t ks = AreChained t.heads.items t.links.items ks
 
 pub IsTable-prop : (t : Table) (ks : List (List ℕ)) → IsProp (IsTable t ks)
-IsTable-prop t ks = λ x y i. (Bool-set _ _ x.0 y.0 i, ℕ_set _ _ x.1 y.1 i, λ p k e. Bool-set _ _ (x.2 p k e) (y.2 p k e) i)
+IsTable-prop t ks = λ x y i. (
+  Bool-set _ _ x.0 y.0 i,
+  ℕ_set _ _ x.1 y.1 i,
+  λ p k e. Bool-set _ _ (x.2 p k e) (y.2 p k e) i,
+  λ h j e. Bool-set _ _ (x.3 h j e) (y.3 h j e) i,
+  λ p j l e f. Bool-set _ _ (x.4 p j l e f) (y.4 p j l e f) i,
+)
 
 -- a table has a chain at least, and room for n links
 abbrev pub HasRoomFor : ℕ → Table → Type 0

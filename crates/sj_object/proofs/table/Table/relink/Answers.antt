@@ -1,11 +1,10 @@
-use Rattle.std.proofs.Common.{◌≡◌, ◌<◌, ℕ, Option, None, length, take, refl, subst, ap, ◌∙◌, arith}
-use Rattle.std.proofs.lemmas.Bool.{lt-ltb}
+use Rattle.std.proofs.Common.{◌≡◌, ◌<◌, ℕ, Option, None, length, take, refl, subst, ap, ◌∙◌, arith, rules}
 use Rattle.std.proofs.lemmas.List.{length-set, get_or_default, take_all}
 use Rattle.std.proofs.Math.Seq.{map-set_same}
 use Rattle.std.specs.Prelude.{get_or}
 use Rattle.sj_object.specs.declared.table.Link.{Link}
 use Rattle.sj_object.specs.inside.Chains.{home, head_of, AreChained}
-use Rattle.sj_object.proofs.Chains.{chained_next, same_length}
+use Rattle.sj_object.proofs.Chains.{chained_none, chained_next, same_length}
 use Rattle.sj_object.proofs.table.Table.relink.Goals as goal
 
 abbrev record_of : ℕ → Option ℕ → Link
@@ -15,7 +14,8 @@ pub loop-place-init : goal.loop-place-init
 loop-place-init c =
     let heads = c.fill.new.self in
     let some : 0 < length heads.items = omega (arith, c.fill.ensures.len, c.requires) in
-    (some, refl, refl, λ ks have. (have, (lt-ltb 0 (length heads.items) some, refl, λ p k none. absurd cc)))
+    let empty = c.fill.ensures.items (λ y e. search rules) in
+    (some, refl, refl, λ ks have. (have, chained_none _ heads.items some empty))
 
 pub loop-place-preserved : goal.loop-place-preserved
 loop-place-preserved c =
