@@ -7,7 +7,6 @@ ghost use Rattle.sj_object.specs.Copies.{copied_pairs, pair_members};
 use crate::entry::Entry;
 use crate::key::ObjectKey;
 use crate::object::Object;
-use crate::pairs::Pairs;
 use sj_base::TryCopy;
 use std::alloc::AllocError;
 use std::borrow::CowStr;
@@ -25,7 +24,7 @@ impl CopyKey for CowStr<'_> {
     ghost keeps_text = { λ a b same. ap (λ p. p.1) same };
 }
 
-/// A copy has copies of the keys and of the values, in the same order.
+/// A copy has copies of the keys and of the values, in the same order. No key is hashed.
 impl<K: CopyKey + Drop, V: TryCopy + Drop> TryCopy for Object<K, V> {
     ghost Copied = { List (K.Copied × V.Copied) };
 
@@ -42,7 +41,7 @@ impl<K: CopyKey + Drop, V: TryCopy + Drop> TryCopy for Object<K, V> {
             entries.push_reserved(Entry { key, value });
         }
         Ok(Object {
-            pairs: Pairs::of(entries)?,
+            pairs: self.pairs.with_entries(entries)?,
         })
     }
 }

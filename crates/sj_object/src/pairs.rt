@@ -52,20 +52,24 @@ impl<K, V> Pairs<K, V> {
 }
 
 impl<K: ObjectKey, V> Pairs<K, V> {
-    // Makes a table for these pairs, if they are more than `LIST_MAX`.
-    pub(crate) fn of(entries: Vec<Entry<K, V>>) -> Result<Pairs<K, V>, AllocError>
+    // Returns pairs whose keys are those of `self`, in their order. They get a copy of its table, if it has one.
+    pub(crate) fn with_entries(
+        &self,
+        entries: Vec<Entry<K, V>>,
+    ) -> Result<Pairs<K, V>, AllocError>
     where
         K: Drop,
         V: Drop,
+        requires found { IsFound K.text self.now }
+        requires keys { keys_of K.text entries.items ≡ keys_of K.text (stored self.now).items }
         ensures pairs { IfOk result (λ pairs. (stored pairs).items ≡ entries.items) }
         ensures found { IfOk result (IsFound K.text) }
-        ensures few { length entries.items ≤ 32 → IfOk result IsListed }
     {
-        if entries.len() <= LIST_MAX {
+        let Pairs::Hashed(hashed) = self else {
             return Ok(Pairs::Listed(entries));
-        }
+        };
         let alloc = *entries.allocator();
-        let table = Table::of(alloc, &entries)?;
+        let table = hashed.table.try_clone(alloc)?;
         Ok(Pairs::Hashed(Box::new(alloc, HashedPairs { entries, table })?))
     }
 

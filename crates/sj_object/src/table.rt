@@ -100,6 +100,15 @@ impl Table {
         Ok(made)
     }
 
+    // Returns a copy.
+    pub(crate) fn try_clone(&self, alloc: Global) -> Result<Table, AllocError>
+        ensures { IfOk result (λ table. (ks : List (List ℕ)) → IsTable self.now ks → IsTable table ks) }
+    {
+        let heads = Vec::from_slice(alloc, &self.heads)?;
+        let links = Vec::from_slice(alloc, &self.links)?;
+        Ok(Table { heads, links })
+    }
+
     // Puts all pairs into a table without pairs.
     fn fill<K: ObjectKey, V>(&mut self, entries: &[Entry<K, V>])
         requires empty { IsTable self.old [] }

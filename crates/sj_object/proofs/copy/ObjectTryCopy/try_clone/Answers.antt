@@ -3,19 +3,28 @@ use Rattle.std.proofs.Common.{◌≤◌, length, sym, subst, ap, ◌∙◌, arit
 use Rattle.std.proofs.lemmas.List.{take_all}
 use Rattle.sj_object.specs.Copies.{copied_pairs}
 use Rattle.sj_object.specs.Pairs.{keys_of, AreDistinct}
-use Rattle.sj_object.proofs.Copying.{distinct_copy}
+use Rattle.sj_object.proofs.Copying.{copied_keys}
 use Rattle.sj_object.proofs.copy.ObjectTryCopy.try_clone.Goals as goal
 
-pub invariant_of-result : goal.invariant_of-result
-invariant_of-result g c =
-    let key = g.K.TryCopy.copied in
-    let value = g.V.TryCopy.copied in
+pub with_entries-requires-clause-keys : goal.with_entries-requires-clause-keys
+with_entries-requires-clause-keys g c =
     let es = c.args.self.now in
     let i = c.loop-entry.entry-index in
     let past : length es ≤ i = omega (arith, c.loop-entry-test.false, ap length (c.deref-entry-items.ensures.value ∙ c.entries-2.ensures)) in
-    let all = c.loop-entry.invariant.0 ∙ ap (copied_pairs key value) (take_all i es past) in
-    let distinct = distinct_copy g.K.ObjectKey.text key value g.met.K.CopyKey.keeps_text es c.loop-entry.entries.items all c.len.ensures.distinct in
-    (subst (λ l. AreDistinct (keys_of g.K.ObjectKey.text l)) (sym c.in_ok-of.ensures.pairs) distinct, c.in_ok-of.ensures.found)
+    let all = c.loop-entry.invariant.0 ∙ ap (copied_pairs g.K.TryCopy.copied g.V.TryCopy.copied) (take_all i es past) in
+    copied_keys g.K.ObjectKey.text g.K.TryCopy.copied g.V.TryCopy.copied g.met.K.CopyKey.keeps_text c.loop-entry.entries.items es all
+    ∙ ap (keys_of g.K.ObjectKey.text) (sym c.self.view_is)
+
+pub invariant_of-result : goal.invariant_of-result
+invariant_of-result g c =
+    let text = g.K.ObjectKey.text in
+    let es = c.args.self.now in
+    let i = c.loop-entry.entry-index in
+    let past : length es ≤ i = omega (arith, c.loop-entry-test.false, ap length (c.deref-entry-items.ensures.value ∙ c.entries-2.ensures)) in
+    let all = c.loop-entry.invariant.0 ∙ ap (copied_pairs g.K.TryCopy.copied g.V.TryCopy.copied) (take_all i es past) in
+    let same = ap (keys_of text) c.in_ok-with_entries.ensures.pairs
+    ∙ copied_keys text g.K.TryCopy.copied g.V.TryCopy.copied g.met.K.CopyKey.keeps_text c.loop-entry.entries.items es all in
+    (subst AreDistinct (sym same) c.len.ensures.distinct, c.in_ok-with_entries.ensures.found)
 
 pub loop-entry-preserved : goal.loop-entry-preserved
 loop-entry-preserved c = grind (arith, common_steps)
@@ -37,4 +46,4 @@ returns g c =
     let i = c.loop-entry.entry-index in
     let copied = copied_pairs g.K.TryCopy.copied g.V.TryCopy.copied in
     let past : length es ≤ i = omega (arith, c.loop-entry-test.false, ap length (c.deref-entry-items.ensures.value ∙ c.entries-2.ensures)) in
-    ap copied c.in_ok-of.ensures.pairs ∙ c.loop-entry.invariant.0 ∙ ap copied (take_all i es past)
+    ap copied c.in_ok-with_entries.ensures.pairs ∙ c.loop-entry.invariant.0 ∙ ap copied (take_all i es past)
