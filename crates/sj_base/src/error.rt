@@ -2,7 +2,9 @@
 ghost use Rattle.std.specs.Prelude.{◌≡◌, ◌≢◌, ◌↔◌, Some, None, IsTrue};
 ghost use Rattle.sj_base.specs.Names.{name_of, error_text};
 ghost use Rattle.sj_base.specs.Classes.{class_of, io_class, eof_class, syntax_class, data_class};
+ghost use Rattle.sj_base.specs.declared.error.ErrorType.TheVariants.{OutOfMemory};
 
+use std::alloc::AllocError;
 use std::fmt;
 
 /// The kind of an [`Error`] (`simd_json::ErrorType` without payloads).
@@ -248,6 +250,15 @@ impl Error {
             IsTrue result ↔ ((class ≢ io_class) × (class ≢ eof_class) × (class ≢ syntax_class)) }
     {
         !self.is_io() && !self.is_eof() && !self.is_syntax()
+    }
+}
+
+/// The error is about no byte, and its kind is `OutOfMemory`.
+impl From<AllocError> for Error {
+    ghost from_gives = { λ _ e. e ≡ record { error = OutOfMemory; index = 0; character = None } };
+
+    fn from(_error: AllocError) -> Error {
+        Error::generic(ErrorType::OutOfMemory)
     }
 }
 

@@ -1,5 +1,9 @@
 //! Errors of typed reads, of changes to a value, and of writes to a sink.
+ghost use Rattle.std.specs.Prelude.{◌≡◌};
+ghost use Rattle.sj_base.specs.declared.fault.AccessError.TheVariants.{Memory};
+
 use crate::static_node::ValueType;
+use std::alloc::AllocError;
 use thiserror::Error;
 
 /// A read that asked for another type than the value has. Port of `value_trait::TryTypeError`.
@@ -24,6 +28,14 @@ pub enum AccessError {
     /// An allocation failed.
     #[error("Memory")]
     Memory,
+}
+
+impl From<AllocError> for AccessError {
+    ghost from_gives = { λ _ e. e ≡ Memory };
+
+    fn from(_error: AllocError) -> AccessError {
+        AccessError::Memory
+    }
 }
 
 /// A write to a sink that failed, was interrupted, or took no byte.

@@ -73,7 +73,8 @@ fn split_digits(bytes: &[u8]) -> (&[u8], &[u8])
     (bytes, &[])
 }
 
-/// Returns `true` if the digits are those of a whole number: `0` alone, or any that begin with another one.
+/// Returns `true` if these bytes, which have to be digits, are those of a whole number: `0` alone, or any that begin with another
+/// digit.
 #[inline(always)]
 pub fn is_whole(digits: &[u8]) -> bool
     requires { all_ascii_digits digits.now ≡ true }

@@ -1,5 +1,9 @@
 //! Errors of writes by a known key.
+ghost use Rattle.std.specs.Prelude.{◌≡◌};
+ghost use Rattle.sj_keys.specs.declared.error.KnownKeyError.TheVariants.{Memory};
+
 use sj_base::ValueType;
+use std::alloc::AllocError;
 use thiserror::Error;
 
 /// A write by a known key that was refused. Port of `simd_json::known_key::Error`.
@@ -11,4 +15,12 @@ pub enum KnownKeyError {
     /// An allocation failed.
     #[error("Memory")]
     Memory,
+}
+
+impl From<AllocError> for KnownKeyError {
+    ghost from_gives = { λ _ e. e ≡ Memory };
+
+    fn from(_error: AllocError) -> KnownKeyError {
+        KnownKeyError::Memory
+    }
 }

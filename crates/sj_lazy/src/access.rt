@@ -6,6 +6,7 @@ ghost use Rattle.sj_reads.specs.Reads.{mismatch};
 ghost use Rattle.sj_reads.specs.Views.{ok_map};
 
 use crate::array::Array;
+use crate::held::Held;
 use crate::object::Object;
 use crate::value::Value;
 use sj_base::{Scalar, TryTypeError, ValueType};
@@ -186,11 +187,8 @@ impl<'t, 'i> Value<'_, 't, 'i> {
         ensures { ok_map (option_map array_contents) result
             ≡ read_found array_in ValueType.Array (try_member (contents self.now) name.now) }
     {
-        if let Some(array) = self.get_array(name) {
-            return Ok(Some(array));
-        }
         match self.try_get(name)? {
-            Some(member) => Err(member.into_mismatch(ValueType::Array)),
+            Some(member) => Ok(Some(member.try_into_array()?)),
             None => Ok(None),
         }
     }
@@ -205,11 +203,8 @@ impl<'t, 'i> Value<'_, 't, 'i> {
         ensures { ok_map (option_map object_contents) result
             ≡ read_found object_in ValueType.Object (try_member (contents self.now) name.now) }
     {
-        if let Some(object) = self.get_object(name) {
-            return Ok(Some(object));
-        }
         match self.try_get(name)? {
-            Some(member) => Err(member.into_mismatch(ValueType::Object)),
+            Some(member) => Ok(Some(member.try_into_object()?)),
             None => Ok(None),
         }
     }
@@ -222,12 +217,38 @@ impl<'t, 'i> Value<'_, 't, 'i> {
             got: self.value_type(),
         }
     }
+}
 
-    // As `mismatch`, of a value that is dropped.
-    fn into_mismatch(self, expected: ValueType) -> TryTypeError
-        ensures { result ≡ mismatch expected (lazy_kind self.entry) }
+impl<'b, 't, 'i> Value<'b, 't, 'i> {
+    ghost use Rattle.sj_lazy.specs.Contents.{contents};
+    ghost use Rattle.sj_lazy.specs.Parts.{array_contents, array_in, object_contents, object_in};
+    ghost use Rattle.sj_lazy.specs.Upgrade.{owns};
+    ghost use Rattle.sj_lazy.specs.Views.{lazy_kind};
+
+    // As `try_as_array`, of a part of a tape or of a document.
+    fn try_into_array(self) -> Result<Array<'b, 't, 'i>, TryTypeError>
+        requires { owns self ≡ false }
+        ensures { ok_map array_contents result
+            ≡ ok_or (array_in (contents self.entry)) (mismatch ValueType.Array (lazy_kind self.entry)) }
     {
-        self.mismatch(expected)
+        match self {
+            Value::Tape(view) => Ok(Array::Tape(view.try_as_array()?)),
+            Value::Value(Held::Borrowed(document)) => Ok(Array::Value(document.try_as_array()?)),
+            Value::Value(Held::Owned(_)) => unreachable!(),
+        }
+    }
+
+    // As `try_as_object`, of a part of a tape or of a document.
+    fn try_into_object(self) -> Result<Object<'b, 't, 'i>, TryTypeError>
+        requires { owns self ≡ false }
+        ensures { ok_map object_contents result
+            ≡ ok_or (object_in (contents self.entry)) (mismatch ValueType.Object (lazy_kind self.entry)) }
+    {
+        match self {
+            Value::Tape(view) => Ok(Object::Tape(view.try_as_object()?)),
+            Value::Value(Held::Borrowed(document)) => Ok(Object::Value(document.try_as_object()?)),
+            Value::Value(Held::Owned(_)) => unreachable!(),
+        }
     }
 }
 

@@ -1,5 +1,6 @@
 //! Pairs of a key and a value.
 
+use std::alloc::AllocError;
 use thiserror::Error;
 
 /// A pair of a key and a value, as an object stores it.
@@ -19,4 +20,11 @@ pub struct Refused<K, V> {
     pub key: K,
     /// The value that was handed in.
     pub value: V,
+}
+
+/// The pair is dropped.
+impl<K: Drop, V: Drop> From<Refused<K, V>> for AllocError {
+    fn from(_refused: Refused<K, V>) -> AllocError {
+        AllocError
+    }
 }

@@ -64,6 +64,7 @@ impl<K: ObjectKey, V> Pairs<K, V> {
         requires keys { keys_of K.text entries.items ≡ keys_of K.text (stored self.now).items }
         ensures pairs { IfOk result (λ pairs. (stored pairs).items ≡ entries.items) }
         ensures found { IfOk result (IsFound K.text) }
+        ensures few { IsListed self.now → IfOk result IsListed }
     {
         let Pairs::Hashed(hashed) = self else {
             return Ok(Pairs::Listed(entries));

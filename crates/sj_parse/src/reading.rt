@@ -25,7 +25,8 @@ use std::mem;
 /// Reads a text into a tape, under the limit of [`sj_base::DEFAULT_MAX_DEPTH`] levels. Port of `simd_json::to_tape`.
 ///
 /// Strings are decoded where they stand, so the bytes of the text may be rewritten, also where the call ends with an
-/// error.
+/// error. What the clauses say of the tape's nodes is that they list the text's tree; a proof that needs the tree itself calls
+/// the law [`sj_tape::laws::listing_back`].
 ///
 /// # Errors
 ///
@@ -80,7 +81,8 @@ pub fn to_tape_with_buffers<'de>(
 /// Reads a text into the given tape, in place of what it holds, by the buffers and under their limit. Port of
 /// `simd_json::fill_tape`.
 ///
-/// The room of the tape is used again.
+/// The room of the tape is used again. While the tape holds nodes of an input, that input can't be written to; [`Tape::reset`]
+/// lets it go, and the room with it.
 ///
 /// # Errors
 ///

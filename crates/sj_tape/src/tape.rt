@@ -71,8 +71,8 @@ impl<'i> Tape<'i> {
         Ok(Tape::from_listing(nodes))
     }
 
-    /// Drops the nodes and returns an empty tape, whose nodes may borrow from another input. Takes no memory. Port of
-    /// `simd_json::Tape::reset`.
+    /// Drops the nodes with their room, and returns an empty tape, whose nodes may borrow from another input. Takes no memory.
+    /// Port of `simd_json::Tape::reset`.
     pub fn reset<'new>(self) -> Tape<'new>
         ensures { tape_nodes result ≡ [] }
     {
