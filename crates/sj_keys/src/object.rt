@@ -73,8 +73,8 @@ impl<K: FromString + Drop, V: Drop> KnownKeyTargetMut for Object<K, V> {
         key: &KnownKey<'_>,
         with: F,
     ) -> Result<&mut V, KnownKeyError> {
-        if let Some(found) = self.get_known_mut(key) {
-            return Ok(found);
+        if self.get_known(key).is_some() {
+            return Ok(self.get_known_mut(key).unwrap());
         }
         insert_new(self, alloc, key, with)
     }

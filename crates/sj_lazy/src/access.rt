@@ -187,9 +187,13 @@ impl<'t, 'i> Value<'_, 't, 'i> {
         ensures { ok_map (option_map array_contents) result
             ≡ read_found array_in ValueType.Array (try_member (contents self.now) name.now) }
     {
-        match self.try_get(name)? {
-            Some(member) => Ok(Some(member.try_into_array()?)),
-            None => Ok(None),
+        let Some(member) = self.try_get(name)? else {
+            return Ok(None);
+        };
+        let mismatch = member.mismatch(ValueType::Array);
+        match member.into_array() {
+            Some(array) => Ok(Some(array)),
+            None => Err(mismatch),
         }
     }
 
@@ -203,9 +207,13 @@ impl<'t, 'i> Value<'_, 't, 'i> {
         ensures { ok_map (option_map object_contents) result
             ≡ read_found object_in ValueType.Object (try_member (contents self.now) name.now) }
     {
-        match self.try_get(name)? {
-            Some(member) => Ok(Some(member.try_into_object()?)),
-            None => Ok(None),
+        let Some(member) = self.try_get(name)? else {
+            return Ok(None);
+        };
+        let mismatch = member.mismatch(ValueType::Object);
+        match member.into_object() {
+            Some(object) => Ok(Some(object)),
+            None => Err(mismatch),
         }
     }
 
@@ -223,30 +231,27 @@ impl<'b, 't, 'i> Value<'b, 't, 'i> {
     ghost use Rattle.sj_lazy.specs.Contents.{contents};
     ghost use Rattle.sj_lazy.specs.Parts.{array_contents, array_in, object_contents, object_in};
     ghost use Rattle.sj_lazy.specs.Upgrade.{owns};
-    ghost use Rattle.sj_lazy.specs.Views.{lazy_kind};
 
-    // As `try_as_array`, of a part of a tape or of a document.
-    fn try_into_array(self) -> Result<Array<'b, 't, 'i>, TryTypeError>
+    // As `as_array`, of a part of a tape or of a document.
+    fn into_array(self) -> Option<Array<'b, 't, 'i>>
         requires { owns self ≡ false }
-        ensures { ok_map array_contents result
-            ≡ ok_or (array_in (contents self.entry)) (mismatch ValueType.Array (lazy_kind self.entry)) }
+        ensures { option_map array_contents result ≡ array_in (contents self.entry) }
     {
         match self {
-            Value::Tape(view) => Ok(Array::Tape(view.try_as_array()?)),
-            Value::Value(Held::Borrowed(document)) => Ok(Array::Value(document.try_as_array()?)),
+            Value::Tape(view) => Some(Array::Tape(view.as_array()?)),
+            Value::Value(Held::Borrowed(document)) => Some(Array::Value(document.as_array()?)),
             Value::Value(Held::Owned(_)) => unreachable!(),
         }
     }
 
-    // As `try_as_object`, of a part of a tape or of a document.
-    fn try_into_object(self) -> Result<Object<'b, 't, 'i>, TryTypeError>
+    // As `as_object`, of a part of a tape or of a document.
+    fn into_object(self) -> Option<Object<'b, 't, 'i>>
         requires { owns self ≡ false }
-        ensures { ok_map object_contents result
-            ≡ ok_or (object_in (contents self.entry)) (mismatch ValueType.Object (lazy_kind self.entry)) }
+        ensures { option_map object_contents result ≡ object_in (contents self.entry) }
     {
         match self {
-            Value::Tape(view) => Ok(Object::Tape(view.try_as_object()?)),
-            Value::Value(Held::Borrowed(document)) => Ok(Object::Value(document.try_as_object()?)),
+            Value::Tape(view) => Some(Object::Tape(view.as_object()?)),
+            Value::Value(Held::Borrowed(document)) => Some(Object::Value(document.as_object()?)),
             Value::Value(Held::Owned(_)) => unreachable!(),
         }
     }

@@ -53,10 +53,7 @@ impl<K, V> Pairs<K, V> {
 
 impl<K: ObjectKey, V> Pairs<K, V> {
     // Returns pairs whose keys are those of `self`, in their order. They get a copy of its table, if it has one.
-    pub(crate) fn with_entries(
-        &self,
-        entries: Vec<Entry<K, V>>,
-    ) -> Result<Pairs<K, V>, AllocError>
+    pub(crate) fn with_entries(&self, entries: Vec<Entry<K, V>>) -> Result<Pairs<K, V>, AllocError>
     where
         K: Drop,
         V: Drop,

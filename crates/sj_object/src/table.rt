@@ -198,7 +198,8 @@ impl Table {
         ensures home { result ≡ home (length self.now.heads.items) hash }
         ensures within { result < length self.now.heads.items }
     {
-        let (_, home) = hash.wrapping_mul(MIX).carrying_mul(self.heads.len() as u64, 0);
+        let mixed = hash.wrapping_mul(MIX);
+        let (_, home) = mixed.carrying_mul(self.heads.len() as u64, 0);
         home as usize
     }
 
