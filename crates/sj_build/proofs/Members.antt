@@ -51,10 +51,3 @@ module _ {K V : Type 0} (text : K → List ℕ) (tree : V → Tree) where
   -- a key that no member has is not found
   pub not_found : (es : List (Entry K V)) (k : List ℕ) → has_key (members_of text (on_values tree es)) k ≡ false → value_at text es k ≡ None
   not_found es k new = not_there (value_at text es k) (has_member es k ∙ new)
-
-  -- a new member is added
-  pub added : (es : List (Entry K V)) (k : K) (v : V) → has_key (members_of text (on_values tree es)) (text k) ≡ false
-      → members_of text (on_values tree (put_key text es k v)) ≡ add_member (members_of text (on_values tree es)) (text k) (tree v)
-  added es k v new =
-      let ms = members_of text (on_values tree es) in
-      put_last es k v (has_member es (text k) ∙ new) ∙ sym (ap (λ b. cond b ms (with_last ms (text k) (tree v))) new)

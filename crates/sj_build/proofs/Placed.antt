@@ -1,14 +1,13 @@
 -- What the entries of a tree place on a stack: what is kept of the tree.
-use Rattle.std.proofs.Common.{◌≡◌, List, [], ◌∷◌, ◌++◌, take, drop, length, map, refl, sym, ap, ap₂, ◌∙◌, append_assoc, append-nil}
+use Rattle.std.proofs.Common.{◌≡◌, List, [], ◌∷◌, ◌++◌, drop, length, refl, sym, ap, ap₂, ◌∙◌, append_assoc, append-nil}
 use Rattle.sj_base.specs.Tree.{Tree, null, boolean, integer, decimal, string, list, object, Items, no_items, item, Members, no_members, member}
 use Rattle.sj_base.specs.Containers.{items_len, members_len}
 use Rattle.sj_base.specs.Keep.{keep, keep_items, keep_members}
 use Rattle.sj_tape.specs.Listing.{Entry, list_entry, object_entry, listing, items_listing, members_listing}
 use Rattle.sj_tape.specs.Listed.{IsTape, tree_of}
 use Rattle.sj_tape.proofs.Tapes.{tape_is_listing}
-use Rattle.sj_build.specs.Trees.{items_of}
-use Rattle.sj_build.specs.inside.Building.{Shown, first_part, text, built, shown_tree, members_from, drop_pairs, place, placed}
-use Rattle.sj_build.specs.inside.Kept.{gathered}
+use Rattle.sj_build.specs.inside.Building.{Shown, first_part, text, built, shown_tree, items_from, add_pairs, drop_pairs, place, placed}
+use Rattle.sj_build.specs.inside.Kept.{add_member, gathered}
 use Rattle.sj_build.proofs.Kept.{kept_each, gathered_keeps}
 
 abbrev pub whole : Tree → Shown
@@ -39,7 +38,7 @@ abbrev pairs : Members → List Shown → List Shown
 pairs no_members ps = ps
 pairs (member k t ms) ps = text k ∷ whole t ∷ pairs ms ps
 
-items_taken : (ts : Items) (ps : List Shown) → items_of (map shown_tree (take (items_len ts) (wholes ts ps))) ≡ keep_items ts
+items_taken : (ts : Items) (ps : List Shown) → items_from (items_len ts) (wholes ts ps) ≡ keep_items ts
 items_taken no_items ps = refl
 items_taken (item t ts) ps = ap₂ item (shown_whole t) (items_taken ts ps)
 
@@ -47,9 +46,10 @@ items_dropped : (ts : Items) (ps : List Shown) → drop (items_len ts) (wholes t
 items_dropped no_items ps = refl
 items_dropped (item t ts) ps = items_dropped ts ps
 
-members_taken : (ms : Members) (ps : List Shown) → members_from (members_len ms) (pairs ms ps) ≡ kept_each ms
-members_taken no_members ps = refl
-members_taken (member k t ms) ps = ap₂ (member k) (shown_whole t) (members_taken ms ps)
+members_taken : (ms ks : Members) (ps : List Shown) → add_pairs (members_len ms) ks (pairs ms ps) ≡ gathered ks (kept_each ms)
+members_taken no_members ks ps = refl
+members_taken (member k t ms) ks ps =
+    ap (λ u. add_pairs (members_len ms) (add_member ks k u) (pairs ms ps)) (shown_whole t) ∙ members_taken ms (add_member ks k (keep t)) ps
 
 members_dropped : (ms : Members) (ps : List Shown) → drop_pairs (members_len ms) (pairs ms ps) ≡ ps
 members_dropped no_members ps = refl
@@ -69,7 +69,7 @@ mutual
   placed_tree (object ms) es ps =
       let more = placed es ps in
       ap (place (object_entry (members_len ms) (length (members_listing ms)))) (placed_members ms es ps)
-      ∙ ap₂ (λ ns rest. built (object (gathered no_members ns)) ∷ rest) (members_taken ms more) (members_dropped ms more)
+      ∙ ap₂ (λ ns rest. built (object ns) ∷ rest) (members_taken ms no_members more) (members_dropped ms more)
       ∙ ap (λ ns. built (object ns) ∷ more) (gathered_keeps ms)
 
   placed_items : (ts : Items) (es : List Entry) (ps : List Shown) → placed (items_listing ts ++ es) ps ≡ wholes ts (placed es ps)

@@ -1,65 +1,59 @@
--- The stack of a document that is built, as parts are pushed and popped.
-use Rattle.std.proofs.Common.{◌≡◌, ℕ, zero, suc, ◌-◌, ◌<◌, List, [], ◌∷◌, ◌++◌, take, drop, length, map, refl, sym, ap, ◌∙◌, arith}
-use Rattle.std.proofs.lemmas.List.{reverse-append}
-use Rattle.sj_base.specs.Tree.{Tree, Members}
-use Rattle.sj_build.specs.inside.Building.{Shown, text, built, shown_tree, part_shown, stack, members_from, drop_pairs, add_pair}
-use Rattle.sj_build.specs.inside.Kept.{gathered}
-use Rattle.sj_build.specs.declared.build.Part.{Part}
+-- The stack of a document that is built, as parts are pushed and taken.
+use Rattle.std.proofs.Common.{◌≡◌, ℕ, zero, suc, ◌-◌, ◌<◌, true, List, [], ◌∷◌, ◌++◌, drop, length, refl, sym, ap, ◌∙◌, arith}
+use Rattle.sj_base.specs.Tree.{Tree, Items, no_items, item, Members}
+use Rattle.sj_tape.specs.declared.node.Node.{Node}
+use Rattle.sj_tape.specs.declared.node.Node.TheVariants.{String, Object, Array, Static, Decimal}
+use Rattle.sj_build.specs.Trees.{items_of}
+use Rattle.sj_build.specs.inside.Building.{Shown, built, shown_tree, first_part, is_container, parts_shown, items_from, add_pair, add_pairs, drop_pairs}
 
-module _ {V : Type 0} (tree : V → Tree) where
-  pub stack-pushed : (ps : List (Part V)) (p : Part V) → stack tree (ps ++ p ∷ []) ≡ part_shown tree p ∷ stack tree ps
-  stack-pushed ps p = ap (map (part_shown tree)) (reverse-append ps (p ∷ []))
+pub nothing : {A : Type 0} (xs : List A) → length xs ≡ 0 → xs ≡ []
+nothing [] none = refl
+nothing (x ∷ xs) none = absurd (omega (arith, none))
 
 pub one_fewer : (n : ℕ) → 0 < n → n ≡ suc (n - 1)
 one_fewer n some = omega arith
 
-pub map-append : {A B : Type 0} (f : A → B) (xs ys : List A) → map f (xs ++ ys) ≡ map f xs ++ map f ys
-map-append f [] ys = refl
-map-append f (x ∷ xs) ys = ap (λ l. f x ∷ l) (map-append f xs ys)
+module _ {V : Type 0} (tree : V → Tree) where
+  -- a container and its value
+  pub container_put : (n : Node) (v : V) (ns : List Node) (vs : List V) → is_container n ≡ true → parts_shown tree (n ∷ ns) (v ∷ vs) ≡ built (tree v) ∷ parts_shown tree ns vs
+  container_put (String s) v ns vs is = absurd cc
+  container_put (Static s) v ns vs is = absurd cc
+  container_put (Decimal d) v ns vs is = absurd cc
+  container_put (Array len count) v ns vs is = refl
+  container_put (Object len count) v ns vs is = refl
 
-take_more : (n : ℕ) (ps : List Shown) → take 1 ps ++ take n (drop 1 ps) ≡ take (suc n) ps
-take_more zero [] = refl
-take_more (suc n) [] = refl
-take_more n (p ∷ ps) = refl
+-- these values, and then the items
+abbrev pub after : List Tree → Items → Items
+after [] ts = ts
+after (x ∷ xs) ts = item x (after xs ts)
+
+after-none : (xs : List Tree) → after xs no_items ≡ items_of xs
+after-none [] = refl
+after-none (x ∷ xs) = ap (item x) (after-none xs)
+
+after-last : (xs : List Tree) (x : Tree) (ts : Items) → after (xs ++ x ∷ []) ts ≡ after xs (item x ts)
+after-last [] x ts = refl
+after-last (y ∷ xs) x ts = ap (item y) (after-last xs x ts)
+
+-- all items are taken
+pub all_taken : (xs : List Tree) (n : ℕ) (ps : List Shown) → n ≡ 0 → items_of xs ≡ after xs (items_from n ps)
+all_taken xs n ps none = sym (after-none xs) ∙ ap (λ m. after xs (items_from m ps)) (sym none)
+
+-- one item is taken, and then the others
+pub item_then : (xs : List Tree) (n m : ℕ) (ps : List Shown) → n ≡ suc m → after (xs ++ shown_tree (first_part ps) ∷ []) (items_from m (drop 1 ps)) ≡ after xs (items_from n ps)
+item_then xs n m ps is = after-last xs (shown_tree (first_part ps)) (items_from m (drop 1 ps)) ∙ ap (λ k. after xs (items_from k ps)) (sym is)
 
 drop_more : (n : ℕ) (ps : List Shown) → drop n (drop 1 ps) ≡ drop (suc n) ps
 drop_more zero [] = refl
 drop_more (suc n) [] = refl
 drop_more n (p ∷ ps) = refl
 
--- one item is taken, and then the others
-pub items_then : (left : ℕ) (ps : List Shown) → 0 < left → map shown_tree (take 1 ps) ++ map shown_tree (take (left - 1) (drop 1 ps)) ≡ map shown_tree (take left ps)
-items_then left ps some =
-    sym (map-append shown_tree (take 1 ps) (take (left - 1) (drop 1 ps)))
-    ∙ ap (map shown_tree) (take_more (left - 1) ps ∙ ap (λ n. take n ps) (sym (one_fewer left some)))
-
-pub drop_then : (left : ℕ) (ps : List Shown) → 0 < left → drop (left - 1) (drop 1 ps) ≡ drop left ps
-drop_then left ps some = drop_more (left - 1) ps ∙ ap (λ n. drop n ps) (sym (one_fewer left some))
-
-members_more : (n : ℕ) (ms : Members) (ps : List Shown) → gathered (add_pair ms ps) (members_from n (drop_pairs 1 ps)) ≡ gathered ms (members_from (suc n) ps)
-members_more zero ms [] = refl
-members_more (suc n) ms [] = refl
-members_more zero ms (text k ∷ []) = refl
-members_more (suc n) ms (text k ∷ []) = refl
-members_more zero ms (built t ∷ []) = refl
-members_more (suc n) ms (built t ∷ []) = refl
-members_more n ms (text k ∷ p ∷ ps) = refl
-members_more n ms (built t ∷ p ∷ ps) = refl
-
-pairs_more : (n : ℕ) (ps : List Shown) → drop_pairs n (drop_pairs 1 ps) ≡ drop_pairs (suc n) ps
-pairs_more zero [] = refl
-pairs_more (suc n) [] = refl
-pairs_more zero (p ∷ []) = refl
-pairs_more (suc n) (p ∷ []) = refl
-pairs_more n (p ∷ q ∷ ps) = refl
+pub drop_then : (n m : ℕ) (ps : List Shown) → n ≡ suc m → drop m (drop 1 ps) ≡ drop n ps
+drop_then n m ps is = drop_more m ps ∙ ap (λ k. drop k ps) (sym is)
 
 -- one member is taken, and then the others
-pub members_then : (left : ℕ) (ms : Members) (ps : List Shown) → 0 < left → gathered (add_pair ms ps) (members_from (left - 1) (drop_pairs 1 ps)) ≡ gathered ms (members_from left ps)
-members_then left ms ps some = members_more (left - 1) ms ps ∙ ap (λ n. gathered ms (members_from n ps)) (sym (one_fewer left some))
+pub member_then : (ms : Members) (n m : ℕ) (ps : List Shown) → n ≡ suc m → add_pairs m (add_pair ms ps) (drop_pairs 1 ps) ≡ add_pairs n ms ps
+member_then ms n m ps is = ap (λ k. add_pairs k ms ps) (sym is)
 
-pub pairs_then : (left : ℕ) (ps : List Shown) → 0 < left → drop_pairs (left - 1) (drop_pairs 1 ps) ≡ drop_pairs left ps
-pairs_then left ps some = pairs_more (left - 1) ps ∙ ap (λ n. drop_pairs n ps) (sym (one_fewer left some))
-
-pub nothing : {A : Type 0} (xs : List A) → length xs ≡ 0 → xs ≡ []
-nothing [] none = refl
-nothing (x ∷ xs) none = absurd (omega (arith, none))
+pub pairs_then : (n m : ℕ) (ps : List Shown) → n ≡ suc m → drop_pairs m (drop_pairs 1 ps) ≡ drop_pairs n ps
+pairs_then n m ps is = ap (λ k. drop_pairs k ps) (sym is)

@@ -1,6 +1,6 @@
 -- The document of a view of the next value is what a deserializer takes.
 use Rattle.std.proofs.Common.{◌≡◌, ℕ, ◌+◌, ◌<◌, ◌≤◌, List, ◌++◌, drop, length, sym, ap, ◌∙◌, arith, length-append}
-use Rattle.std.proofs.lemmas.List.{length-drop}
+use Rattle.std.proofs.lemmas.List.{length-drop, map-append}
 use Rattle.sj_base.specs.Tree.{Tree}
 use Rattle.sj_base.specs.Keep.{keep}
 use Rattle.sj_tape.specs.Listing.{listing}
@@ -8,7 +8,6 @@ use Rattle.sj_tape.specs.Nodes.{node_entry, entries}
 use Rattle.sj_tape.specs.declared.node.Node.{Node}
 use Rattle.sj_tape.proofs.NodeLists.{length-entries}
 use Rattle.sj_build.specs.Steps.{Takes}
-use Rattle.sj_build.proofs.Stacks.{map-append}
 
 pub takes : (nodes value rest : List Node) (place next : ℕ) (t u : Tree) → drop place nodes ≡ value ++ rest → entries value ≡ listing t → u ≡ keep t → next ≡ place + length value → Takes nodes place u next
 takes nodes value rest place next t u cut listed kept there = (

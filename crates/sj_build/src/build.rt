@@ -2,71 +2,129 @@
 //!
 //! A document is built from the last node of its tape to the first. So a container finds its parts on a stack, and a deep text
 //! needs no recursion.
-ghost use Rattle.std.specs.Prelude.{◌≡◌, ◌∷◌, ◌<◌, ◌↔◌, IsSome, IfOk, OnOk, map, take, drop, ◌++◌};
+ghost use Rattle.std.specs.Prelude.{◌≡◌, ◌+◌, ◌<◌, ◌↔◌, true, false, [], ◌∷◌, ◌++◌, IsSome, IfOk, OnOk, None, Some, MatchOption, drop, length, map, reverse};
+ghost use Rattle.std.specs.Vec.{vec_capacity};
 ghost use Rattle.sj_base.specs.Tree.{Tree, no_members};
 ghost use Rattle.sj_base.specs.Keep.{keep};
+ghost use Rattle.sj_object.specs.Members.{member_pairs, AreMembers, HasRoomForOne};
 ghost use Rattle.sj_tape.specs.Nodes.{node_entry};
 ghost use Rattle.sj_tape.specs.Views.{tape_nodes, nodes_tree, value_tree as view_tree};
 ghost use Rattle.sj_build.specs.Trees.{members_of, on_values};
-ghost use Rattle.sj_build.specs.inside.Building.{part_shown, shown_tree, first_part, stack, place, list_from, object_from, drop_pairs, add_pair};
-ghost use Rattle.sj_build.specs.inside.Kept.{add_member, has_key, mark_of, Knows};
+ghost use Rattle.sj_build.specs.inside.Building.{built, shown_tree, shown_key, first_part, behind, is_container, stack, place, list_from, object_from, drop_pairs, add_pair};
+ghost use Rattle.sj_build.specs.inside.Kept.{add_member, with_last, has_key, mark_of, Knows};
 
 use crate::built::BuildValue;
 use sj_base::StaticNode;
-use sj_object::{MakeKey, Object};
+use sj_object::{MakeKey, Members};
 use sj_tape::{Node, Tape, Value as TapeValue};
 use std::alloc::{AllocError, Global};
 use std::collections::BTreeSet;
 
-// What is built of the nodes after the one that is placed. A text is a string or a key, as the container before it decides.
+// The nodes after the one that is built, without those that a container has taken.
 #[derive(Drop)]
-enum Part<'de, V> {
-    Text(&'de str),
-    Built(V),
+struct Parts<'de, V> {
+    // The last one is the next. A text is a string or a key, as the container before it decides.
+    nodes: Vec<Node<'de>>,
+    // What was built of the containers among them.
+    built: Vec<V>,
 }
 
-fn into_value<'de, V: BuildValue<'de, K> + Drop, K: MakeKey<'de> + Drop>(
+// The most nodes for which a stack has room at first. The C library serves requests of that size from its cache.
+const FIRST_NODES: usize = 42;
+
+// No parts, with room for so many nodes, but not for many.
+fn no_parts<'de, V: BuildValue<'de, K> + Drop, K: MakeKey<'de> + Drop>(
     alloc: Global,
-    part: Part<'de, V>,
-) -> Result<V, AllocError>
-    ensures { IfOk result (λ v. V.tree v ≡ shown_tree (part_shown V.tree part.entry)) }
+    count: usize,
+) -> Result<Parts<'de, V>, AllocError>
+    ensures { IfOk result (λ parts. stack V.tree parts ≡ []) }
 {
-    match part {
-        Part::Text(text) => V::from_text(alloc, text),
-        Part::Built(value) => Ok(value),
+    Ok(Parts {
+        nodes: Vec::with_capacity(alloc, count.min(FIRST_NODES))?,
+        built: Vec::new(alloc),
+    })
+}
+
+// Drops what was built of a node, if it is a container.
+#[inline(always)]
+fn skip<'de, V: BuildValue<'de, K> + Drop, K: MakeKey<'de> + Drop>(
+    node: Node<'de>,
+    built: &mut Vec<V>,
+)
+    ensures { reverse built.new.items ≡ behind node.entry (reverse built.old.items) }
+{
+    match node {
+        Node::String(_) | Node::Static(_) | Node::Decimal(_) => {}
+        Node::Array { .. } | Node::Object { .. } => drop(built.pop()),
     }
 }
 
-// Moves the first part of the stack, if there is one, to the items.
+// Drops the next part.
+#[inline(always)]
+fn skip_part<'de, V: BuildValue<'de, K> + Drop, K: MakeKey<'de> + Drop>(parts: &mut Parts<'de, V>)
+    ensures { stack V.tree parts.new ≡ drop 1 (stack V.tree parts.old) }
+{
+    if let Some(node) = parts.nodes.pop() {
+        skip::<V, K>(node, &mut parts.built);
+    }
+}
+
+// Takes the next part, and returns it if it is a text.
+#[inline(always)]
+fn take_key<'de, V: BuildValue<'de, K> + Drop, K: MakeKey<'de> + Drop>(
+    parts: &mut Parts<'de, V>,
+) -> Option<&'de str>
+    ensures key { MatchOption result (shown_key (stack V.tree parts.old) ≡ None)
+        (λ key. shown_key (stack V.tree parts.old) ≡ Some key.now) }
+    ensures rest { stack V.tree parts.new ≡ drop 1 (stack V.tree parts.old) }
+{
+    match parts.nodes.pop()? {
+        Node::String(key) => Some(key),
+        other => {
+            skip::<V, K>(other, &mut parts.built);
+            None
+        }
+    }
+}
+
+// Moves the next part to the items, which have room. Each value is put in its place where it is made.
+#[inline(always)]
 fn take_item<'de, V: BuildValue<'de, K> + Drop, K: MakeKey<'de> + Drop>(
     alloc: Global,
-    parts: &mut Vec<Part<'de, V>>,
+    parts: &mut Parts<'de, V>,
     items: &mut Vec<V>,
 ) -> Result<(), AllocError>
-    ensures items { OnOk result (map V.tree items.new.items ≡ map V.tree items.old.items
-        ++ map shown_tree (take 1 (stack V.tree parts.old.items))) }
-    ensures rest { OnOk result (stack V.tree parts.new.items ≡ drop 1 (stack V.tree parts.old.items)) }
+    requires { length items.old.items < vec_capacity items.old }
+    ensures items { OnOk result (map V.tree items.new.items
+        ≡ map V.tree items.old.items ++ shown_tree (first_part (stack V.tree parts.old)) ∷ []) }
+    ensures rest { OnOk result (stack V.tree parts.new ≡ drop 1 (stack V.tree parts.old)) }
+    ensures len { OnOk result (length items.new.items ≡ length items.old.items + 1) }
+    ensures room { vec_capacity items.new ≡ vec_capacity items.old }
 {
-    if let Some(part) = parts.pop() {
-        items.push(into_value(alloc, part)?)?;
+    match parts.nodes.pop().unwrap_or(Node::Static(StaticNode::Null)) {
+        Node::String(text) => items.push_reserved(V::from_text(alloc, text)?),
+        Node::Static(scalar) => items.push_reserved(V::from_static(alloc, scalar)?),
+        Node::Decimal(literal) => items.push_reserved(V::from_decimal(alloc, literal)?),
+        Node::Array { .. } | Node::Object { .. } => match parts.built.pop() {
+            Some(value) => items.push_reserved(value),
+            None => items.push_reserved(V::from_static(alloc, StaticNode::Null)?),
+        },
     }
     Ok(())
 }
 
-// Makes a list of the first parts of the stack.
+// Makes a list of the next parts.
 fn take_list<'de, V: BuildValue<'de, K> + Drop, K: MakeKey<'de> + Drop>(
     alloc: Global,
     len: usize,
-    parts: &mut Vec<Part<'de, V>>,
+    parts: &mut Parts<'de, V>,
 ) -> Result<V, AllocError>
-    ensures value { IfOk result (λ v. V.tree v ≡ list_from len (stack V.tree parts.old.items)) }
-    ensures rest { OnOk result (stack V.tree parts.new.items ≡ drop len (stack V.tree parts.old.items)) }
+    ensures value { IfOk result (λ v. V.tree v ≡ list_from len (stack V.tree parts.old)) }
+    ensures rest { OnOk result (stack V.tree parts.new ≡ drop len (stack V.tree parts.old)) }
 {
     let mut items = Vec::with_capacity(alloc, len)?;
-    let mut left = len;
-    while left > 0 {
+    for _i in 0..len {
         take_item(alloc, parts, &mut items)?;
-        left -= 1;
     }
     V::from_array(alloc, items)
 }
@@ -116,14 +174,16 @@ fn mark_of(key: &str) -> usize
 }
 
 // Whether a member has the key, which counts as met from now on.
+#[inline(always)]
 fn meet<'de, V: BuildValue<'de, K> + Drop, K: MakeKey<'de> + Drop>(
     key: &'de str,
     met: &mut MetKeys<'de>,
-    members: &Object<K, V>,
+    members: &Members<K, V>,
 ) -> Result<bool, AllocError>
-    requires { Knows met.old (members_of K.text (on_values V.tree members.now)) }
-    ensures found { IfOk result (λ found. found ≡ has_key (members_of K.text (on_values V.tree members.now)) key.now) }
-    ensures knows { (t : Tree) → OnOk result (Knows met.new (add_member (members_of K.text (on_values V.tree members.now)) key.now t)) }
+    requires members { AreMembers K.text members.now }
+    requires knows { Knows met.old (members_of K.text (on_values V.tree (member_pairs members.now))) }
+    ensures found { IfOk result (λ found. found ≡ has_key (members_of K.text (on_values V.tree (member_pairs members.now))) key.now) }
+    ensures knows { (t : Tree) → OnOk result (Knows met.new (add_member (members_of K.text (on_values V.tree (member_pairs members.now))) key.now t)) }
 {
     match &mut met.listed {
         Some(keys) => Ok(!keys.insert(key)?),
@@ -136,120 +196,171 @@ fn meet<'de, V: BuildValue<'de, K> + Drop, K: MakeKey<'de> + Drop>(
     }
 }
 
-// Adds a member, unless there is one with its key. After an error the key may count as met, though no member has it.
-fn add_member<'de, V: BuildValue<'de, K> + Drop, K: MakeKey<'de> + Drop>(
-    alloc: Global,
-    key: &'de str,
-    value: Part<'de, V>,
-    met: &mut MetKeys<'de>,
-    members: &mut Object<K, V>,
-) -> Result<(), AllocError>
-    requires { Knows met.old (members_of K.text (on_values V.tree members.old)) }
-    ensures members { OnOk result (members_of K.text (on_values V.tree members.new)
-        ≡ add_member (members_of K.text (on_values V.tree members.old)) key.now (shown_tree (part_shown V.tree value.entry))) }
-    ensures knows { OnOk result (Knows met.new (members_of K.text (on_values V.tree members.new))) }
+// Puts a member with a key that no member has last, for which there is room.
+#[inline(always)]
+fn put_new<'de, V: BuildValue<'de, K> + Drop, K: MakeKey<'de> + Drop>(
+    key: K,
+    value: V,
+    members: &mut Members<K, V>,
+)
+    requires members { AreMembers K.text members.old }
+    requires room { HasRoomForOne members.old }
+    requires new_key { has_key (members_of K.text (on_values V.tree (member_pairs members.old))) (K.text key) ≡ false }
+    ensures added { members_of K.text (on_values V.tree (member_pairs members.new))
+        ≡ with_last (members_of K.text (on_values V.tree (member_pairs members.old))) (K.text key) (V.tree value) }
+    ensures members { AreMembers K.text members.new }
 {
-    if meet(key, met, members)? {
-        return Ok(());
+    members.push_reserved(key, value);
+}
+
+// Does so with the value of the next part. Each value is put in its place where it is made.
+#[inline(always)]
+fn put_part<'de, V: BuildValue<'de, K> + Drop, K: MakeKey<'de> + Drop>(
+    alloc: Global,
+    key: K,
+    parts: &mut Parts<'de, V>,
+    members: &mut Members<K, V>,
+) -> Result<(), AllocError>
+    requires members { AreMembers K.text members.old }
+    requires room { HasRoomForOne members.old }
+    requires new_key { has_key (members_of K.text (on_values V.tree (member_pairs members.old))) (K.text key) ≡ false }
+    ensures added { OnOk result (members_of K.text (on_values V.tree (member_pairs members.new))
+        ≡ with_last (members_of K.text (on_values V.tree (member_pairs members.old))) (K.text key) (shown_tree (first_part (stack V.tree parts.old)))) }
+    ensures members { OnOk result (AreMembers K.text members.new) }
+    ensures rest { OnOk result (stack V.tree parts.new ≡ drop 1 (stack V.tree parts.old)) }
+{
+    match parts.nodes.pop().unwrap_or(Node::Static(StaticNode::Null)) {
+        Node::String(text) => put_new(key, V::from_text(alloc, text)?, members),
+        Node::Static(scalar) => put_new(key, V::from_static(alloc, scalar)?, members),
+        Node::Decimal(literal) => put_new(key, V::from_decimal(alloc, literal)?, members),
+        Node::Array { .. } | Node::Object { .. } => match parts.built.pop() {
+            Some(value) => put_new(key, value, members),
+            None => put_new(key, V::from_static(alloc, StaticNode::Null)?, members),
+        },
     }
-    let value = into_value(alloc, value)?;
-    let key = K::from_text(alloc, key)?;
-    let Ok(()) = members.push_new(key, value) else {
-        return Err(AllocError);
-    };
     Ok(())
 }
 
-// Moves the first two parts of the stack, a key and a value, to the members, unless there is a member with that key.
-fn take_member<'de, V: BuildValue<'de, K> + Drop, K: MakeKey<'de> + Drop>(
+// Adds a member with a key that no member has and the value of the next part.
+#[inline(always)]
+fn add_part<'de, V: BuildValue<'de, K> + Drop, K: MakeKey<'de> + Drop>(
     alloc: Global,
-    parts: &mut Vec<Part<'de, V>>,
-    met: &mut MetKeys<'de>,
-    members: &mut Object<K, V>,
+    key: &'de str,
+    parts: &mut Parts<'de, V>,
+    members: &mut Members<K, V>,
 ) -> Result<(), AllocError>
-    requires { Knows met.old (members_of K.text (on_values V.tree members.old)) }
-    ensures members { OnOk result (members_of K.text (on_values V.tree members.new)
-        ≡ add_pair (members_of K.text (on_values V.tree members.old)) (stack V.tree parts.old.items)) }
-    ensures knows { OnOk result (Knows met.new (members_of K.text (on_values V.tree members.new))) }
-    ensures rest { OnOk result (stack V.tree parts.new.items ≡ drop_pairs 1 (stack V.tree parts.old.items)) }
+    requires members { AreMembers K.text members.old }
+    requires new_key { has_key (members_of K.text (on_values V.tree (member_pairs members.old))) key.now ≡ false }
+    ensures added { OnOk result (members_of K.text (on_values V.tree (member_pairs members.new))
+        ≡ with_last (members_of K.text (on_values V.tree (member_pairs members.old))) key.now (shown_tree (first_part (stack V.tree parts.old)))) }
+    ensures members { OnOk result (AreMembers K.text members.new) }
+    ensures rest { OnOk result (stack V.tree parts.new ≡ drop 1 (stack V.tree parts.old)) }
 {
-    let key = parts.pop();
-    let value = parts.pop();
-    match (key, value) {
-        (Some(Part::Text(key)), Some(value)) => add_member(alloc, key, value, met, members),
-        _ => Ok(()),
-    }
+    members.make_room()?;
+    let key = K::from_text(alloc, key)?;
+    put_part(alloc, key, parts, members)
 }
 
-// Makes an object of the first parts of the stack, a key and a value for each member.
+// Moves the next two parts, a key and a value, to the members, unless there is a member with that key. After an error the key may
+// count as met, though no member has it.
+#[inline(always)]
+fn take_member<'de, V: BuildValue<'de, K> + Drop, K: MakeKey<'de> + Drop>(
+    alloc: Global,
+    parts: &mut Parts<'de, V>,
+    met: &mut MetKeys<'de>,
+    members: &mut Members<K, V>,
+) -> Result<(), AllocError>
+    requires members { AreMembers K.text members.old }
+    requires knows { Knows met.old (members_of K.text (on_values V.tree (member_pairs members.old))) }
+    ensures added { OnOk result (members_of K.text (on_values V.tree (member_pairs members.new))
+        ≡ add_pair (members_of K.text (on_values V.tree (member_pairs members.old))) (stack V.tree parts.old)) }
+    ensures members { OnOk result (AreMembers K.text members.new) }
+    ensures knows { OnOk result (Knows met.new (members_of K.text (on_values V.tree (member_pairs members.new)))) }
+    ensures rest { OnOk result (stack V.tree parts.new ≡ drop_pairs 1 (stack V.tree parts.old)) }
+{
+    let Some(key) = take_key::<V, K>(parts) else {
+        skip_part::<V, K>(parts);
+        return Ok(());
+    };
+    if meet(key, met, members)? {
+        skip_part::<V, K>(parts);
+        return Ok(());
+    }
+    add_part(alloc, key, parts, members)
+}
+
+// Makes an object of the next parts, a key and a value for each member.
 fn take_object<'de, V: BuildValue<'de, K> + Drop, K: MakeKey<'de> + Drop>(
     alloc: Global,
     len: usize,
-    parts: &mut Vec<Part<'de, V>>,
+    parts: &mut Parts<'de, V>,
 ) -> Result<V, AllocError>
-    ensures value { IfOk result (λ v. V.tree v ≡ object_from len (stack V.tree parts.old.items)) }
-    ensures rest { OnOk result (stack V.tree parts.new.items ≡ drop_pairs len (stack V.tree parts.old.items)) }
+    ensures value { IfOk result (λ v. V.tree v ≡ object_from len (stack V.tree parts.old)) }
+    ensures rest { OnOk result (stack V.tree parts.new ≡ drop_pairs len (stack V.tree parts.old)) }
 {
-    let mut members = Object::with_capacity(alloc, len)?;
+    let mut members = Members::with_capacity(alloc, len)?;
     let mut met = no_keys(alloc, len);
-    let mut left = len;
-    while left > 0 {
+    for _i in 0..len {
         take_member(alloc, parts, &mut met, &mut members)?;
-        left -= 1;
     }
     drop(met);
-    V::from_object(alloc, members.into_members())
+    V::from_object(alloc, members)
 }
 
-// Makes what is built of a node and of the parts after it.
+// Builds the value of a node. A container takes its parts.
 #[inline(always)]
-fn next_part<'de, V: BuildValue<'de, K> + Drop, K: MakeKey<'de> + Drop>(
+fn build<'de, V: BuildValue<'de, K> + Drop, K: MakeKey<'de> + Drop>(
     alloc: Global,
-    node: &Node<'de>,
-    parts: &mut Vec<Part<'de, V>>,
-) -> Result<Part<'de, V>, AllocError>
-    ensures { IfOk result (λ part. part_shown V.tree part ∷ stack V.tree parts.new.items
-        ≡ place (node_entry node.now) (stack V.tree parts.old.items)) }
+    node: Node<'de>,
+    parts: &mut Parts<'de, V>,
+) -> Result<V, AllocError>
+    ensures value { IfOk result (λ v. V.tree v ≡ shown_tree (first_part (place (node_entry node.entry) (stack V.tree parts.old)))) }
+    ensures rest { OnOk result (stack V.tree parts.new ≡ drop 1 (place (node_entry node.entry) (stack V.tree parts.old))) }
 {
-    match *node {
-        Node::String(text) => Ok(Part::Text(text)),
-        Node::Static(scalar) => Ok(Part::Built(V::from_static(alloc, scalar)?)),
-        Node::Decimal(literal) => Ok(Part::Built(V::from_decimal(alloc, literal)?)),
-        Node::Array { len, .. } => Ok(Part::Built(take_list(alloc, len, parts)?)),
-        Node::Object { len, .. } => Ok(Part::Built(take_object(alloc, len, parts)?)),
+    match node {
+        Node::String(text) => V::from_text(alloc, text),
+        Node::Static(scalar) => V::from_static(alloc, scalar),
+        Node::Decimal(literal) => V::from_decimal(alloc, literal),
+        Node::Array { len, .. } => take_list(alloc, len, parts),
+        Node::Object { len, .. } => take_object(alloc, len, parts),
     }
 }
 
-// Puts what is built of a node on the stack, in the place of the parts after it.
+// Puts a container and its value before the parts.
 #[inline(always)]
-fn place<'de, V: BuildValue<'de, K> + Drop, K: MakeKey<'de> + Drop>(
-    alloc: Global,
-    node: &Node<'de>,
-    parts: &mut Vec<Part<'de, V>>,
+fn put_container<'de, V: BuildValue<'de, K> + Drop, K: MakeKey<'de> + Drop>(
+    node: Node<'de>,
+    value: V,
+    parts: &mut Parts<'de, V>,
 ) -> Result<(), AllocError>
-    ensures { OnOk result (stack V.tree parts.new.items
-        ≡ place (node_entry node.now) (stack V.tree parts.old.items)) }
+    requires { is_container node ≡ true }
+    ensures { OnOk result (stack V.tree parts.new ≡ built (V.tree value) ∷ stack V.tree parts.old) }
 {
-    let part = next_part(alloc, node, parts)?;
-    parts.push(part)?;
+    parts.built.push(value)?;
+    parts.nodes.push(node)?;
     Ok(())
 }
 
-// Makes the value of the part on top, and a null if there is none.
-fn finish<'de, V: BuildValue<'de, K> + Drop, K: MakeKey<'de> + Drop>(
+// Puts a node before the parts. A container takes its own from them, and is built.
+#[inline(always)]
+fn place<'de, V: BuildValue<'de, K> + Drop, K: MakeKey<'de> + Drop>(
     alloc: Global,
-    parts: &mut Vec<Part<'de, V>>,
-) -> Result<V, AllocError>
-    ensures { IfOk result (λ v. V.tree v ≡ shown_tree (first_part (stack V.tree parts.old.items))) }
+    node: Node<'de>,
+    parts: &mut Parts<'de, V>,
+) -> Result<(), AllocError>
+    ensures { OnOk result (stack V.tree parts.new ≡ place (node_entry node.entry) (stack V.tree parts.old)) }
 {
-    match parts.pop() {
-        Some(part) => into_value(alloc, part),
-        None => V::from_static(alloc, StaticNode::Null),
+    match node {
+        Node::String(_) | Node::Static(_) | Node::Decimal(_) => {
+            parts.nodes.push(node)?;
+            Ok(())
+        }
+        Node::Array { .. } | Node::Object { .. } => {
+            let value = build(alloc, node, parts)?;
+            put_container(node, value, parts)
+        }
     }
 }
-
-/// The most parts for which room is taken at first. The C library serves requests of that size from its cache.
-const FIRST_PARTS: usize = 18;
 
 /// Builds a value of a view of a tape. Of members with equal keys the first one is kept. Room for the items of an array
 /// and for the members of an object is taken once.
@@ -265,13 +376,17 @@ pub fn build_value<'de, V: BuildValue<'de, K> + Drop, K: MakeKey<'de> + Drop>(
     ensures { IfOk result (λ v. V.tree v ≡ keep (view_tree view.entry)) }
 {
     let nodes = view.nodes();
-    let mut parts = Vec::with_capacity(alloc, nodes.len().min(FIRST_PARTS))?;
+    let mut parts = no_parts(alloc, nodes.len())?;
     let mut left = nodes.len();
     while left > 0 {
         left -= 1;
-        place(alloc, &nodes[left], &mut parts)?;
+        let node = nodes[left];
+        if left == 0 {
+            return build(alloc, node, &mut parts);
+        }
+        place(alloc, node, &mut parts)?;
     }
-    finish(alloc, &mut parts)
+    V::from_static(alloc, StaticNode::Null)
 }
 
 /// The most nodes whose room is kept until the end.
@@ -301,10 +416,13 @@ pub fn build_tape<'de, V: BuildValue<'de, K> + Drop, K: MakeKey<'de> + Drop>(
     ensures { IfOk result (λ v. V.tree v ≡ keep (nodes_tree (tape_nodes tape.entry))) }
 {
     let mut nodes = tape.into_nodes();
-    let mut parts = Vec::with_capacity(alloc, nodes.len().min(FIRST_PARTS))?;
+    let mut parts = no_parts(alloc, nodes.len())?;
     while let Some(node) = nodes.pop() {
-        place(alloc, &node, &mut parts)?;
+        if nodes.is_empty() {
+            return build(alloc, node, &mut parts);
+        }
+        place(alloc, node, &mut parts)?;
         release(&mut nodes);
     }
-    finish(alloc, &mut parts)
+    V::from_static(alloc, StaticNode::Null)
 }

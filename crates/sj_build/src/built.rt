@@ -47,7 +47,7 @@ pub trait BuildValue<'de, K: ObjectKey>: Sized {
     fn from_array(alloc: Global, items: Vec<Self>) -> Result<Self, AllocError>
         ensures { IfOk result (λ v. tree v ≡ list (items_of (map tree items.items))) };
 
-    /// Builds an object of its members, which [`into_members`](sj_object::Object::into_members) gives.
+    /// Builds an object of its members.
     ///
     /// # Errors
     ///

@@ -1,5 +1,5 @@
 -- What the place of a key says of look-ups and edits.
-use Rattle.std.proofs.Common.{◌≡◌, ltb, ℕ, zero, suc, ◌<◌, map, slice_get, ◌+◌, true, false, List, [], ◌∷◌, ◌++◌, Option, Some, None, length, get_or, set, take, drop, refl, sym, subst, ap, inl, inr, arith, cond}
+use Rattle.std.proofs.Common.{◌≡◌, ltb, ℕ, zero, suc, ◌<◌, map, slice_get, ◌+◌, true, false, List, [], ◌∷◌, ◌++◌, Option, Some, None, is_some, length, get_or, set, take, drop, refl, sym, subst, ap, ◌∙◌, inl, inr, arith, cond}
 use Rattle.std.specs.Prelude.{bytes_eq, option_map}
 use Rattle.std.specs.List.{position, position_or_len}
 use Rattle.std.proofs.lemmas.Bool.{cases_Bool, or_from}
@@ -21,6 +21,10 @@ suc_none (Some j) h = cc
 pub suc_some : (o : Option ℕ) (i : ℕ) → option_map (λ i. suc i) o ≡ Some i → (j : ℕ) × (o ≡ Some j) × (i ≡ suc j)
 suc_some None i h = absurd (none_some i h)
 suc_some (Some j) i h = (j, refl, sym (some_same (suc j) i h))
+
+is_some-suc : (o : Option ℕ) → is_some (option_map (λ i. suc i) o) ≡ is_some o
+is_some-suc None = refl
+is_some-suc (Some i) = refl
 
 pub zero_counted : (m n : ℕ) → m ≡ 0 → Some m ≡ cond (ltb m (suc n)) (Some m) None
 zero_counted m n h = grind (arith, nat_tests)
@@ -77,6 +81,15 @@ module _ {K V : Type 0} (text : K → List ℕ) (k : List ℕ) where
       elim (cases_Bool (bytes_eq (text e.key) k)) [
         | inl t ↦ absurd (none_some e.value (sym (rw t at h)))
         | inr f ↦ rw f (ap (option_map (λ i. suc i)) (no_place es (rw f at h)))
+      ]
+
+  -- a key has a place exactly if it has a value
+  pub has_place : (es : List (Entry K V)) → is_some (place_of text es k) ≡ is_some (value_at text es k)
+  has_place [] = refl
+  has_place (e ∷ es) =
+      elim (cases_Bool (bytes_eq (text e.key) k)) [
+        | inl t ↦ rw t refl
+        | inr f ↦ rw f (is_some-suc (place_of text es k) ∙ has_place es)
       ]
 
   pub drop_key_place : (es : List (Entry K V)) (i : ℕ) → place_of text es k ≡ Some i → drop_key text es k ≡ take i es ++ drop (suc i) es

@@ -1,25 +1,82 @@
-//! An object taken apart.
-ghost use Rattle.std.specs.Prelude.{◌≡◌};
-ghost use Rattle.sj_object.specs.Members.{member_pairs, AreMembers};
+//! The pairs of which an object is made.
+ghost use Rattle.std.specs.Prelude.{◌≡◌, [], None, is_some, IfOk, OnOk};
+ghost use Rattle.sj_object.specs.Members.{member_pairs, AreMembers, HasRoomForOne};
+ghost use Rattle.sj_object.specs.Pairs.{value_at, put_key};
 
+use crate::entry::Entry;
 use crate::key::ObjectKey;
 use crate::object::Object;
 use crate::pairs::Pairs;
+use std::alloc::{AllocError, Global};
 
-/// The pairs of an object, taken out of it by [`Object::into_members`].
+/// Pairs that are put together one by one, of which [`Object::from_members`] makes an object.
 ///
-/// Its key type has no bound. So a trait can have a method that takes the members of an object whose values are of the trait's
+/// The key type has no bound. So a trait can have a method that takes the members of an object whose values are of the trait's
 /// own type.
 #[derive(Drop)]
 pub struct Members<K, V> {
     pub(crate) pairs: Pairs<K, V>,
 }
 
-impl<K: ObjectKey, V> Object<K, V> {
-    /// Creates an object of members that were taken out of one. Takes no memory.
+impl<K: ObjectKey, V> Members<K, V> {
+    /// Returns no pairs, with room for this many. The hash table isn't made yet: the 33rd pair still needs memory.
     ///
-    /// `members` have to be as [`Object::into_members`] gave them. To make an object of other pairs, put them into a new one by
-    /// [`Object::insert`].
+    /// # Errors
+    ///
+    /// `AllocError` if there is no memory for that room.
+    pub fn with_capacity(alloc: Global, capacity: usize) -> Result<Self, AllocError>
+        ensures pairs { IfOk result (λ members. member_pairs members ≡ []) }
+        ensures members { IfOk result (AreMembers K.text) }
+    {
+        let entries = Vec::with_capacity(alloc, capacity)?;
+        Ok(Members {
+            pairs: Pairs::Listed(entries),
+        })
+    }
+
+    /// Returns `true` if a pair has the key.
+    pub fn contains_key(&self, key: &str) -> bool
+        requires { AreMembers K.text self.now }
+        ensures { result ≡ is_some (value_at K.text (member_pairs self.now) key.now) }
+    {
+        self.pairs.place(None, key).is_some()
+    }
+
+    /// Makes room for one more pair. The 33rd one needs a hash table, which is made here.
+    ///
+    /// # Errors
+    ///
+    /// `AllocError` if there is no memory for it. The pairs are unchanged.
+    #[inline(always)]
+    pub fn make_room(&mut self) -> Result<(), AllocError>
+    where
+        K: Drop,
+        V: Drop,
+        requires { AreMembers K.text self.old }
+        ensures pairs { member_pairs self.new ≡ member_pairs self.old }
+        ensures members { AreMembers K.text self.new }
+        ensures room { OnOk result (HasRoomForOne self.new) }
+    {
+        self.pairs.make_room()
+    }
+
+    /// Puts a pair last, for which there is room ([`Members::make_room`]). No pair may have its key, which isn't looked for.
+    #[inline(always)]
+    pub fn push_reserved(&mut self, key: K, value: V)
+        requires members { AreMembers K.text self.old }
+        requires room { HasRoomForOne self.old }
+        requires new_key { value_at K.text (member_pairs self.old) (K.text key) ≡ None }
+        ensures pairs { member_pairs self.new ≡ put_key K.text (member_pairs self.old) key value }
+        ensures members { AreMembers K.text self.new }
+    {
+        self.pairs.push(None, Entry { key, value });
+    }
+}
+
+impl<K: ObjectKey, V> Object<K, V> {
+    /// Creates an object of members. Takes no memory.
+    ///
+    /// `members` have to be as the calls of [`Members`] leave them.
     pub fn from_members(members: Members<K, V>) -> Self
         requires { AreMembers K.text members }
         ensures { result ≡ member_pairs members }
@@ -27,13 +84,5 @@ impl<K: ObjectKey, V> Object<K, V> {
         Object {
             pairs: members.pairs,
         }
-    }
-
-    /// Takes the members out. Takes no memory.
-    pub fn into_members(self) -> Members<K, V>
-        ensures pairs { member_pairs result ≡ self }
-        ensures members { AreMembers K.text result }
-    {
-        Members { pairs: self.pairs }
     }
 }

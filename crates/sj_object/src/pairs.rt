@@ -84,6 +84,7 @@ impl<K: ObjectKey, V> Pairs<K, V> {
     }
 
     // Makes room for one more pair. The one after the first `LIST_MAX` needs a table, which is made here.
+    #[inline(always)]
     pub(crate) fn make_room(&mut self) -> Result<(), AllocError>
     where
         K: Drop,
@@ -109,6 +110,7 @@ impl<K: ObjectKey, V> Pairs<K, V> {
     }
 
     // Puts a pair last, for which there is room. `hash` is the hash of its key, if that is known.
+    #[inline(always)]
     pub(crate) fn push(&mut self, hash: Option<u64>, entry: Entry<K, V>)
         requires found { IsFound K.text self.old }
         requires room { HasRoom self.old }
@@ -210,6 +212,7 @@ impl<K: ObjectKey, V> HashedPairs<K, V> {
     }
 
     // Puts a pair last, for which there is room. `hash` is the hash of its key, if that is known.
+    #[inline(always)]
     fn push(&mut self, hash: Option<u64>, entry: Entry<K, V>)
         requires table { IsTable self.old.table (keys_of K.text self.old.entries.items) }
         requires entries_room { length self.old.entries.items < vec_capacity self.old.entries }

@@ -1,12 +1,13 @@
-use Rattle.std.proofs.Common.{◌≡◌, ◌++◌, map, take, drop}
-use Rattle.sj_build.specs.inside.Building.{shown_tree, stack}
+use Rattle.std.proofs.Common.{◌≡◌, ◌-◌, ◌≤◌, map, drop, length}
+use Rattle.std.specs.Vec.{vec_capacity}
+use Rattle.sj_build.specs.inside.Building.{items_from, stack}
+use Rattle.sj_build.proofs.Stacks.{after}
 use Rattle.sj_build.proofs.build.take_list.Given as goal
 
-abbrev pub invariant-loop-left : goal.invariant-loop-left
-invariant-loop-left g l =
+abbrev pub invariant-loop-i : goal.invariant-loop-i
+invariant-loop-i g l =
     let tree = g.V.BuildValue.tree in
-    (map tree l.items.items ++ map shown_tree (take l.left (stack tree l.parts.items)) ≡ map shown_tree (take l.len (stack tree l.fn.parts.items)))
-    × (drop l.left (stack tree l.parts.items) ≡ drop l.len (stack tree l.fn.parts.items))
-
-abbrev pub decreases-loop-left : goal.decreases-loop-left
-decreases-loop-left g l = l.left
+    (length l.items.items ≡ l._i)
+    × (l.len ≤ vec_capacity l.items)
+    × (after (map tree l.items.items) (items_from (l.len - l._i) (stack tree l.parts)) ≡ items_from l.len (stack tree l.fn.parts))
+    × (drop (l.len - l._i) (stack tree l.parts) ≡ drop l.len (stack tree l.fn.parts))

@@ -1,21 +1,23 @@
-use Rattle.std.proofs.Common.{◌-◌, ap, ◌∙◌, arith}
+use Rattle.std.proofs.Common.{◌≡◌, ◌+◌, ◌-◌, suc, ap, ◌∙◌, arith}
+use Rattle.sj_object.specs.Members.{member_pairs}
 use Rattle.sj_build.specs.Trees.{members_of, on_values}
-use Rattle.sj_build.specs.inside.Building.{stack, members_from, drop_pairs, add_pair}
-use Rattle.sj_build.specs.inside.Kept.{gathered}
-use Rattle.sj_build.proofs.Stacks.{members_then, pairs_then}
+use Rattle.sj_build.specs.inside.Building.{stack, add_pair, add_pairs, drop_pairs}
+use Rattle.sj_build.proofs.Stacks.{member_then, pairs_then}
 use Rattle.sj_build.proofs.build.take_object.Goals as goal
 
-pub loop-left-preserved : goal.loop-left-preserved
-loop-left-preserved g c =
-    let left = c.loop-left.left in
+pub loop-i-preserved : goal.loop-i-preserved
+loop-i-preserved g c =
     let tree = g.V.BuildValue.tree in
-    let old = members_of g.K.ObjectKey.text (on_values tree c.loop-left.members) in
-    let ps = stack tree c.loop-left.parts.items in
-    let more = stack tree c.take_member.new.parts.items in (
-      ap (λ ms. gathered ms (members_from (left - 1) more)) c.in_ok-take_member.ensures.members
-          ∙ ap (λ qs. gathered (add_pair old ps) (members_from (left - 1) qs)) c.in_ok-take_member.ensures.rest
-          ∙ members_then left old ps (omega (arith, c.loop-left-test.true))
-          ∙ c.loop-left.invariant.0,
-      ap (drop_pairs (left - 1)) c.in_ok-take_member.ensures.rest ∙ pairs_then left ps (omega (arith, c.loop-left-test.true)) ∙ c.loop-left.invariant.1,
+    let old = members_of g.K.ObjectKey.text (on_values tree (member_pairs c.loop-i.members)) in
+    let ps = stack tree c.loop-i.parts in
+    let n = c.args.len - c.loop-i._i in
+    let m = c.args.len - (c.loop-i._i + 1) in
+    let one : n ≡ suc m = omega (arith, c.loop-i-test.true) in (
+      ap (λ ms. add_pairs m ms (stack tree c.take_member.new.parts)) c.in_ok-take_member.ensures.added
+          ∙ ap (add_pairs m (add_pair old ps)) c.in_ok-take_member.ensures.rest
+          ∙ member_then old n m ps one
+          ∙ c.loop-i.invariant.0,
+      ap (drop_pairs m) c.in_ok-take_member.ensures.rest ∙ pairs_then n m ps one ∙ c.loop-i.invariant.1,
+      c.in_ok-take_member.ensures.members,
       c.in_ok-take_member.ensures.knows,
     )
