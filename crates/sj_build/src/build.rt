@@ -6,11 +6,10 @@ ghost use Rattle.std.specs.Prelude.{◌≡◌, ◌+◌, ◌<◌, ◌↔◌, true
 ghost use Rattle.std.specs.Vec.{vec_capacity};
 ghost use Rattle.sj_base.specs.Tree.{Tree, no_members};
 ghost use Rattle.sj_base.specs.Keep.{keep};
-ghost use Rattle.sj_object.specs.Members.{member_pairs, AreMembers, HasRoomForOne};
+ghost use Rattle.sj_object.specs.Members.{AreMembers, HasRoomForOne};
 ghost use Rattle.sj_tape.specs.Nodes.{node_entry};
 ghost use Rattle.sj_tape.specs.Views.{tape_nodes, nodes_tree, value_tree as view_tree};
-ghost use Rattle.sj_build.specs.Trees.{members_of, on_values};
-ghost use Rattle.sj_build.specs.inside.Building.{built, shown_tree, shown_key, first_part, behind, is_container, stack, place, list_from, object_from, drop_pairs, add_pair};
+ghost use Rattle.sj_build.specs.inside.Building.{built, shown_tree, shown_key, first_part, behind, is_container, stack, members_shown, place, list_from, object_from, drop_pairs, add_pair};
 ghost use Rattle.sj_build.specs.inside.Kept.{add_member, with_last, has_key, mark_of, Knows};
 
 use crate::built::BuildValue;
@@ -181,9 +180,9 @@ fn meet<'de, V: BuildValue<'de, K> + Drop, K: MakeKey<'de> + Drop>(
     members: &Members<K, V>,
 ) -> Result<bool, AllocError>
     requires members { AreMembers K.text members.now }
-    requires knows { Knows met.old (members_of K.text (on_values V.tree (member_pairs members.now))) }
-    ensures found { IfOk result (λ found. found ≡ has_key (members_of K.text (on_values V.tree (member_pairs members.now))) key.now) }
-    ensures knows { (t : Tree) → OnOk result (Knows met.new (add_member (members_of K.text (on_values V.tree (member_pairs members.now))) key.now t)) }
+    requires knows { Knows met.old (members_shown K.text V.tree members.now) }
+    ensures found { IfOk result (λ found. found ≡ has_key (members_shown K.text V.tree members.now) key.now) }
+    ensures knows { (t : Tree) → OnOk result (Knows met.new (add_member (members_shown K.text V.tree members.now) key.now t)) }
 {
     match &mut met.listed {
         Some(keys) => Ok(!keys.insert(key)?),
@@ -205,9 +204,9 @@ fn put_new<'de, V: BuildValue<'de, K> + Drop, K: MakeKey<'de> + Drop>(
 )
     requires members { AreMembers K.text members.old }
     requires room { HasRoomForOne members.old }
-    requires new_key { has_key (members_of K.text (on_values V.tree (member_pairs members.old))) (K.text key) ≡ false }
-    ensures added { members_of K.text (on_values V.tree (member_pairs members.new))
-        ≡ with_last (members_of K.text (on_values V.tree (member_pairs members.old))) (K.text key) (V.tree value) }
+    requires new_key { has_key (members_shown K.text V.tree members.old) (K.text key) ≡ false }
+    ensures added { members_shown K.text V.tree members.new
+        ≡ with_last (members_shown K.text V.tree members.old) (K.text key) (V.tree value) }
     ensures members { AreMembers K.text members.new }
 {
     members.push_reserved(key, value);
@@ -223,9 +222,9 @@ fn put_part<'de, V: BuildValue<'de, K> + Drop, K: MakeKey<'de> + Drop>(
 ) -> Result<(), AllocError>
     requires members { AreMembers K.text members.old }
     requires room { HasRoomForOne members.old }
-    requires new_key { has_key (members_of K.text (on_values V.tree (member_pairs members.old))) (K.text key) ≡ false }
-    ensures added { OnOk result (members_of K.text (on_values V.tree (member_pairs members.new))
-        ≡ with_last (members_of K.text (on_values V.tree (member_pairs members.old))) (K.text key) (shown_tree (first_part (stack V.tree parts.old)))) }
+    requires new_key { has_key (members_shown K.text V.tree members.old) (K.text key) ≡ false }
+    ensures added { OnOk result (members_shown K.text V.tree members.new
+        ≡ with_last (members_shown K.text V.tree members.old) (K.text key) (shown_tree (first_part (stack V.tree parts.old)))) }
     ensures members { OnOk result (AreMembers K.text members.new) }
     ensures rest { OnOk result (stack V.tree parts.new ≡ drop 1 (stack V.tree parts.old)) }
 {
@@ -250,9 +249,9 @@ fn add_part<'de, V: BuildValue<'de, K> + Drop, K: MakeKey<'de> + Drop>(
     members: &mut Members<K, V>,
 ) -> Result<(), AllocError>
     requires members { AreMembers K.text members.old }
-    requires new_key { has_key (members_of K.text (on_values V.tree (member_pairs members.old))) key.now ≡ false }
-    ensures added { OnOk result (members_of K.text (on_values V.tree (member_pairs members.new))
-        ≡ with_last (members_of K.text (on_values V.tree (member_pairs members.old))) key.now (shown_tree (first_part (stack V.tree parts.old)))) }
+    requires new_key { has_key (members_shown K.text V.tree members.old) key.now ≡ false }
+    ensures added { OnOk result (members_shown K.text V.tree members.new
+        ≡ with_last (members_shown K.text V.tree members.old) key.now (shown_tree (first_part (stack V.tree parts.old)))) }
     ensures members { OnOk result (AreMembers K.text members.new) }
     ensures rest { OnOk result (stack V.tree parts.new ≡ drop 1 (stack V.tree parts.old)) }
 {
@@ -271,11 +270,11 @@ fn take_member<'de, V: BuildValue<'de, K> + Drop, K: MakeKey<'de> + Drop>(
     members: &mut Members<K, V>,
 ) -> Result<(), AllocError>
     requires members { AreMembers K.text members.old }
-    requires knows { Knows met.old (members_of K.text (on_values V.tree (member_pairs members.old))) }
-    ensures added { OnOk result (members_of K.text (on_values V.tree (member_pairs members.new))
-        ≡ add_pair (members_of K.text (on_values V.tree (member_pairs members.old))) (stack V.tree parts.old)) }
+    requires knows { Knows met.old (members_shown K.text V.tree members.old) }
+    ensures added { OnOk result (members_shown K.text V.tree members.new
+        ≡ add_pair (members_shown K.text V.tree members.old) (stack V.tree parts.old)) }
     ensures members { OnOk result (AreMembers K.text members.new) }
-    ensures knows { OnOk result (Knows met.new (members_of K.text (on_values V.tree (member_pairs members.new)))) }
+    ensures knows { OnOk result (Knows met.new (members_shown K.text V.tree members.new)) }
     ensures rest { OnOk result (stack V.tree parts.new ≡ drop_pairs 1 (stack V.tree parts.old)) }
 {
     let Some(key) = take_key::<V, K>(parts) else {

@@ -2,9 +2,12 @@
 use Rattle.std.specs.Prelude.{ℕ, zero, suc, Bool, true, false, List, [], ◌∷◌, Option, Some, None, drop, reverse}
 use Rattle.sj_base.specs.Tree.{Tree, null, boolean, integer, decimal, string, list, object, Items, no_items, item, Members, no_members}
 use Rattle.sj_base.specs.Scalar.{static_tree, decimal_text}
+use Rattle.sj_object.specs.Members.{member_pairs}
+use Rattle.sj_object.specs.declared.members.Members.{Members as Pairs}
 use Rattle.sj_tape.specs.Listing.{Entry, null_entry, boolean_entry, integer_entry, decimal_entry, string_entry, list_entry, object_entry}
 use Rattle.sj_tape.specs.declared.node.Node.{Node}
 use Rattle.sj_tape.specs.declared.node.Node.TheVariants.{String, Object, Array, Static, Decimal}
+use Rattle.sj_build.specs.Trees.{members_of, on_values}
 use Rattle.sj_build.specs.inside.Kept.{add_member}
 use Rattle.sj_build.specs.declared.build.Parts.{Parts}
 
@@ -105,3 +108,7 @@ parts_shown tree (n ∷ ns) vs = shown tree n vs ∷ parts_shown tree ns (behind
 -- the stack, from its top down
 abbrev pub stack : {V : Type 0} → (V → Tree) → Parts V → List Shown
 stack tree parts = parts_shown tree (reverse parts.nodes.items) (reverse parts.built.items)
+
+-- the members that are put together
+abbrev pub members_shown : {K V : Type 0} → (K → List ℕ) → (V → Tree) → Pairs K V → Members
+members_shown key_text tree pairs = members_of key_text (on_values tree (member_pairs pairs))

@@ -1,14 +1,12 @@
 use Rattle.std.proofs.Common.{◌≡◌, ◌+◌, ◌-◌, suc, ap, ◌∙◌, arith}
-use Rattle.sj_object.specs.Members.{member_pairs}
-use Rattle.sj_build.specs.Trees.{members_of, on_values}
-use Rattle.sj_build.specs.inside.Building.{stack, add_pair, add_pairs, drop_pairs}
+use Rattle.sj_build.specs.inside.Building.{members_shown, stack, add_pair, add_pairs, drop_pairs}
 use Rattle.sj_build.proofs.Stacks.{member_then, pairs_then}
 use Rattle.sj_build.proofs.build.take_object.Goals as goal
 
 pub loop-i-preserved : goal.loop-i-preserved
 loop-i-preserved g c =
     let tree = g.V.BuildValue.tree in
-    let old = members_of g.K.ObjectKey.text (on_values tree (member_pairs c.loop-i.members)) in
+    let old = members_shown g.K.ObjectKey.text tree c.loop-i.members in
     let ps = stack tree c.loop-i.parts in
     let n = c.args.len - c.loop-i._i in
     let m = c.args.len - (c.loop-i._i + 1) in
