@@ -31,7 +31,7 @@ struct Parts<'de, V> {
 // The most nodes for which a stack has room at first. The C library serves requests of that size from its cache.
 const FIRST_NODES: usize = 42;
 
-// No parts, with room for so many nodes, but not for many.
+// No parts, with room for this many nodes, or for `FIRST_NODES` if that is fewer.
 fn no_parts<'de, V: BuildValue<'de, K> + Drop, K: MakeKey<'de> + Drop>(
     alloc: Global,
     count: usize,
@@ -195,7 +195,7 @@ fn meet<'de, V: BuildValue<'de, K> + Drop, K: MakeKey<'de> + Drop>(
     }
 }
 
-// Puts a member with a key that no member has last, for which there is room.
+// Puts a member last, whose key no member has, and for which there is room.
 #[inline(always)]
 fn put_new<'de, V: BuildValue<'de, K> + Drop, K: MakeKey<'de> + Drop>(
     key: K,
@@ -212,7 +212,7 @@ fn put_new<'de, V: BuildValue<'de, K> + Drop, K: MakeKey<'de> + Drop>(
     members.push_reserved(key, value);
 }
 
-// Does so with the value of the next part. Each value is put in its place where it is made.
+// Puts a member last as `put_new` does, with the value of the next part. Each value is put in its place where it is made.
 #[inline(always)]
 fn put_part<'de, V: BuildValue<'de, K> + Drop, K: MakeKey<'de> + Drop>(
     alloc: Global,
@@ -240,7 +240,7 @@ fn put_part<'de, V: BuildValue<'de, K> + Drop, K: MakeKey<'de> + Drop>(
     Ok(())
 }
 
-// Adds a member with a key that no member has and the value of the next part.
+// Makes room for a member, and puts it last. No member has its key, and its value is that of the next part.
 #[inline(always)]
 fn add_part<'de, V: BuildValue<'de, K> + Drop, K: MakeKey<'de> + Drop>(
     alloc: Global,
