@@ -76,7 +76,7 @@ pub fn read_rest<R: Read>(reader: &mut R, bytes: &mut Vec<u8>, reads: u64) -> Re
             Ok(0) => return Ok(()),
             Ok(taken) => bytes.extend_from_slice(&piece[..taken])?,
             Err(error) if error.kind() == ErrorKind::Interrupted => {}
-            Err(error) => return Err(error.into()),
+            Err(_) => return Err(LoadFault::Unreadable),
         }
     }
     Err(LoadFault::Unreadable)

@@ -1,10 +1,8 @@
 -- The stack of a document that is built, as parts are pushed and taken.
-use Rattle.std.proofs.Common.{◌≡◌, ℕ, zero, suc, ◌-◌, ◌<◌, true, List, [], ◌∷◌, ◌++◌, drop, length, refl, sym, ap, ◌∙◌, arith}
+use Rattle.std.proofs.Common.{◌≡◌, ℕ, zero, suc, ◌-◌, ◌<◌, List, [], ◌∷◌, ◌++◌, drop, length, refl, sym, ap, ◌∙◌, arith}
 use Rattle.sj_base.specs.Tree.{Tree, Items, no_items, item, Members}
-use Rattle.sj_tape.specs.declared.node.Node.{Node}
-use Rattle.sj_tape.specs.declared.node.Node.TheVariants.{String, Object, Array, Static, Decimal}
 use Rattle.sj_build.specs.Trees.{items_of}
-use Rattle.sj_build.specs.inside.Building.{Shown, built, shown_tree, first_part, is_container, parts_shown, items_from, add_pair, add_pairs, drop_pairs}
+use Rattle.sj_build.specs.inside.Building.{Shown, shown_tree, first_part, items_from, add_pair, add_pairs, drop_pairs}
 
 pub nothing : {A : Type 0} (xs : List A) → length xs ≡ 0 → xs ≡ []
 nothing [] none = refl
@@ -12,15 +10,6 @@ nothing (x ∷ xs) none = absurd (omega (arith, none))
 
 pub one_fewer : (n : ℕ) → 0 < n → n ≡ suc (n - 1)
 one_fewer n some = omega arith
-
-module _ {V : Type 0} (tree : V → Tree) where
-  -- a container and its value
-  pub container_put : (n : Node) (v : V) (ns : List Node) (vs : List V) → is_container n ≡ true → parts_shown tree (n ∷ ns) (v ∷ vs) ≡ built (tree v) ∷ parts_shown tree ns vs
-  container_put (String s) v ns vs is = absurd cc
-  container_put (Static s) v ns vs is = absurd cc
-  container_put (Decimal d) v ns vs is = absurd cc
-  container_put (Array len count) v ns vs is = refl
-  container_put (Object len count) v ns vs is = refl
 
 -- these values, and then the items
 abbrev pub after : List Tree → Items → Items

@@ -14,7 +14,7 @@ use std::marker::PhantomData;
 /// `simd_json::value::ValueDeserializer`.
 #[derive(Debug, Drop)]
 pub struct ValueDeserializer<'de, V, K> {
-    pub(crate) nodes: Deserializer<'de>,
+    nodes: Deserializer<'de>,
     built: PhantomData<(V, K)>,
 }
 
@@ -49,7 +49,7 @@ impl<'de, V: BuildValue<'de, K> + Drop, K: MakeKey<'de> + Drop> ValueDeserialize
         ensures value { IfOk result (λ v. Takes (deserializer_nodes (left self.old)) (deserializer_next (left self.old))
             (V.tree v) (deserializer_next (left self.new))) }
         ensures nodes { deserializer_nodes (left self.new) ≡ deserializer_nodes (left self.old) }
-        ensures refused { OnErr result (deserializer_next (left self.new) ≡ deserializer_next (left self.old)) }
+        ensures unchanged { OnErr result (deserializer_next (left self.new) ≡ deserializer_next (left self.old)) }
     {
         let view = self.nodes.next_value();
         let count = view.nodes().len();

@@ -10,7 +10,7 @@ ghost use Rattle.sj_build.specs.Reading.{AnswersKept};
 
 use crate::build::build_tape;
 use crate::built::BuildValue;
-use sj_base::{Error, ErrorType};
+use sj_base::ErrorType;
 use sj_object::MakeKey;
 use sj_parse::{Buffers, Result, to_tape, to_tape_with_buffers};
 use sj_tape::Tape;
@@ -67,8 +67,5 @@ fn build_document<'de, V: BuildValue<'de, K> + Drop, K: MakeKey<'de> + Drop>(
     ensures document { IfOk result (λ v. V.tree v ≡ keep (nodes_tree (tape_nodes tape.entry))) }
     ensures err { IfErr result (λ e. e ≡ generic ErrorType.OutOfMemory) }
 {
-    match build_tape::<V, K>(alloc, tape) {
-        Ok(value) => Ok(value),
-        Err(_) => Err(Error::generic(ErrorType::OutOfMemory)),
-    }
+    Ok(build_tape::<V, K>(alloc, tape)?)
 }

@@ -314,7 +314,7 @@ fn put_write_reply(
     ensures path { IfOk result (λ inverse. path_view inverse.path.items ≡ path_view path.now) }
     ensures change { IfOk result (λ inverse. change_view inverse.change ≡ back_of write.entry (option_map owned_tree found)) }
     ensures reply { IfOk result (λ inverse. out.new.items ≡ out.old.items ++ text (reply_of (found_of (change_view inverse.change)))) }
-    ensures left { OnErr result (out.new.items ≡ out.old.items) }
+    ensures unchanged { OnErr result (out.new.items ≡ out.old.items) }
 {
     let alloc = *out.allocator();
     let change = write.inverse(alloc, found)?;

@@ -103,7 +103,7 @@ pub(crate) fn put_found<P: Part>(found: Option<P>, out: &mut Vec<u8>) -> Result<
     whole_or_none(out, start, printed)
 }
 
-/// A part of it is appended before an error.
+/// Appends what [`put_found`] appends. After an error a part of it may stay.
 fn put_reply<P: Part>(found: Option<P>, out: &mut Vec<u8>) -> Result<(), AllocError>
     ensures { AppendsOrGrows result out.old.items out.new.items (text (reply_of (option_map P.tree found))) }
 {

@@ -49,10 +49,8 @@ impl<'k> KnownKey<'k> {
         ensures ok { IfOk result (λ key. K.text key ≡ cow_str_bytes self.now) }
         ensures err { IfErr result (λ e. e ≡ KnownKeyError.Memory) }
     {
-        match String::from_str(alloc, self.key.as_ref()) {
-            Ok(text) => Ok(K::from_string(text)),
-            Err(_) => Err(KnownKeyError::Memory),
-        }
+        let text = String::from_str(alloc, self.key.as_ref())?;
+        Ok(K::from_string(text))
     }
 }
 

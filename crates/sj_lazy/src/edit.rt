@@ -1,5 +1,5 @@
 //! Write calls. Each makes a document of a tape first, and copies a document that is only borrowed.
-ghost use Rattle.std.specs.Prelude.{◌≡◌, ◌∷◌, [], ◌++◌, false, Some, Err, IsNone, IfOk, IfErr, OnOk, OnErr, option_map};
+ghost use Rattle.std.specs.Prelude.{◌≡◌, ◌∷◌, [], ◌++◌, false, Some, IsNone, IfOk, IfErr, OnOk, OnErr, option_map};
 ghost use Rattle.std.specs.Cow.{cow_str_bytes};
 ghost use Rattle.std.specs.Borrow.{sem};
 ghost use Rattle.std.specs.Option.{option_copied_mut};
@@ -120,13 +120,6 @@ impl<T: ToDocument<D> + Drop, B: ToDocument<D> + Drop, D: Drop> TapeOrDocument<T
     }
 }
 
-// An edit's error. What was handed in is dropped.
-fn refuse<T: Drop, U>(_handed_in: T, error: AccessError) -> Result<U, AccessError>
-    ensures { result ≡ Err error }
-{
-    Err(error)
-}
-
 impl<'i> Value<'_, '_, 'i> {
     ghost use Rattle.sj_lazy.specs.Contents.{Document};
     ghost use Rattle.sj_lazy.specs.Upgrade.{OwnsSuch, Upgrades, WritesBy, Refuses, owns, upgraded};
@@ -155,7 +148,8 @@ impl<'i> Value<'_, '_, 'i> {
             × IsNone (child (upgraded self.old) (key_part (cow_str_bytes key.entry)))) self.old self.new) }
     {
         let Ok(owned) = self.value_mut(alloc) else {
-            return refuse((key, value), AccessError::Memory);
+            drop((key, value));
+            return Err(AccessError::Memory);
         };
         owned.insert(key, value)
     }
@@ -199,7 +193,8 @@ impl<'i> Value<'_, '_, 'i> {
         ensures err { IfErr result (Refuses (λ e. e ≡ refusal AccessError.NotAnArray (items_in (upgraded self.old))) self.old self.new) }
     {
         let Ok(document) = self.value_mut(alloc) else {
-            return refuse(value, AccessError::Memory);
+            drop(value);
+            return Err(AccessError::Memory);
         };
         document.push(value)
     }

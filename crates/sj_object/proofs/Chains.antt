@@ -81,19 +81,19 @@ module _ (ls : List Link) (x : Link) where
   reaches-more (suc n) (Some i) p r =
       or_second (eqb i p) (reaches n ls (next_of (slice_get ls i)) p) (reaches n (ls ++ x ∷ []) (next_of (slice_get (ls ++ x ∷ []) i)) p) (next-more n i p (λ at. reaches-more n at p) (slice_get ls i) refl) r
 
-  has_hash-more : (h p : ℕ) → has_hash (slice_get ls p) h ≡ true → has_hash (slice_get (ls ++ x ∷ []) p) h ≡ true
-  has_hash-more h p t = by_link (slice_get ls p) refl
+  -- what is true of the link at a place stays true of it
+  holds-more : (f : Option Link → Bool) → f None ≡ false → (p : ℕ) → f (slice_get ls p) ≡ true → f (slice_get (ls ++ x ∷ []) p) ≡ true
+  holds-more f none p t = by_link (slice_get ls p) refl
     where
-      by_link : (o : Option Link) → slice_get ls p ≡ o → has_hash (slice_get (ls ++ x ∷ []) p) h ≡ true
-      by_link None e = absurd (false≢true (rw e at t))
+      by_link : (o : Option Link) → slice_get ls p ≡ o → f (slice_get (ls ++ x ∷ []) p) ≡ true
+      by_link None e = absurd (false≢true (sym none ∙ (rw e at t)))
       by_link (Some l) e = rw (get-more ls x p l e) (rw e at t)
 
+  has_hash-more : (h p : ℕ) → has_hash (slice_get ls p) h ≡ true → has_hash (slice_get (ls ++ x ∷ []) p) h ≡ true
+  has_hash-more h p t = holds-more (λ o. has_hash o h) refl p t
+
   belongs-more : (n p h : ℕ) → belongs n (slice_get ls p) h ≡ true → belongs n (slice_get (ls ++ x ∷ []) p) h ≡ true
-  belongs-more n p h t = by_link (slice_get ls p) refl
-    where
-      by_link : (o : Option Link) → slice_get ls p ≡ o → belongs n (slice_get (ls ++ x ∷ []) p) h ≡ true
-      by_link None e = absurd (false≢true (rw e at t))
-      by_link (Some l) e = rw (get-more ls x p l e) (rw e at t)
+  belongs-more n p h t = holds-more (λ o. belongs n o h) refl p t
 
 -- what belongs to a chain is a link
 belongs-within : (n : ℕ) (ls : List Link) (i h : ℕ) → belongs n (slice_get ls i) h ≡ true → i < length ls

@@ -47,7 +47,7 @@ impl<K: ObjectKey, V> Object<K, V> {
         ensures ok { OnOk result (self.new ≡ put_key K.text self.old key value) }
         ensures replaced { IfOk result (λ old. old ≡ value_at K.text self.old (K.text key)) }
         ensures succeeds { IsSome (value_at K.text self.old (K.text key)) → IsOk result }
-        ensures err { OnErr result (self.new ≡ self.old) }
+        ensures unchanged { OnErr result (self.new ≡ self.old) }
         ensures handed_back { IfErr result (λ pair. (pair.key ≡ key) × (pair.value ≡ value)) }
     {
         self.insert_by(Some(hash), key, value)

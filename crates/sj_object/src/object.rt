@@ -9,6 +9,7 @@ use crate::entry::{Entry, Refused};
 use crate::hash::hash_key;
 use crate::iter::{IntoIter, Iter, Keys, Values};
 use crate::key::ObjectKey;
+use crate::members::Members;
 use crate::pairs::Pairs;
 use std::alloc::{AllocError, Global};
 use std::fmt::{self, Debug};
@@ -60,10 +61,8 @@ impl<K: ObjectKey, V> Object<K, V> {
     pub fn with_capacity(alloc: Global, capacity: usize) -> Result<Self, AllocError>
         ensures { IfOk result (λ object. object ≡ []) }
     {
-        let entries = Vec::with_capacity(alloc, capacity)?;
-        Ok(Object {
-            pairs: Pairs::Listed(entries),
-        })
+        let members = Members::with_capacity(alloc, capacity)?;
+        Ok(Object::from_members(members))
     }
 
     /// Returns an object without pairs that has this one's allocator, and room for as many pairs. The hash table isn't made
@@ -178,7 +177,7 @@ impl<K: ObjectKey, V> Object<K, V> {
         ensures ok { OnOk result (self.new ≡ put_key K.text self.old key value) }
         ensures replaced { IfOk result (λ old. old ≡ value_at K.text self.old (K.text key)) }
         ensures succeeds { IsSome (value_at K.text self.old (K.text key)) → IsOk result }
-        ensures err { OnErr result (self.new ≡ self.old) }
+        ensures unchanged { OnErr result (self.new ≡ self.old) }
         ensures handed_back { IfErr result (λ pair. (pair.key ≡ key) × (pair.value ≡ value)) }
     {
         let hash = self.hash_for_table(key.as_text());
@@ -209,7 +208,7 @@ impl<K: ObjectKey, V> Object<K, V> {
         ensures ok { OnOk result (self.new ≡ put_key K.text self.old key value) }
         ensures replaced { IfOk result (λ old. old ≡ value_at K.text self.old (K.text key)) }
         ensures succeeds { IsSome (value_at K.text self.old (K.text key)) → IsOk result }
-        ensures err { OnErr result (self.new ≡ self.old) }
+        ensures unchanged { OnErr result (self.new ≡ self.old) }
         ensures handed_back { IfErr result (λ pair. (pair.key ≡ key) × (pair.value ≡ value)) }
     {
         let Some(at) = self.place_by(hash, key.as_text()) else {
@@ -230,7 +229,7 @@ impl<K: ObjectKey, V> Object<K, V> {
         V: Drop,
         requires { value_at K.text self.old (K.text key) ≡ None }
         ensures ok { OnOk result (self.new ≡ put_key K.text self.old key value) }
-        ensures err { OnErr result (self.new ≡ self.old) }
+        ensures unchanged { OnErr result (self.new ≡ self.old) }
         ensures handed_back { IfErr result (λ pair. (pair.key ≡ key) × (pair.value ≡ value)) }
     {
         self.push_by(None, key, value)
@@ -244,7 +243,7 @@ impl<K: ObjectKey, V> Object<K, V> {
         requires hash { IfSome hash (λ known. known ≡ text_hash (K.text key)) }
         requires new_key { value_at K.text self.old (K.text key) ≡ None }
         ensures ok { OnOk result (self.new ≡ put_key K.text self.old key value) }
-        ensures err { OnErr result (self.new ≡ self.old) }
+        ensures unchanged { OnErr result (self.new ≡ self.old) }
         ensures handed_back { IfErr result (λ pair. (pair.key ≡ key) × (pair.value ≡ value)) }
     {
         if self.pairs.make_room().is_err() {
@@ -254,7 +253,8 @@ impl<K: ObjectKey, V> Object<K, V> {
         Ok(())
     }
 
-    /// Puts a pair with a new key at a place, counted from 0. The pairs from there on move one place on.
+    /// Puts a pair with a new key at a place, counted from 0. The pairs from there on move one place on. In an object of more
+    /// than 32 pairs the whole table is linked anew, unless the pair goes last.
     ///
     /// `place` is at most [`Object::len`]. To test that the key is new, call [`Object::contains_key`].
     ///
@@ -268,7 +268,7 @@ impl<K: ObjectKey, V> Object<K, V> {
         requires within { place ≤ length self.old }
         requires new_key { value_at K.text self.old (K.text key) ≡ None }
         ensures ok { OnOk result (self.new ≡ put_at self.old place key value) }
-        ensures err { OnErr result (self.new ≡ self.old) }
+        ensures unchanged { OnErr result (self.new ≡ self.old) }
         ensures handed_back { IfErr result (λ pair. (pair.key ≡ key) × (pair.value ≡ value)) }
     {
         if self.pairs.make_room().is_err() {
@@ -278,7 +278,8 @@ impl<K: ObjectKey, V> Object<K, V> {
         Ok(())
     }
 
-    /// Removes the pair of this key and returns its value, or `None` if there is none. The pairs after it close up.
+    /// Removes the pair of this key and returns its value, or `None` if there is none. The pairs after it close up. In an object
+    /// of more than 32 pairs the whole table is linked anew, unless the pair is the last.
     pub fn remove(&mut self, key: &str) -> Option<V>
     where
         K: Drop,

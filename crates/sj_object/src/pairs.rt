@@ -179,7 +179,7 @@ impl<K: ObjectKey, V> HashedPairs<K, V> {
         ensures pairs { IfOk result (λ pairs. pairs.value.entries ≡ entries.old) }
         ensures table { IfOk result (λ pairs. IsTable pairs.value.table (keys_of K.text entries.old.items)) }
         ensures room { IfOk result (λ pairs. HasRoomFor (vec_capacity entries.old) pairs.value.table) }
-        ensures err { OnErr result (entries.new ≡ entries.old) }
+        ensures unchanged { OnErr result (entries.new ≡ entries.old) }
     {
         let alloc = *entries.allocator();
         let table = Table::of(alloc, entries)?;

@@ -19,7 +19,7 @@ use std::mem;
 
 // What the table keeps of a pair.
 #[derive(Clone, Copy)]
-pub(crate) struct Link {
+struct Link {
     // The hash of its key.
     hash: u64,
     // The place of the pair that came before it in its chain.
@@ -75,7 +75,7 @@ fn seek<K: ObjectKey, V>(
 
 impl Table {
     // Returns a table without pairs that has room for this many.
-    pub(crate) fn with_room(alloc: Global, pairs: usize) -> Result<Table, AllocError>
+    fn with_room(alloc: Global, pairs: usize) -> Result<Table, AllocError>
         requires { 0 < pairs }
         ensures empty { IfOk result (λ table. IsTable table []) }
         ensures room { IfOk result (HasRoomFor pairs) }

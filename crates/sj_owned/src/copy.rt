@@ -119,22 +119,5 @@ pub(crate) fn append<K: ObjectKey + Drop, V: Drop>(
     requires { value_at K.text members.old (K.text key) ≡ None }
     ensures { OnOk result (members.new ≡ put_key K.text members.old key value) }
 {
-    match members.push_new(key, value) {
-        Ok(()) => Ok(()),
-        Err(_) => Err(AllocError),
-    }
-}
-
-// Inserts a member. For lack of memory it is dropped.
-pub(crate) fn insert<K: ObjectKey + Drop, V: Drop>(
-    members: &mut Object<K, V>,
-    key: K,
-    value: V,
-) -> Result<(), AllocError>
-    ensures { OnOk result (members.new ≡ put_key K.text members.old key value) }
-{
-    match members.insert(key, value) {
-        Ok(_) => Ok(()),
-        Err(_) => Err(AllocError),
-    }
+    Ok(members.push_new(key, value)?)
 }

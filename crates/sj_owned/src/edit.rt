@@ -1,18 +1,11 @@
 //! Edits of a document, with the names of the traits of `value_trait`.
-ghost use Rattle.std.specs.Prelude.{◌≡◌, [], ◌∷◌, ◌++◌, Some, Err, IsSome, IsNone, IsOk, is_ok, if◌then◌else◌, IfOk, IfErr, OnOk, OnErr, option_map, ok_or};
+ghost use Rattle.std.specs.Prelude.{◌≡◌, [], ◌∷◌, ◌++◌, Some, IsSome, IsNone, IsOk, is_ok, if◌then◌else◌, IfOk, IfErr, OnOk, OnErr, option_map, ok_or};
 ghost use Rattle.sj_object.specs.Pairs.{value_at, put_key, drop_key};
 
 use crate::literal::Literal;
 use crate::value::Value;
 use sj_base::AccessError;
 use sj_object::{Object, ObjectKey};
-
-// An edit's error. What was handed in is dropped.
-fn refuse<T: Drop, U>(_handed_in: T, error: AccessError) -> Result<U, AccessError>
-    ensures { result ≡ Err error }
-{
-    Err(error)
-}
 
 impl<K: ObjectKey, D: Literal> Value<K, D> {
     ghost use Rattle.sj_owned.specs.Views.{value_tree, items_inside, members_inside};
@@ -43,9 +36,15 @@ impl<K: ObjectKey, D: Literal> Value<K, D> {
         match self {
             Value::Object(members) => match members.insert(key, value) {
                 Ok(old) => Ok(old),
-                Err(pair) => refuse(pair, AccessError::Memory),
+                Err(pair) => {
+                    drop(pair);
+                    Err(AccessError::Memory)
+                }
             },
-            _ => refuse((key, value), AccessError::NotAnObject),
+            _ => {
+                drop((key, value));
+                Err(AccessError::NotAnObject)
+            }
         }
     }
 
@@ -94,7 +93,10 @@ impl<K: ObjectKey, D: Literal> Value<K, D> {
                 Ok(()) => Ok(()),
                 Err(_) => Err(AccessError::Memory),
             },
-            _ => refuse(value, AccessError::NotAnArray),
+            _ => {
+                drop(value);
+                Err(AccessError::NotAnArray)
+            }
         }
     }
 

@@ -1,5 +1,5 @@
 //! Documents made of other values. The conversions that `From` stands for need no memory.
-ghost use Rattle.std.specs.Prelude.{◌≡◌, List, IfOk, MatchOption, string_bytes, map as map_entries};
+ghost use Rattle.std.specs.Prelude.{◌≡◌, List, IfOk, OnOk, MatchOption, string_bytes, map as map_entries};
 ghost use Rattle.std.specs.Cmp.Lexicographic.{slice_cmp};
 ghost use Rattle.std.specs.List.Sorted.{IsPermutation, IsSortedByKey};
 ghost use Rattle.std.specs.Ordering.{nat_cmp};
@@ -10,11 +10,11 @@ ghost use Rattle.std.specs.declared.string.String.{String as Text};
 ghost use Rattle.std.proofs.Common.{refl};
 ghost use Rattle.sj_base.specs.Tree.{string};
 ghost use Rattle.sj_base.specs.declared.static_node.StaticNode.TheVariants.{Null, Bool, I64, U64};
+ghost use Rattle.sj_object.specs.Pairs.{put_key};
 ghost use Rattle.sj_owned.specs.From.{IsArrayOf, IsObjectOf, IsObjectOfEntries};
 ghost use Rattle.sj_owned.specs.Views.{value_tree};
 ghost use Rattle.sj_owned.specs.declared.value.Value.{Static, String, Array, Object as Members};
 
-use crate::copy::insert;
 use crate::literal::Literal;
 use crate::value::Value;
 use sj_base::StaticNode;
@@ -223,6 +223,20 @@ fn sort_pairs<K: ObjectKey, V>(pairs: &mut [(K, V)])
     ensures sorted { IsSortedByKey (λ p. K.text p.0) (slice_cmp nat_cmp) pairs.new }
 {
     pairs.sort_unstable_by(|a, b| a.0.as_text().cmp(b.0.as_text()));
+}
+
+// Inserts a member. For lack of memory it is dropped.
+fn insert<K: ObjectKey + Drop, V: Drop>(
+    members: &mut Object<K, V>,
+    key: K,
+    value: V,
+) -> Result<(), AllocError>
+    ensures { OnOk result (members.new ≡ put_key K.text members.old key value) }
+{
+    match members.insert(key, value) {
+        Ok(_) => Ok(()),
+        Err(_) => Err(AllocError),
+    }
 }
 
 impl<K: FromString, D: Literal> Value<K, D> {

@@ -1,4 +1,4 @@
-//! Parts of a document by `[]`, and the document that is made without arguments.
+//! Parts of a document by `[]`.
 ghost use Rattle.std.specs.Prelude.{◌≡◌, Some, IsSome};
 
 use crate::lend::MutableValue;
@@ -58,17 +58,5 @@ impl<K: ObjectKey, D: Literal> IndexMut<usize> for Value<K, D> {
         ensures { item_of self.old index ≡ Some result.now }
     {
         self.get_idx_mut(index).unwrap()
-    }
-}
-
-/// The default is a null.
-impl<K: ObjectKey, D: Literal> Default for Value<K, D> {
-    ghost use Rattle.sj_base.specs.declared.static_node.StaticNode.TheVariants.{Null};
-    ghost use Rattle.sj_owned.specs.declared.value.Value.{Static};
-
-    ghost is_default = { λ v. v ≡ Static Null };
-
-    fn default() -> Value<K, D> {
-        Value::null()
     }
 }

@@ -96,3 +96,15 @@ impl<K: ObjectKey, D: Literal> Value<K, D> {
         matches!(self, Value::Object(_))
     }
 }
+
+/// The default is a null.
+impl<K: ObjectKey, D: Literal> Default for Value<K, D> {
+    ghost use Rattle.sj_base.specs.declared.static_node.StaticNode.TheVariants.{Null};
+    ghost use Rattle.sj_owned.specs.declared.value.Value.{Static};
+
+    ghost is_default = { λ v. v ≡ Static Null };
+
+    fn default() -> Value<K, D> {
+        Value::null()
+    }
+}

@@ -22,7 +22,7 @@ pub fn depth_stays()
 {}
 
 /// A line whose document repeats no key has the same record in each form, for any script that `Script::read` accepts. Where
-/// repeated keys are refused, every line has, also one that repeats a key.
+/// repeated keys are refused, this holds of every line, also of one that repeats a key.
 pub fn forms_agree()
     ensures kept { FormsAgree }
     ensures refused { RefusingFormsAgree }

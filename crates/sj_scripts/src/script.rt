@@ -137,7 +137,7 @@ impl ScriptFault {
     ///
     /// # Errors
     ///
-    /// Returns `AllocError` if the vector could not grow. The vector is unchanged then.
+    /// `AllocError` if there is no memory for the text. Nothing is then appended.
     pub fn put_fault(&self, out: &mut Vec<u8>) -> Result<(), AllocError>
         ensures { AppendsOrLeaves result out.old.items out.new.items (fault_text self.now) }
     {

@@ -63,7 +63,7 @@ impl<'t, 'v> BorrowSliceDeserializer<'t, 'v> {
         ensures value { IfOk result (λ v. Takes (slice_nodes self.old) (slice_next self.old)
             (value_tree cow_str_bytes decimal_cow_text v) (slice_next self.new)) }
         ensures nodes { slice_nodes self.new ≡ slice_nodes self.old }
-        ensures refused { OnErr result (slice_next self.new ≡ slice_next self.old) }
+        ensures unchanged { OnErr result (slice_next self.new ≡ slice_next self.old) }
     {
         let end = self.view.nodes().len();
         let view = self.view.value_at(self.next);

@@ -261,7 +261,8 @@ fn put_new_keys(
 ) -> Result<(), Fail> {
     let mut calls = 0u64;
     for &(text, wanted) in &[("key", 1), ("cake", 2), ("key", 1)] {
-        let (calls_before, len_before) = (calls, object.len());
+        let calls_before = calls;
+        let before = format!(in alloc; "{object:?}")?;
         let with = || {
             calls = calls.wrapping_add(1);
             calls
@@ -271,7 +272,7 @@ fn put_new_keys(
             Err(error) => {
                 expect_eq(rt, error, KnownKeyError::Memory);
                 expect_eq(rt, calls, calls_before);
-                expect_eq(rt, object.len(), len_before);
+                expect_eq(rt, format!(in alloc; "{object:?}")?, before);
                 return Err(Fail::new("no memory"));
             }
         }

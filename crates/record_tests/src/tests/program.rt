@@ -408,8 +408,7 @@ fn reads_to_the_end(rt: HostRuntime) {
         (None, 4, Ok(())),
         (None, 3, Err(LoadFault::Unreadable)),
         (Some(ErrorKind::Other), 9, Err(LoadFault::Unreadable)),
-        (Some(ErrorKind::OutOfMemory), 9, Err(LoadFault::Memory)),
-        (Some(ErrorKind::OutOfMemory), 3, Err(LoadFault::Unreadable)),
+        (Some(ErrorKind::OutOfMemory), 9, Err(LoadFault::Unreadable)),
         (Some(ErrorKind::Interrupted), 5, Ok(())),
         (Some(ErrorKind::Interrupted), 4, Err(LoadFault::Unreadable)),
     ] {

@@ -132,13 +132,19 @@ fn run_empty<I: Read + Drop, O: Write + Drop>(
 
 #[test]
 fn failing_reader(rt: HostRuntime) {
-    for step in &[1, 65536] {
-        let mut input = Pieces::new(b"1\n2\n3", *step);
+    let first = "{\"replies\":[],\"document\":1}\n";
+    for (bytes, step, records) in &[
+        (b"1\n2".as_slice(), 1, first),
+        (b"1\n2".as_slice(), 65536, first),
+        (b"1\n2\n3".as_slice(), 1, BOTH),
+        (b"1\n2\n3".as_slice(), 65536, BOTH),
+    ] {
+        let mut input = Pieces::new(bytes, *step);
         input.failure = Some(ErrorKind::Other);
         let mut output = Vec::new(rt.alloc());
         let result = run_empty(&rt, rt.alloc(), input, &mut output);
         expect_eq(&rt, result, Err(RunError::Read));
-        expect_eq(&rt, output.as_slice(), BOTH.as_bytes());
+        expect_eq(&rt, output.as_slice(), records.as_bytes());
     }
 }
 

@@ -192,6 +192,32 @@ fn reloads_change_nothing(rt: HostRuntime) {
     }
 }
 
+// In a last line that no line feed ends.
+#[test]
+fn reloads_in_an_unended_line(rt: HostRuntime) {
+    for (script, records) in &[
+        (
+            r#"[["reload"],["type",[]]]"#,
+            "{\"replies\":[true,\"null\"],\"document\":null}\n",
+        ),
+        (
+            r#"[["type",[]],["reload"]]"#,
+            "{\"replies\":[\"null\",true],\"document\":null}\n",
+        ),
+        (
+            r#"[["reload_pp"],["type",[]]]"#,
+            "{\"replies\":[true,\"null\"],\"document\":null}\n",
+        ),
+        (
+            r#"[["type",[]],["reload_pp"]]"#,
+            "{\"replies\":[\"null\",true],\"document\":null}\n",
+        ),
+    ] {
+        let run = Run::new(script, b"null");
+        run.expect_by(&rt, rt.alloc(), &[1, 65536], &FORMS, records);
+    }
+}
+
 // Where a key stands twice, in each form.
 #[test]
 fn reloads_keep_repeats(rt: HostRuntime) {

@@ -127,3 +127,20 @@ fn of_limits(rt: HostRuntime) {
         lines.check_reloads(&rt, rt.alloc(), *depth);
     }
 }
+
+// Two lines under the limit of no level, in one stream: in order, and in reverse order.
+#[test]
+fn of_the_limit_zero(rt: HostRuntime) {
+    let alloc = rt.alloc();
+    let mut lines = Stream::new(alloc);
+    let mut reversed = Stream::new(alloc);
+    for (line, record) in &[
+        ("[]", r#"{"error":"Syntax","index":0,"character":"["}"#),
+        ("7", r#"{"replies":[],"document":7}"#),
+    ] {
+        lines.add(&rt, 0, line.as_bytes(), record);
+        reversed.put_first(&rt, alloc, line.as_bytes(), record);
+    }
+    lines.check(&rt, alloc, 0, 65536);
+    reversed.check(&rt, alloc, 0, 65536);
+}

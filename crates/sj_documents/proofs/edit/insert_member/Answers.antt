@@ -26,7 +26,7 @@ pub returns-then-is_err : goal.returns-then-is_err
 returns-then-is_err g c =
     let text = g.K.ObjectKey.text in
     let literal = g.D.Literal.literal in
-    ap (λ es. value_tree text literal (Object es)) (kept_on_error c.push_new.result _ (sym c.is_err.ensures.value ∙ c.if-is_err.true) c.push_new.ensures.err)
+    ap (λ es. value_tree text literal (Object es)) (kept_on_error c.push_new.result _ (sym c.is_err.ensures.value ∙ c.if-is_err.true) c.push_new.ensures.unchanged)
     ∙ object_again text literal c.args.part.now c.in-Some.members.now c.args.key.now (sym c.in-Some.ensures.value)
 
 pub returns : goal.returns

@@ -8,7 +8,7 @@ returns-in-Ok g c =
       pairs = c.replace.ensures.value;
       table = c.in_ok-table.ensures.table;
       room = c.in_ok-table.ensures.room;
-      err = tt;
+      unchanged = tt;
     }
 
 pub returns-in-Err : goal.returns-in-Err
@@ -16,5 +16,5 @@ returns-in-Err g c = record {
   pairs = tt;
   table = tt;
   room = tt;
-  err = ap (λ (p : HashedPairs g.row.K.Denot g.row.V.Denot). p.entries) c.in-Err.ensures.value_returned ∙ c.replace.ensures.value;
+  unchanged = ap (λ (p : HashedPairs g.row.K.Denot g.row.V.Denot). p.entries) c.in-Err.ensures.value_returned ∙ c.replace.ensures.value;
 }
