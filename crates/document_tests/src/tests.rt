@@ -2,6 +2,7 @@
 //!
 //! What a test owns is handed to `drop`, which is proved once. Of a value that goes out of scope each form is proved to be
 //! dropped, at each place where the function returns.
+mod cookbook;
 mod copies;
 mod depths;
 mod keys;

@@ -11,6 +11,7 @@ mod reloads;
 mod repeats;
 mod rows;
 mod runs;
+mod store;
 mod undo;
 mod writes;
 
