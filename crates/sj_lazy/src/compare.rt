@@ -34,19 +34,12 @@ pub(crate) fn document_of(scalar: Scalar<'_>) -> BorrowedValue<'_>
     }
 }
 
-// Compares two values, and lets them go.
-fn are_equal<T: PartialEq + Drop>(a: T, b: T) -> bool
-    ensures { result ≡ T.eq a b }
-{
-    a == b
-}
-
 // Returns `true` if the value is a scalar that is equal to this one.
 fn is_scalar(value: &Value<'_, '_, '_>, scalar: Scalar<'_>) -> bool
     ensures { result ≡ kept_alike (scalar_tree scalar.entry) (lazy_tree value.now) }
 {
     match value.as_scalar() {
-        Some(other) => are_equal(document_of(scalar), document_of(other)),
+        Some(other) => scalar.same(&other),
         None => false,
     }
 }

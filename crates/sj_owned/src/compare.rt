@@ -15,24 +15,12 @@ use sj_base::Scalar;
 use sj_object::{Object, ObjectKey};
 use sj_reads::ValueAsScalar;
 
-// Returns `true` if the scalars are equal. Integers are compared by number, and decimal literals by text.
-fn same_scalars(a: &Scalar<'_>, b: &Scalar<'_>) -> bool
-    ensures { result ≡ alike (scalar_tree a.now) (scalar_tree b.now) }
-{
-    match (a, b) {
-        (Scalar::Static(m), Scalar::Static(n)) => m == n,
-        (Scalar::Text(s), Scalar::Text(t)) => s == t,
-        (Scalar::Literal(d), Scalar::Literal(e)) => d.as_str() == e.as_str(),
-        _ => false,
-    }
-}
-
 // Returns `true` if the document is a scalar that is equal to this one.
 fn is_scalar<K: ObjectKey, D: Literal>(value: &Value<K, D>, scalar: &Scalar<'_>) -> bool
     ensures { result ≡ alike (scalar_tree scalar.now) (value_tree K.text D.literal value.now) }
 {
     match value.as_scalar() {
-        Some(other) => same_scalars(scalar, &other),
+        Some(other) => scalar.same(&other),
         None => false,
     }
 }

@@ -1,5 +1,6 @@
 -- Escapes: the test on what stands behind a backslash accepts the forms of characters.
-use Rattle.std.specs.Prelude.{◌+◌, ◌-◌, ◌*◌, ◌≡◌, ◌≢◌, ℕ, suc, ◌<◌, ◌≤◌, ◌^◌, true, false, not, ◌&&◌, ◌||◌, ◌==◌, nat_le, nat_lt, List, [], ◌∷◌, ◌++◌, length, take, drop, codes, bytes_eq, is_some, IsSome, Result, Ok, Err}
+use Rattle.std.specs.Prelude.{◌+◌, ◌-◌, ◌*◌, ◌≡◌, ◌≢◌, ℕ, suc, ◌<◌, ◌≤◌, ◌^◌, true, false, not, ◌&&◌, ◌||◌, ◌==◌, nat_le, nat_lt, List, [], ◌∷◌, ◌++◌, length, take, drop, codes, bytes_eq, is_some, IsSome, SomeIff, Bool, Result, Ok, Err}
+use Rattle.std.specs.Bool.{then_some}
 use Rattle.std.specs.List.{list_all}
 use Rattle.std.specs.Char.{IsScalar, digit_value, is_ascii_hexdigit}
 use Rattle.std.specs.Int.{IsInRange}
@@ -144,6 +145,10 @@ pub low_from_parts : (bs : List ℕ) → Low bs → begins_with_low_surrogate bs
 low_from_parts bs h =
     and_from (bytes_eq (take 2 bs) (codes "\\u") && is_hex (take 4 (drop 2 bs))) (is_low_surrogate (hex_value (take 4 (drop 2 bs))))
     (and_from (bytes_eq (take 2 bs) (codes "\\u")) (is_hex (take 4 (drop 2 bs))) h.begins (is_hex-from_IsHex (take 4 (drop 2 bs)) h.digits)) h.is_low
+
+pub low_found : {P : Type 0} (is_low : Bool) (x y : ℕ) → (is_low ≡ true → P) → (P → is_low ≡ true) → x ≡ y → SomeIff (then_some is_low x) P y
+low_found true x y found here e = (found refl, e)
+low_found false x y found here e = λ p. absurd (false≢true (here p))
 
 pair_form : (bs : List ℕ) → is_hex (take 4 bs) ≡ true → is_high_surrogate (hex_value (take 4 bs)) ≡ true → begins_with_low_surrogate (drop 4 bs) ≡ true → Escape 11 (0x75 ∷ bs)
 pair_form bs hex high e =

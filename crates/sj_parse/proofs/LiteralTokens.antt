@@ -1,5 +1,5 @@
 -- Tokens of literals: the word that begins with their letter.
-use Rattle.std.proofs.Common.{◌≡◌, ◌≢◌, ◌⊎◌, inl, inr, ℕ, ◌<◌, Bool, true, false, List, length, Some, None, Result, Ok, Err, MatchResult, refl, sym, ap, ◌∙◌}
+use Rattle.std.proofs.Common.{◌≡◌, ℕ, ◌<◌, Bool, true, false, List, length, Some, None, Result, Ok, Err, MatchResult, refl, sym, ap, ◌∙◌}
 use Rattle.std.specs.Prelude.{◌==◌, if◌then◌else◌, slice_index, codes, bytes_eq}
 use Rattle.sj_parse.specs.declared.descent_fault.DescentKind.{DescentKind}
 use Rattle.sj_parse.specs.declared.descent_fault.DescentKind.TheVariants.{ExpectedTrue, ExpectedFalse, ExpectedNull}
@@ -54,9 +54,3 @@ module _ (place : ℕ) (before bytes : List ℕ) (some : 0 < length bytes) where
   null_reads valid r n = reads (codes "null") ExpectedNull Null valid r (rw n refl)
       (same_test (codes "null") (ap is_operator n) (ap (λ (b : ℕ). b == 0x22) n) (null_atom-word bytes))
       (λ right. record { is_right = right; lists = rw n refl; carries = tt })
-
--- neither of the other letters
-pub null_letter : (b : ℕ) → (b ≡ 0x74) ⊎ ((b ≡ 0x66) ⊎ (b ≡ 0x6e)) → b ≢ 0x74 → b ≢ 0x66 → b ≡ 0x6e
-null_letter b (inl t) no_t no_f = absurd (no_t t)
-null_letter b (inr (inl f)) no_t no_f = absurd (no_f f)
-null_letter b (inr (inr n)) no_t no_f = n

@@ -76,23 +76,19 @@ fn read_low_surrogate(bytes: &[u8]) -> Option<u32>
         (hex_value (take 4 (drop 2 bytes.now))) }
 {
     let low = hex_to_u32(bytes.strip_prefix(b"\\u")?)?;
-    if is_low_surrogate(low) {
-        Some(low)
-    } else {
-        None
-    }
+    is_low_surrogate(low).then_some(low)
 }
 
 fn is_high_surrogate(unit: u32) -> bool
     ensures { result ≡ is_high_surrogate unit }
 {
-    0xd800 <= unit && unit <= 0xdbff
+    matches!(unit, 0xd800..=0xdbff)
 }
 
 fn is_low_surrogate(unit: u32) -> bool
     ensures { result ≡ is_low_surrogate unit }
 {
-    0xdc00 <= unit && unit <= 0xdfff
+    matches!(unit, 0xdc00..=0xdfff)
 }
 
 // A surrogate by itself is no character.

@@ -57,7 +57,7 @@ fn in_range(text: &[u8]) -> Option<StaticNode>
     let (negative, digits) = split_minus(text);
     let value = whole(digits)?;
     if negative {
-        Some(StaticNode::I64(negated(value)?))
+        Some(StaticNode::I64(0i64.checked_sub_unsigned(value)?))
     } else {
         Some(StaticNode::U64(value))
     }
@@ -104,19 +104,6 @@ fn whole(digits: &[u8]) -> Option<u64>
         Some(value_of(digits))
     } else {
         fast_float::parse_u64(digits).ok()
-    }
-}
-
-// The number with a minus, where it is in range.
-fn negated(value: u64) -> Option<i64>
-    ensures { SomeIff result (value ≤ 2 ^ 63) (neg_ℤ (pos value)) }
-{
-    if value <= i64::MAX as u64 {
-        Some(-(value as i64))
-    } else if value == 1 << 63 {
-        Some(i64::MIN)
-    } else {
-        None
     }
 }
 

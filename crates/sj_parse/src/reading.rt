@@ -19,7 +19,7 @@ use crate::stage_two::descend;
 use sj_base::{Error, ErrorType, INPUT_PADDING, Reads};
 use sj_scan::{BlockScan, ScanFault, Stage1};
 use sj_tape::{Node, Tape};
-use std::alloc::{AllocError, Global};
+use std::alloc::Global;
 use std::mem;
 
 /// Reads a text into a tape, under the limit of [`sj_base::DEFAULT_MAX_DEPTH`] levels. Port of `simd_json::to_tape`.
@@ -42,7 +42,7 @@ pub fn to_tape<'de>(alloc: Global, s: &'de mut [u8]) -> Result<Tape<'de>>
     ensures too_large { longest < length s.entry.now → result ≡ Err (generic ErrorType.InputTooLarge) }
 {
     test_len(s.len())?;
-    let mut buffers = Buffers::new(alloc, 0).map_err(no_memory)?;
+    let mut buffers = Buffers::new(alloc, 0)?;
     to_tape_with_buffers(alloc, s, &mut buffers)
 }
 
@@ -245,8 +245,8 @@ fn make_room(
     ensures err { IfErr result (λ e. e ≡ generic ErrorType.OutOfMemory) }
 {
     stack.clear();
-    nodes.reserve(count).map_err(no_memory)?;
-    stack.reserve(limit.min(count)).map_err(no_memory)?;
+    nodes.reserve(count)?;
+    stack.reserve(limit.min(count))?;
     Ok(())
 }
 
@@ -285,10 +285,4 @@ fn scan_error(found: ScanFault) -> Error
         ScanFault::NoToken => ErrorType::Eof,
         ScanFault::Memory => ErrorType::OutOfMemory,
     })
-}
-
-fn no_memory(_error: AllocError) -> Error
-    ensures { result ≡ generic ErrorType.OutOfMemory }
-{
-    Error::generic(ErrorType::OutOfMemory)
 }

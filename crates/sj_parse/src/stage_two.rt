@@ -134,43 +134,23 @@ fn literal(place: usize, bytes: &[u8]) -> Result<StaticNode, Stop>
         (λ s. scalar_stop (token_of place before bytes.now) ≡ Some s) }
     ensures at { IfErr result (λ s. s.place ≡ place) }
 {
-    if bytes[0] == b't' {
-        let node = StaticNode::Bool(true);
-        node_if(
+    let (is_valid, node, kind) = match bytes[0] {
+        b't' => (
             is_valid_true_atom(bytes),
-            node,
+            StaticNode::Bool(true),
             DescentKind::ExpectedTrue,
-            place,
-        )
-    } else if bytes[0] == b'f' {
-        let node = StaticNode::Bool(false);
-        node_if(
+        ),
+        b'f' => (
             is_valid_false_atom(bytes),
-            node,
+            StaticNode::Bool(false),
             DescentKind::ExpectedFalse,
-            place,
-        )
-    } else {
-        let node = StaticNode::Null;
-        node_if(
+        ),
+        _ => (
             is_valid_null_atom(bytes),
-            node,
+            StaticNode::Null,
             DescentKind::ExpectedNull,
-            place,
-        )
-    }
-}
-
-/// The node, or a fault of this kind.
-#[inline(always)]
-fn node_if(
-    is_valid: bool,
-    node: StaticNode,
-    kind: DescentKind,
-    place: usize,
-) -> Result<StaticNode, Stop>
-    ensures { result ≡ (if is_valid then Ok node else Err (stop kind place)) }
-{
+        ),
+    };
     if is_valid {
         Ok(node)
     } else {

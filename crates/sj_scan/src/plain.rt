@@ -110,13 +110,13 @@ impl State {
 fn is_whitespace(byte: u8) -> bool
     ensures { result ≡ is_whitespace byte }
 {
-    byte == b' ' || byte == b'\t' || byte == b'\n' || byte == b'\r'
+    matches!(byte, b' ' | b'\t' | b'\n' | b'\r')
 }
 
 fn is_operator(byte: u8) -> bool
     ensures { result ≡ is_operator byte }
 {
-    byte == b'{' || byte == b'}' || byte == b'[' || byte == b']' || byte == b':' || byte == b','
+    matches!(byte, b'{' | b'}' | b'[' | b']' | b':' | b',')
 }
 
 fn is_utf8(bytes: &[u8]) -> bool

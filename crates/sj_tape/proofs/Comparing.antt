@@ -1,5 +1,5 @@
 -- Equal listings are equal trees.
-use Rattle.std.proofs.Common.{◌≡◌, ◌≢◌, ℕ, ◌+◌, ◌<◌, ◌==◌, ℤ, true, false, cond, List, [], ◌∷◌, drop, get_or, length, refl, sym, ◌∙◌, ap, append-nil}
+use Rattle.std.proofs.Common.{◌≡◌, ◌≢◌, ◌⊎◌, inl, inr, ℕ, ◌==◌, ℤ, true, false, cond, List, [], ◌∷◌, length, refl, sym, ◌∙◌, ap, append-nil}
 use Rattle.std.specs.Bool.{Decides}
 use Rattle.std.specs.Cmp.{first_so, second_so, unsigned_Decides, signed_Decides}
 use Rattle.std.specs.Cmp.Lexicographic.{pointwise_decides, bytes_decides}
@@ -14,7 +14,6 @@ use Rattle.sj_tape.specs.Views.{value_tree}
 use Rattle.sj_tape.specs.declared.node.Node.{Node}
 use Rattle.sj_tape.specs.declared.value.Value.{Value}
 use Rattle.sj_tape.proofs.Listings.{one_listing}
-use Rattle.sj_tape.proofs.NodeLists.{entries_at}
 use Rattle.sj_tape.proofs.Cutting.{cons_parts}
 use Rattle.sj_tape.proofs.Tapes.{tape_is_listing, entries_nil}
 
@@ -65,12 +64,19 @@ same_listed ms ns m n some_m some_n e =
     let b : listing (tree_of (entries ns)) ≡ entries ns = tape_is_listing (entries ns) n (λ nil. some_n (entries_nil ns nil)) in
     sym a ∙ (ap listing e ∙ b)
 
--- Two lists of nodes at one place.
-pub same_from : (ms ns : List Node) (i : ℕ) (x y : Node) → i < length ms → i < length ns → x ≡ get_or ms i x → y ≡ get_or ns i y → node_entry x ≡ node_entry y → drop (i + 1) (entries ms) ≡ drop (i + 1) (entries ns) → drop i (entries ms) ≡ drop i (entries ns)
-same_from ms ns i x y m n is_x is_y e behind =
-    entries_at ms i x m is_x ∙ ((λ j. e j ∷ behind j) ∙ sym (entries_at ns i y n is_y))
+-- Two lists of nodes, by their first ones.
+pub same_fronts : (ms ns ms' ns' : List Node) (x y : Node) → ms ≡ x ∷ ms' → ns ≡ y ∷ ns' → entries ms ≡ entries ns → (node_entry x ≡ node_entry y) × (entries ms' ≡ entries ns')
+same_fronts ms ns ms' ns' x y m n e =
+    cons_parts (node_entry x) (node_entry y) (entries ms') (entries ns') (sym (ap entries m) ∙ (e ∙ ap entries n))
 
-pub other_entries : (ms ns : List Node) (i : ℕ) (x y : Node) → i < length ms → i < length ns → x ≡ get_or ms i x → y ≡ get_or ns i y → node_entry x ≢ node_entry y → entries ms ≢ entries ns
-other_entries ms ns i x y m n is_x is_y other = λ e.
-    let fronts = sym (entries_at ms i x m is_x) ∙ (ap (λ (es : List Entry). drop i es) e ∙ entries_at ns i y n is_y) in
-    other (cons_parts (node_entry x) (node_entry y) (drop (i + 1) (entries ms)) (drop (i + 1) (entries ns)) fronts).0
+pub same_by_fronts : (ms ns ms' ns' : List Node) (x y : Node) → ms ≡ x ∷ ms' → ns ≡ y ∷ ns' → node_entry x ≡ node_entry y → entries ms' ≡ entries ns' → entries ms ≡ entries ns
+same_by_fronts ms ns ms' ns' x y m n first behind =
+    ap entries m ∙ ((λ j. first j ∷ behind j) ∙ sym (ap entries n))
+
+-- Where one of two lists of one length ends, both do.
+pub same_where_one_ends : {A B : Type 0} {P : A → Type 0} {Q : B → Type 0} (ms ns : List Node) → length ms ≡ length ns → ((a : A) × ((length ms ≡ 0) × P a)) ⊎ ((b : B) × ((length ns ≡ 0) × Q b)) → entries ms ≡ entries ns
+same_where_one_ends [] [] len ends = refl
+same_where_one_ends (x ∷ ms) (y ∷ ns) len (inl (a, (none, p))) = cc
+same_where_one_ends (x ∷ ms) (y ∷ ns) len (inr (b, (none, q))) = cc
+same_where_one_ends [] (y ∷ ns) len ends = cc
+same_where_one_ends (x ∷ ms) [] len ends = cc

@@ -72,11 +72,7 @@ fn node_at<'i>(nodes: &[Node<'i>], at: usize) -> Option<Node<'i>>
         (λ n. (at < length nodes.now)
         × (drop at (entries nodes.now) ≡ node_entry n ∷ drop (at + 1) (entries nodes.now))) }
 {
-    if at < nodes.len() {
-        Some(nodes[at])
-    } else {
-        None
-    }
+    Some(*nodes.get(at)?)
 }
 
 // Returns `end` if `count` nodes stand between `start` and `end`.
@@ -84,9 +80,5 @@ fn counted(start: usize, end: usize, count: usize) -> Option<usize>
     requires { start ≤ end }
     ensures { MatchOption result (end - start ≢ count) (λ r. (r ≡ end) × (end - start ≡ count)) }
 {
-    if end - start == count {
-        Some(end)
-    } else {
-        None
-    }
+    (end - start == count).then_some(end)
 }

@@ -108,8 +108,8 @@ fn same_nodes(a: &[Node<'_>], b: &[Node<'_>]) -> bool
     if a.len() != b.len() {
         return false;
     }
-    for i in 0..a.len() {
-        if !same_node(&a[i], &b[i]) {
+    for (x, y) in a.iter().zip(b) {
+        if !same_node(x, y) {
             return false;
         }
     }

@@ -2,5 +2,7 @@ use Rattle.std.proofs.Common.{arith}
 use Rattle.sj_tape.proofs.NodeLists.{entries_at}
 use Rattle.sj_tape.proofs.check.node_at.Goals as goal
 
-pub returns-then-at-nodes : goal.returns-then-at-nodes
-returns-then-at-nodes c = (omega arith, entries_at c.args.nodes.now c.args.at c.index-nodes-at.result (omega arith) c.index-nodes-at.is)
+pub returns : goal.returns
+returns c =
+    let found = c.in_ok-get.ensures.lookup in
+    (omega arith, entries_at c.args.nodes.now c.args.at c.in_ok-get.field-0.now (omega arith) found.1)

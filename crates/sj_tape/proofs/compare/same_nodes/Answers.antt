@@ -1,17 +1,28 @@
-use Rattle.std.proofs.Common.{◌≢◌, ◌<◌, length, arith, rules}
+use Rattle.std.proofs.Common.{rules, arith, ◌≡◌, ◌≢◌, length, ap}
 use Rattle.sj_tape.specs.Nodes.{node_entry}
-use Rattle.sj_tape.proofs.Comparing.{same_from, other_entries}
+use Rattle.sj_tape.proofs.Comparing.{same_fronts, same_by_fronts, same_where_one_ends}
 use Rattle.sj_tape.proofs.compare.same_nodes.Goals as goal
+
+pub loop-x-init : goal.loop-x-init
+loop-x-init c = search rules
 
 pub returns-then-not-same_node : goal.returns-then-not-same_node
 returns-then-not-same_node c =
-    let in_a : c.loop-i.i < length c.args.a.now = omega (arith, c.loop-i-test.true) in
-    let in_b : c.loop-i.i < length c.args.b.now = omega (arith, c.loop-i-test.true, c.if-a-b.false) in
-    let other : node_entry c.index-a-i.result ≢ node_entry c.index-b-i.result = search rules in
-    ((λ t. cc), (λ e. absurd (other_entries c.args.a.now c.args.b.now c.loop-i.i c.index-a-i.result c.index-b-i.result in_a in_b c.index-a-i.is c.index-b-i.is other e)))
+    let steps = c.in-Some.ensures.steps in
+    let other : node_entry c.in-Some.x.now ≢ node_entry c.in-Some.y.now = search rules in
+    ((λ t. cc), (λ e. absurd (other (same_fronts _ _ _ _ _ _ steps.0 steps.1 (c.loop-x.invariant.1.1 e)).0)))
 
-pub loop-i-preserved : goal.loop-i-preserved
-loop-i-preserved c = λ behind.
-    let in_a : c.loop-i.i < length c.args.a.now = omega (arith, c.loop-i-test.true) in
-    let in_b : c.loop-i.i < length c.args.b.now = omega (arith, c.loop-i-test.true, c.if-a-b.false) in
-    c.loop-i.invariant (same_from c.args.a.now c.args.b.now c.loop-i.i c.index-a-i.result c.index-b-i.result in_a in_b c.index-a-i.is c.index-b-i.is (search rules) behind)
+pub loop-x-preserved : goal.loop-x-preserved
+loop-x-preserved c =
+    let steps = c.in-Some.ensures.steps in
+    let same : node_entry c.in-Some.x.now ≡ node_entry c.in-Some.y.now = search rules in
+    let whole = c.loop-x.invariant.1 in (
+      omega (arith, ap length steps.0, ap length steps.1, c.loop-x.invariant.0),
+      (
+        (λ behind. whole.0 (same_by_fronts _ _ _ _ _ _ steps.0 steps.1 same behind)),
+        (λ e. (same_fronts _ _ _ _ _ _ steps.0 steps.1 (whole.1 e)).1),
+      ),
+    )
+
+pub returns : goal.returns
+returns c = ((λ t. c.loop-x.invariant.1.0 (same_where_one_ends _ _ c.loop-x.invariant.0 c.in-None.ensures.steps)), (λ e. cc))
