@@ -59,8 +59,8 @@ fn same_items<K: ObjectKey, D: Literal, L: ObjectKey, E: Literal>(
     if items.len() != others.len() {
         return false;
     }
-    for i in 0..items.len() {
-        if !same_values(&items[i], &others[i]) {
+    for (item, other) in items.iter().zip(others) {
+        if !same_values(item, other) {
             return false;
         }
     }

@@ -201,8 +201,8 @@ fn equal_items<U: Comparand, K: ObjectKey, D: Literal>(values: &[U], items: &[Va
     if values.len() != items.len() {
         return false;
     }
-    for i in 0..values.len() {
-        if !values[i].equals(&items[i]) {
+    for (value, item) in values.iter().zip(items) {
+        if !value.equals(item) {
             return false;
         }
     }

@@ -1,6 +1,4 @@
-use Rattle.std.proofs.Common.{◌≡◌, Bool, ◌+◌, ◌<◌, ◌≤◌, length, List, [], ◌∷◌, ◌++◌, drop, sym, ap, ◌∙◌, append_assoc, arith, rules}
-use Rattle.std.proofs.lemmas.List.{drop_all}
-use borrow.Author.Count.{falls}
+use Rattle.std.proofs.Common.{◌≡◌, Bool, length, List, [], ◌∷◌, ◌++◌, sym, ap, ◌∙◌, append_assoc, arith, rules}
 use Rattle.sj_object.specs.Iterators.{entries_left}
 use Rattle.sj_object.specs.declared.entry.Entry.{Entry}
 use Rattle.sj_base.specs.Tree.{Tree, list}
@@ -9,7 +7,7 @@ use Rattle.sj_owned.specs.Views.{value_tree, items_view}
 use Rattle.sj_owned.specs.declared.value.Value.{Value}
 use Rattle.sj_owned.proofs.Comparing.{all_left, lists_of_other_lengths, lists_differ, lists_equal, items_passed, objects_of_other_lengths, objects_of_other_keys, objects_differ, objects_equal, members_passed}
 use Rattle.sj_owned.proofs.Layers.{tree-Array, tree-Object}
-use Rattle.sj_owned.proofs.Pieces.{cut_at, shorter}
+use Rattle.sj_owned.proofs.Pieces.{both_end, shorter}
 use Rattle.sj_owned.proofs.compare.+same.Goals as goal
 
 same_trees : (r : Bool) (s t u v : Tree) → s ≡ u → t ≡ v → Compares r u v → Compares r s t
@@ -19,39 +17,27 @@ pub same_items-returns-then-items-others : goal.same_items-returns-then-items-ot
 same_items-returns-then-items-others g t c =
     lists_of_other_lengths (value_tree g.K.ObjectKey.text g.D.Literal.literal) (value_tree g.L.ObjectKey.text g.E.Literal.literal) c.args.items.now c.args.others.now c.if-items-others.true
 
+pub same_items-loop-item-init : goal.same_items-loop-item-init
+same_items-loop-item-init g t c = search rules
+
 pub same_items-returns-then-not-same_values : goal.same_items-returns-then-not-same_values
 same_items-returns-then-not-same_values g t c =
-    let vs = c.args.items.now in
-    let ws = c.args.others.now in
-    let i = c.loop-i.i in
-    let v = c.index-items-i.result in
-    let w = c.index-others-i.result in
-    let in_items : i < length vs = omega (arith, c.loop-i-test.true) in
-    let in_others : i < length ws = omega (arith, c.loop-i-test.true, c.if-items-others.false) in
-    lists_differ (value_tree g.K.ObjectKey.text g.D.Literal.literal) (value_tree g.L.ObjectKey.text g.E.Literal.literal) vs ws (drop i vs) (drop (i + 1) vs) (drop i ws) (drop (i + 1) ws) v w c.loop-i.invariant
-    (cut_at vs i v in_items c.index-items-i.is) (cut_at ws i w in_others c.index-others-i.is) c.if-not-same_values.ensures
+    let steps = c.in-Some.ensures.steps in
+    lists_differ (value_tree g.K.ObjectKey.text g.D.Literal.literal) (value_tree g.L.ObjectKey.text g.E.Literal.literal) c.args.items.now c.args.others.now _ _ _ _ c.in-Some.item.now c.in-Some.other.now
+    c.loop-item.invariant.1 steps.0 steps.1 c.if-not-same_values.ensures
 
-pub same_items-loop-i-preserved : goal.same_items-loop-i-preserved
-same_items-loop-i-preserved g t c =
-    let vs = c.args.items.now in
-    let ws = c.args.others.now in
-    let i = c.loop-i.i in
-    let v = c.index-items-i.result in
-    let w = c.index-others-i.result in
-    let in_items : i < length vs = omega (arith, c.loop-i-test.true) in
-    let in_others : i < length ws = omega (arith, c.loop-i-test.true, c.if-items-others.false) in
-    items_passed (value_tree g.K.ObjectKey.text g.D.Literal.literal) (value_tree g.L.ObjectKey.text g.E.Literal.literal) vs ws (drop i vs) (drop (i + 1) vs) (drop i ws) (drop (i + 1) ws) v w c.loop-i.invariant
-    (cut_at vs i v in_items c.index-items-i.is) (cut_at ws i w in_others c.index-others-i.is) c.if-not-same_values.ensures
+pub same_items-loop-item-preserved : goal.same_items-loop-item-preserved
+same_items-loop-item-preserved g t c =
+    let steps = c.in-Some.ensures.steps in (
+      omega (arith, ap length steps.0, ap length steps.1, c.loop-item.invariant.0),
+      items_passed (value_tree g.K.ObjectKey.text g.D.Literal.literal) (value_tree g.L.ObjectKey.text g.E.Literal.literal) c.args.items.now c.args.others.now _ _ _ _ c.in-Some.item.now c.in-Some.other.now
+          c.loop-item.invariant.1 steps.0 steps.1 c.if-not-same_values.ensures,
+    )
 
 pub same_items-returns : goal.same_items-returns
 same_items-returns g t c =
-    let vs = c.args.items.now in
-    let ws = c.args.others.now in
-    let i = c.loop-i.i in
-    let past : length vs ≤ i = omega (arith, c.loop-i-test.false) in
-    let past_others : length ws ≤ i = omega (arith, c.loop-i-test.false, c.if-items-others.false) in
-    lists_equal (value_tree g.K.ObjectKey.text g.D.Literal.literal) (value_tree g.L.ObjectKey.text g.E.Literal.literal) vs ws (drop i vs) (drop i ws) c.loop-i.invariant
-    (drop_all i vs past) (drop_all i ws past_others)
+    let ends = both_end _ _ c.loop-item.invariant.0 c.in-None.ensures.steps in
+    lists_equal (value_tree g.K.ObjectKey.text g.D.Literal.literal) (value_tree g.L.ObjectKey.text g.E.Literal.literal) c.args.items.now c.args.others.now _ _ c.loop-item.invariant.1 ends.0 ends.1
 
 pub same_members-returns-then-len : goal.same_members-returns-then-len
 same_members-returns-then-len g t c =
@@ -109,9 +95,6 @@ same_members-returns g t c =
     let none : at ≡ [] = c.in-None.ensures.steps.0 in
     objects_equal g.K.ObjectKey.text g.L.ObjectKey.text (value_tree g.K.ObjectKey.text g.D.Literal.literal) (value_tree g.L.ObjectKey.text g.E.Literal.literal) c.args.members.now c.args.others.now
     c.len.ensures.distinct c.len-2.ensures.distinct at c.loop-key.invariant.3 none (sym c.len.ensures.len ∙ c.if-len.false ∙ c.len-2.ensures.len)
-
-pub same_items-loop-i-smaller : goal.same_items-loop-i-smaller
-same_items-loop-i-smaller g t c = falls _ _ c.loop-i-test.true
 
 pub same_members-loop-key-smaller : goal.same_members-loop-key-smaller
 same_members-loop-key-smaller g t c = shorter _ _ _ c.in-Some.ensures.steps

@@ -1,4 +1,4 @@
-use Rattle.std.proofs.Common.{◌≡◌, List, ◌++◌, drop}
+use Rattle.std.proofs.Common.{◌≡◌, List, ◌++◌, length}
 use Rattle.sj_object.specs.Iterators.{entries_left}
 use Rattle.sj_object.specs.declared.entry.Entry.{Entry}
 use Rattle.sj_owned.specs.Views.{value_tree}
@@ -6,9 +6,11 @@ use Rattle.sj_owned.specs.declared.value.Value.{Value}
 use Rattle.sj_owned.proofs.Comparing.{Left, LeftMembers}
 use Rattle.sj_owned.proofs.compare.+same.Given as goal
 
-abbrev pub invariant-same_items-loop-i : goal.invariant-same_items-loop-i
-invariant-same_items-loop-i g l =
-    Left (value_tree g.K.ObjectKey.text g.D.Literal.literal) (value_tree g.L.ObjectKey.text g.E.Literal.literal) l.items l.others (drop l.i l.items) (drop l.i l.others)
+abbrev pub invariant-same_items-loop-item : goal.invariant-same_items-loop-item
+invariant-same_items-loop-item g l =
+    let at = l.item-iterator.a.rest.now in
+    let there = l.item-iterator.b.rest.now in
+    (length at ≡ length there) × Left (value_tree g.K.ObjectKey.text g.D.Literal.literal) (value_tree g.L.ObjectKey.text g.E.Literal.literal) l.items l.others at there
 
 abbrev pub invariant-same_members-loop-key : goal.invariant-same_members-loop-key
 invariant-same_members-loop-key g l =
