@@ -1,5 +1,5 @@
 //! Write calls. Each makes a document of a tape first, and copies a document that is only borrowed.
-ghost use Rattle.std.specs.Prelude.{◌≡◌, ◌∷◌, [], ◌++◌, false, Some, IsNone, IfOk, IfErr, OnOk, OnErr, option_map};
+ghost use Rattle.std.specs.Prelude.{◌≡◌, ◌∷◌, [], ◌++◌, true, false, Some, IsNone, IsOk, IfOk, IfErr, OnOk, OnErr, option_map};
 ghost use Rattle.std.specs.Cow.{cow_str_bytes};
 ghost use Rattle.std.specs.Borrow.{sem};
 ghost use Rattle.std.specs.Option.{option_copied_mut};
@@ -93,7 +93,8 @@ impl<T: ToDocument<D> + Drop, B: ToDocument<D> + Drop, D: Drop> TapeOrDocument<T
     // Makes the value a document of its own.
     fn upgrade(&mut self, alloc: Global) -> Result<(), AllocError>
         ensures ok { OnOk result (OwnsSuch (UpgradesBy T.makes B.makes self.old) self.new) }
-        ensures err { OnErr result ((self.new ≡ self.old) × (owns self.old ≡ false)) }
+        ensures unchanged { OnErr result (self.new ≡ self.old) }
+        ensures succeeds { owns self.old ≡ true → IsOk result }
     {
         if let TapeOrDocument::Value(Held::Owned(_)) = self {
             return Ok(());
@@ -110,7 +111,7 @@ impl<T: ToDocument<D> + Drop, B: ToDocument<D> + Drop, D: Drop> TapeOrDocument<T
     pub fn value_mut(&mut self, alloc: Global) -> Result<&mut D, AllocError>
         ensures* writes_back { sem 𝓛 (lends_document T.row B.row D.row self.entry result) }
         ensures value { IfOk result (λ d. UpgradesBy T.makes B.makes self.old d.now) }
-        ensures succeeds { OnErr result (owns self.old ≡ false) }
+        ensures succeeds { owns self.old ≡ true → IsOk result }
     {
         self.upgrade(alloc)?;
         match self.owned_mut() {
@@ -232,7 +233,7 @@ impl<'i> Value<'_, '_, 'i> {
         alloc: Global,
     ) -> Result<Option<&mut Vec<BorrowedValue<'i>>>, AllocError>
         ensures part { IfOk result (λ found. (d : Document) × Upgrades self.old d × (option_copied_mut found ≡ array_inside d)) }
-        ensures succeeds { OnErr result (owns self.old ≡ false) }
+        ensures succeeds { owns self.old ≡ true → IsOk result }
     {
         Ok(self.value_mut(alloc)?.as_array_mut())
     }
@@ -246,7 +247,7 @@ impl<'i> Value<'_, '_, 'i> {
     /// `AllocError` if there is no memory for the document. The value is unchanged. A document of its own takes none.
     pub fn as_object_mut(&mut self, alloc: Global) -> Result<Option<&mut Object<'i>>, AllocError>
         ensures part { IfOk result (λ found. (d : Document) × Upgrades self.old d × (option_copied_mut found ≡ members_inside d)) }
-        ensures succeeds { OnErr result (owns self.old ≡ false) }
+        ensures succeeds { owns self.old ≡ true → IsOk result }
     {
         Ok(self.value_mut(alloc)?.as_object_mut())
     }
@@ -265,7 +266,7 @@ impl<'i> Value<'_, '_, 'i> {
         name: &str,
     ) -> Result<Option<&mut BorrowedValue<'i>>, AllocError>
         ensures part { IfOk result (λ found. (d : Document) × Upgrades self.old d × (option_copied_mut found ≡ member_of cow_str_bytes d name.now)) }
-        ensures succeeds { OnErr result (owns self.old ≡ false) }
+        ensures succeeds { owns self.old ≡ true → IsOk result }
     {
         Ok(self.value_mut(alloc)?.get_mut(name))
     }
@@ -284,7 +285,7 @@ impl<'i> Value<'_, '_, 'i> {
         index: usize,
     ) -> Result<Option<&mut BorrowedValue<'i>>, AllocError>
         ensures part { IfOk result (λ found. (d : Document) × Upgrades self.old d × (option_copied_mut found ≡ item_of d index)) }
-        ensures succeeds { OnErr result (owns self.old ≡ false) }
+        ensures succeeds { owns self.old ≡ true → IsOk result }
     {
         Ok(self.value_mut(alloc)?.get_idx_mut(index))
     }

@@ -1,5 +1,5 @@
 //! Lazy values turned into documents, strings and copies.
-ghost use Rattle.std.specs.Prelude.{◌≡◌, true, false, IfOk, IfErr, OnErr, option_map};
+ghost use Rattle.std.specs.Prelude.{◌≡◌, true, false, IsOk, IfOk, IfErr, option_map};
 ghost use Rattle.std.specs.Cow.{cow_str_bytes};
 ghost use Rattle.sj_base.specs.Containers.{scalar_in};
 ghost use Rattle.sj_reads.specs.Reads.{str_read};
@@ -23,7 +23,7 @@ impl<'t, 'i> Value<'_, 't, 'i> {
     pub fn into_value(self, alloc: Global) -> Result<BorrowedValue<'i>, Self>
         ensures ok { IfOk result (Upgrades self.entry) }
         ensures err { IfErr result (λ v. v ≡ self.entry) }
-        ensures succeeds { OnErr result (owns self.entry ≡ false) }
+        ensures succeeds { owns self.entry ≡ true → IsOk result }
     {
         match self {
             Value::Value(Held::Owned(document)) => Ok(document),
@@ -42,7 +42,7 @@ impl<'t, 'i> Value<'_, 't, 'i> {
     pub fn into_owned<'n>(self, alloc: Global) -> Result<Value<'n, 't, 'i>, Self>
         ensures ok { IfOk result (IsOwnedOf self.entry) }
         ensures err { IfErr result (λ v. v ≡ self.entry) }
-        ensures succeeds { OnErr result (borrows self.entry ≡ true) }
+        ensures succeeds { borrows self.entry ≡ false → IsOk result }
     {
         match self {
             Value::Tape(view) => Ok(Value::Tape(view)),
@@ -60,7 +60,7 @@ impl<'t, 'i> Value<'_, 't, 'i> {
     /// `AllocError` if there is no memory for the copy.
     pub fn into_string(self) -> Result<Option<CowStr<'i>>, AllocError>
         ensures ok { IfOk result (λ s. option_map cow_str_bytes s ≡ str_read (scalar_in (lazy_tree self.entry))) }
-        ensures succeeds { OnErr result (borrows self.entry ≡ true) }
+        ensures succeeds { borrows self.entry ≡ false → IsOk result }
     {
         match self {
             Value::Tape(view) => match view.into_string() {

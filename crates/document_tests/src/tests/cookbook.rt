@@ -136,7 +136,7 @@ fn read_packages(rt: HostRuntime) {
     }
 }
 
-// Adds one to the member of this key, or puts a 1 there.
+// Adds one to the member of this key, or puts a 1 there. A member that isn't a `u64` is left as it is.
 fn count_up(
     alloc: Global,
     document: &mut OwnedValue,
@@ -155,6 +155,7 @@ fn counted_up(rt: HostRuntime) {
     for (text, wanted) in &[
         ("{}", r#"{"seen":1}"#),
         (r#"{"seen":7,"a":[]}"#, r#"{"seen":8,"a":[]}"#),
+        (r#"{"seen":"x"}"#, r#"{"seen":"x"}"#),
     ] {
         let mut document = owned_of(&rt, rt.alloc(), text);
         expect_eq(&rt, count_up(rt.alloc(), &mut document, &key), Ok(()));
