@@ -1,5 +1,6 @@
 pub mod Literals
 pub mod Carriers
+pub mod Ends
 pub mod Fronts
 pub mod NumberBytes
 pub mod Bodies

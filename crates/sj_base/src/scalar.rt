@@ -1,5 +1,5 @@
 //! Scalars: values that hold no other value.
-ghost use Rattle.std.specs.Prelude.{◌≡◌};
+ghost use Rattle.std.specs.Prelude.{◌≡◌, ◌↔◌, IsTrue};
 ghost use Rattle.sj_base.specs.Alike.{alike};
 
 use crate::decimal::Decimal;
@@ -22,7 +22,8 @@ impl Scalar<'_> {
     /// Returns `true` if both are the same value. Integers are compared by number, whichever carrier holds them, and decimal
     /// literals by text.
     pub fn same(&self, other: &Scalar<'_>) -> bool
-        ensures { result ≡ alike (scalar_tree self.now) (scalar_tree other.now) }
+        ensures value { result ≡ alike (scalar_tree self.now) (scalar_tree other.now) }
+        ensures same_tree { IsTrue result ↔ (scalar_tree self.now ≡ scalar_tree other.now) }
     {
         match (self, other) {
             (Scalar::Static(m), Scalar::Static(n)) => m == n,

@@ -162,7 +162,7 @@ pub entries-one : (nodes : List Node) (n : Node) → entries (nodes ++ n ∷ [])
 entries-one nodes n = map-append node_entry nodes (n ∷ [])
 
 -- the entry of a container is set behind what stands before it
-pub entries-set : (nodes : List Node) (front : List Entry) (e : Entry) (inner : List Entry) (i : ℕ) (n : Node) → entries nodes ≡ front ++ e ∷ inner → i ≡ length front → entries (set nodes i n) ≡ front ++ node_entry n ∷ inner
+entries-set : (nodes : List Node) (front : List Entry) (e : Entry) (inner : List Entry) (i : ℕ) (n : Node) → entries nodes ≡ front ++ e ∷ inner → i ≡ length front → entries (set nodes i n) ≡ front ++ node_entry n ∷ inner
 entries-set nodes front e inner i n is at =
     map-set node_entry nodes i n
     ∙ ap (λ (es : List Entry). set es i (node_entry n)) is

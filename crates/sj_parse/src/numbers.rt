@@ -1,5 +1,5 @@
 //! Numbers: an integer in range by its value, any other by its text.
-ghost use Rattle.std.specs.Prelude.{◌≡◌, ◌<◌, ◌≤◌, ◌^◌, true, false, pos, neg_ℤ, length, take, MatchOption, IfSome, IfNone, SomeIff};
+ghost use Rattle.std.specs.Prelude.{◌≡◌, ◌<◌, ◌≤◌, ◌^◌, true, false, length, take, MatchOption, IfSome, IfNone, SomeIff};
 ghost use Rattle.sj_parse.specs.Token.{word};
 ghost use Rattle.std.specs.Str.Parse.{digits_value};
 ghost use Rattle.sj_base.specs.NumberTests.{magnitude, is_whole, is_integer, is_decimal, is_number};

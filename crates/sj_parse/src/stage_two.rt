@@ -1,5 +1,5 @@
 //! The descent over the tokens of a text, with a stack of its own.
-ghost use Rattle.std.specs.Prelude.{◌≡◌, ◌≢◌, ℕ, List, [], ◌∷◌, ◌++◌, ◌+◌, ◌<◌, ◌≤◌, ◌^◌, ◌⊎◌, IfOk, IfErr, OnOk, MatchResult, Some, None, Ok, Err, true, false, if◌then◌else◌, min, length, drop, slice_index, IsUtf8, vec_len, vec_capacity};
+ghost use Rattle.std.specs.Prelude.{◌≡◌, ◌≢◌, ℕ, List, [], ◌∷◌, ◌++◌, ◌+◌, ◌<◌, ◌≤◌, ◌^◌, ◌⊎◌, IfOk, IfErr, OnOk, MatchResult, Some, None, false, min, length, drop, slice_index, IsUtf8, vec_len, vec_capacity};
 ghost use Rattle.sj_tape.specs.Nodes.{entries};
 ghost use Rattle.sj_parse.specs.Escapes.{stop};
 ghost use Rattle.sj_base.specs.NumberTests.{is_number};

@@ -1,5 +1,5 @@
 -- Equal listings are equal trees.
-use Rattle.std.proofs.Common.{◌≡◌, ◌≢◌, ◌⊎◌, inl, inr, ℕ, ◌==◌, ℤ, true, false, cond, List, [], ◌∷◌, length, refl, sym, ◌∙◌, ap, append-nil}
+use Rattle.std.proofs.Common.{◌≡◌, ◌≢◌, ℕ, ◌==◌, ℤ, true, false, cond, List, [], ◌∷◌, refl, sym, ◌∙◌, ap, append-nil}
 use Rattle.std.specs.Bool.{Decides}
 use Rattle.std.specs.Cmp.{first_so, second_so, unsigned_Decides, signed_Decides}
 use Rattle.std.specs.Cmp.Lexicographic.{pointwise_decides, bytes_decides}
@@ -72,11 +72,3 @@ same_fronts ms ns ms' ns' x y m n e =
 pub same_by_fronts : (ms ns ms' ns' : List Node) (x y : Node) → ms ≡ x ∷ ms' → ns ≡ y ∷ ns' → node_entry x ≡ node_entry y → entries ms' ≡ entries ns' → entries ms ≡ entries ns
 same_by_fronts ms ns ms' ns' x y m n first behind =
     ap entries m ∙ ((λ j. first j ∷ behind j) ∙ sym (ap entries n))
-
--- Where one of two lists of one length ends, both do.
-pub same_where_one_ends : {A B : Type 0} {P : A → Type 0} {Q : B → Type 0} (ms ns : List Node) → length ms ≡ length ns → ((a : A) × ((length ms ≡ 0) × P a)) ⊎ ((b : B) × ((length ns ≡ 0) × Q b)) → entries ms ≡ entries ns
-same_where_one_ends [] [] len ends = refl
-same_where_one_ends (x ∷ ms) (y ∷ ns) len (inl (a, (none, p))) = cc
-same_where_one_ends (x ∷ ms) (y ∷ ns) len (inr (b, (none, q))) = cc
-same_where_one_ends [] (y ∷ ns) len ends = cc
-same_where_one_ends (x ∷ ms) [] len ends = cc

@@ -84,7 +84,7 @@ pub cut_back : (ns : List Node) (t : Tree) (x : List Entry) (m : ℕ) → entrie
 cut_back ns t x m h e = sym (drop-map node_entry m ns) ∙ (ap (λ (ys : List Entry). drop m ys) h ∙ drop_at (listing t) x m (sym e))
 
 -- What a tree is, by its first entry.
-pub list_of : (t : Tree) (len count : ℕ) (es : List Entry) → listing t ≡ list_entry len count ∷ es → (ts : Items) × (t ≡ list ts) × (items_len ts ≡ len) × (es ≡ items_listing ts)
+list_of : (t : Tree) (len count : ℕ) (es : List Entry) → listing t ≡ list_entry len count ∷ es → (ts : Items) × (t ≡ list ts) × (items_len ts ≡ len) × (es ≡ items_listing ts)
 list_of null len count es h = absurd (cc)
 list_of (boolean b) len count es h = absurd (cc)
 list_of (integer n) len count es h = absurd (cc)

@@ -2,12 +2,13 @@ use Rattle.std.proofs.Common.{◌≡◌, Bool, length, List, [], ◌∷◌, ◌+
 use Rattle.sj_object.specs.Iterators.{entries_left}
 use Rattle.sj_object.specs.declared.entry.Entry.{Entry}
 use Rattle.sj_base.specs.Tree.{Tree, list}
+use Rattle.sj_base.proofs.Ends.{both_end}
 use Rattle.sj_owned.specs.inside.Comparing.{Compares}
 use Rattle.sj_owned.specs.Views.{value_tree, items_view}
 use Rattle.sj_owned.specs.declared.value.Value.{Value}
 use Rattle.sj_owned.proofs.Comparing.{all_left, lists_of_other_lengths, lists_differ, lists_equal, items_passed, objects_of_other_lengths, objects_of_other_keys, objects_differ, objects_equal, members_passed}
 use Rattle.sj_owned.proofs.Layers.{tree-Array, tree-Object}
-use Rattle.sj_owned.proofs.Pieces.{both_end, shorter}
+use Rattle.sj_owned.proofs.Pieces.{shorter}
 use Rattle.sj_owned.proofs.compare.+same.Goals as goal
 
 same_trees : (r : Bool) (s t u v : Tree) → s ≡ u → t ≡ v → Compares r u v → Compares r s t

@@ -1,6 +1,6 @@
 use Rattle.std.proofs.Common.{length, refl, ap, arith, rules}
+use Rattle.sj_base.proofs.Ends.{both_end}
 use Rattle.sj_owned.specs.Views.{value_tree}
-use Rattle.sj_owned.proofs.Pieces.{both_end}
 use Rattle.sj_owned.proofs.Zipped.{as_many, cut_equal, put_equal, nothing_equal}
 use Rattle.sj_owned.proofs.same_as.equal_items.Goals as goal
 

@@ -1,6 +1,7 @@
-use Rattle.std.proofs.Common.{rules, arith, ◌≡◌, ◌≢◌, length, ap}
-use Rattle.sj_tape.specs.Nodes.{node_entry}
-use Rattle.sj_tape.proofs.Comparing.{same_fronts, same_by_fronts, same_where_one_ends}
+use Rattle.std.proofs.Common.{rules, arith, ◌≡◌, ◌≢◌, ◌∙◌, length, ap, sym}
+use Rattle.sj_base.proofs.Ends.{both_end}
+use Rattle.sj_tape.specs.Nodes.{node_entry, entries}
+use Rattle.sj_tape.proofs.Comparing.{same_fronts, same_by_fronts}
 use Rattle.sj_tape.proofs.compare.same_nodes.Goals as goal
 
 pub loop-x-init : goal.loop-x-init
@@ -25,4 +26,6 @@ loop-x-preserved c =
     )
 
 pub returns : goal.returns
-returns c = ((λ t. c.loop-x.invariant.1.0 (same_where_one_ends _ _ c.loop-x.invariant.0 c.in-None.ensures.steps)), (λ e. cc))
+returns c =
+    let ends = both_end _ _ c.loop-x.invariant.0 c.in-None.ensures.steps in
+    ((λ t. c.loop-x.invariant.1.0 (ap entries ends.0 ∙ sym (ap entries ends.1))), (λ e. cc))
