@@ -212,7 +212,7 @@ fn help_or_fault<'a>(alloc: Global, error: &Error) -> Result<Arguments<'a>, Faul
     }
 }
 
-/// The text for a name of no form, or else for one of no rule for repeated keys.
+/// The text of `clap` for a `--form` that names no form, or else for a `--repeats` that names no rule.
 fn unknown_name(alloc: Global, matches: &ArgMatches<'_>) -> Result<String, AllocError> {
     let form = matches.get_str("form").unwrap_or_default();
     if find_form(form).is_none() {

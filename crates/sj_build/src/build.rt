@@ -366,8 +366,8 @@ fn place<'de, V: BuildValue<'de, K> + Drop, K: MakeKey<'de> + Drop>(
 ///
 /// # Errors
 ///
-/// `AllocError` if there is no memory for the value, or meanwhile for the keys of an object with many members. What was built is
-/// dropped.
+/// `AllocError` if there is no memory for the value, or for the set of the keys of an object with more than 1,024 members. What
+/// was built is dropped.
 pub fn build_value<'de, V: BuildValue<'de, K> + Drop, K: MakeKey<'de> + Drop>(
     alloc: Global,
     view: TapeValue<'_, 'de>,
@@ -406,8 +406,8 @@ fn release(nodes: &mut Vec<Node<'_>>)
 ///
 /// # Errors
 ///
-/// `AllocError` if there is no memory for the value, or meanwhile for the keys of an object with many members. What was built is
-/// dropped.
+/// `AllocError` if there is no memory for the value, or for the set of the keys of an object with more than 1,024 members. What
+/// was built is dropped.
 pub fn build_tape<'de, V: BuildValue<'de, K> + Drop, K: MakeKey<'de> + Drop>(
     alloc: Global,
     tape: Tape<'de>,

@@ -26,8 +26,9 @@ use std::alloc::{AllocError, Global};
 /// nothing.
 ///
 /// The write calls are `insert`, `remove`, `push`, `pop` and `set_at`. Those that take `depth` refuse a value that would nest
-/// more levels than that in the document. Each returns what takes the write back, or `None` if it is refused. On an error the
-/// document is as it was, as the call leaves it or, in the form `Lazy`, without repeated members.
+/// more levels than that in the document. Each returns what takes the write back, or `None` if it is refused. After an
+/// error the document is unchanged, or the write has been made in full, or, in the form `Lazy`, only the repeated members have
+/// been dropped.
 pub trait Document {
     // The tree that the document stands for.
     ghost tree: { Self → Tree };

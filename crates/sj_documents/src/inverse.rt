@@ -48,8 +48,11 @@ pub enum Change {
     SetMember(String, OwnedValue),
     /// Puts a member with a new key at a place, counted from 0 and at most the number of members. Takes back a `remove`.
     PutMember {
+        /// The place among the members, from 0.
         place: usize,
+        /// The key of the member.
         key: String,
+        /// Its value.
         value: OwnedValue,
     },
     /// Takes out the last item of an array that isn't empty. Takes back a `push`.

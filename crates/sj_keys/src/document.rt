@@ -1,7 +1,7 @@
 //! Documents, which are written through the object that they may be.
 //!
-//! A reference to a member of a document may have the document's own type. What the document is after a write through such
-//! a reference is known here, where the two types are apart, and so for every document.
+//! In a document the value of a member has the document's own type, and there the prover can't tell what a write through a
+//! reference to it leaves. In [`KnownKeyDocument`] the two are different type parameters, so it can.
 ghost use Rattle.std.specs.Prelude.{◌≡◌, ℕ, List, Option, Some, option_and_then};
 ghost use Rattle.std.specs.Borrow.{LendsIf, sem};
 ghost use Rattle.std.specs.Option.{option_copied_mut};

@@ -1,14 +1,17 @@
 -- Trees compared by what is kept of them: lists from the front on, and objects with their repeated keys passed over.
-use Rattle.std.proofs.Common.{◌≡◌, ◌&&◌, ◌||◌, ◌<◌, ℕ, zero, suc, Bool, true, false, cond, List, [], ◌∷◌, ◌++◌, map, Option, Some, None, is_some, is_none, option_map, MatchOption, refl, sym, ap, ap₂, ◌∙◌, arith}
+use Rattle.std.proofs.Common.{◌≡◌, ◌&&◌, ◌||◌, ◌<◌, ℕ, zero, suc, Bool, true, false, cond, List, [], ◌∷◌, ◌++◌, map, length, Option, Some, None, is_some, option_map, MatchOption, refl, sym, ap, ap₂, ◌∙◌, arith}
+use Rattle.std.proofs.lemmas.Bool.{and_parts, and_from, or_parts}
+use Rattle.std.proofs.lemmas.Option.{none-some}
+use Rattle.std.proofs.Math.Bool.{and-false, or-false, or-true}
 use Rattle.std.specs.Option.{option_map_or}
 use Rattle.std.specs.Str.{bytes_eq}
 use Rattle.sj_base.specs.Alike.{alike, alike_items, alike_members, keys_within}
-use Rattle.sj_base.specs.Containers.{members_len, item_trees, member_pairs}
+use Rattle.sj_base.specs.Containers.{items_len, members_len, item_trees, member_pairs}
 use Rattle.sj_base.specs.Keep.{keep, keep_items, keep_members, without}
 use Rattle.sj_base.specs.Path.{member_at}
 use Rattle.sj_base.specs.Tree.{Tree, list, object, Items, no_items, item, Members, no_members, member}
 use Rattle.sj_base.proofs.Keeping.{member_at-keep}
-use Rattle.sj_base.proofs.Keys.{same_key}
+use Rattle.sj_base.proofs.Keys.{same_key, own_key, key_flip}
 use Rattle.sj_owned.specs.Compare.{kept_alike}
 use Rattle.sj_build.specs.Trees.{items_of}
 use Rattle.sj_lazy.specs.Contents.{Contents, Value, contents}
@@ -33,10 +36,10 @@ pub next_item : (r : Option Value) (ws vs : List Contents) (at us : Items) (t : 
 next_item None ws vs at us t h is = ap₂ left_alike is (ap (map contents_tree) h.0)
 next_item (Some x) ws vs at us t h is = ap₂ left_alike is (ap (map contents_tree) h)
 
--- Behind the last item no value comes.
-pub none_left : (r : Option Value) (ws vs : List Contents) (at : Items) → Gives r ws vs → at ≡ no_items → is_none r ≡ left_alike at (map contents_tree ws)
-none_left None ws vs at h is = sym (ap₂ left_alike is (ap (map contents_tree) h.0))
-none_left (Some x) ws vs at h is = sym (ap₂ left_alike is (ap (map contents_tree) h))
+-- Behind the last item no value is left.
+pub none_left : (ws : List Contents) (at : Items) → at ≡ no_items → items_len at ≡ length ws → left_alike at (map contents_tree ws) ≡ true
+none_left [] at is len = ap (λ l. left_alike l []) is
+none_left (w ∷ ws) at is len = cc
 
 -- the comparison of the whole lists
 pub lists_alike : (ts us : Items) → left_alike ts (item_trees us) ≡ kept_alike (list ts) (list us)
@@ -58,14 +61,6 @@ abbrev pub rest_alike : List (List ℕ) → Members → Members → Bool
 rest_alike ks no_members ns = true
 rest_alike ks (member k t ms) ns = (among ks k || agrees k t ns) && rest_alike (ks ++ k ∷ []) ms ns
 
-or_true : (p : Bool) → (p || true) ≡ true
-or_true true = refl
-or_true false = refl
-
-or_false : (p : Bool) → (p || false) ≡ p
-or_false true = refl
-or_false false = refl
-
 abbrev withouts : List (List ℕ) → Members → Members
 withouts [] ms = ms
 withouts (k ∷ ks) ms = without k (withouts ks ms)
@@ -79,8 +74,8 @@ last_out [] k ms = refl
 last_out (j ∷ ks) k ms = ap (without j) (last_out ks k ms)
 
 one_out : (j k : List ℕ) (u : Tree) (ms : Members) (h : Bool) → without j (cond h ms (member k u ms)) ≡ cond (bytes_eq k j || h) (without j ms) (member k u (without j ms))
-one_out j k u ms true = sym (ap (λ b. cond b (without j ms) (member k u (without j ms))) (or_true (bytes_eq k j)))
-one_out j k u ms false = sym (ap (λ b. cond b (without j ms) (member k u (without j ms))) (or_false (bytes_eq k j)))
+one_out j k u ms true = sym (ap (λ b. cond b (without j ms) (member k u (without j ms))) (or-true (bytes_eq k j)))
+one_out j k u ms false = sym (ap (λ b. cond b (without j ms) (member k u (without j ms))) (or-false (bytes_eq k j)))
 
 first_out : (ks : List (List ℕ)) (k : List ℕ) (u : Tree) (ms : Members) → withouts ks (member k u ms) ≡ cond (among ks k) (withouts ks ms) (member k u (withouts ks ms))
 first_out [] k u ms = refl
@@ -154,3 +149,118 @@ pub some_behind : (n : ℕ) (all : Members) → n < members_len all → behind_f
 some_behind n no_members h is = omega arith
 some_behind zero (member k t all) h is = cc
 some_behind (suc n) (member k t all) h is = some_behind n all (omega arith) is
+
+-- Behind a front with the same keys on both sides, the next members have one key.
+pub in_front : (n front : ℕ) (ms ns : Members) (k : List ℕ) (t : Tree) (more : Members) → n < front → first_keys front ms ≡ first_keys front ns → behind_first n ms ≡ member k t more
+    → (u : Tree) × (others : Members) × (behind_first n ns ≡ member k u others) × (first_keys n ms ≡ first_keys n ns)
+in_front n zero ms ns k t more lt e is = absurd (omega (arith, lt))
+in_front zero (suc f) no_members ns k t more lt e is = cc
+in_front zero (suc f) (member j v ms) no_members k t more lt e is = cc
+in_front zero (suc f) (member j v ms) (member i u ns) k t more lt e is = (u, ns, cc, refl)
+in_front (suc n) (suc f) no_members ns k t more lt e is = cc
+in_front (suc n) (suc f) (member j v ms) no_members k t more lt e is = cc
+in_front (suc n) (suc f) (member j v ms) (member i u ns) k t more lt e is =
+    let tail : first_keys f ms ≡ first_keys f ns = cc in
+    let same : j ≡ i = cc in
+    let found = in_front n f ms ns k t more (omega (arith, lt)) tail is in
+    (found.0, found.1, found.2, ap₂ (λ a b. a ∷ b) same found.3)
+
+-- The first member with a key is the one there, if no member before has it.
+pub first_there : (n : ℕ) (ns : Members) (k : List ℕ) (u : Tree) (more : Members) → behind_first n ns ≡ member k u more → among (first_keys n ns) k ≡ false → member_at ns k ≡ Some u
+first_there zero ns k u more is none = ap (λ l. member_at l k) is ∙ ap (λ b. cond b (Some u) (member_at more k)) (own_key k)
+first_there (suc n) no_members k u more is none = cc
+first_there (suc n) (member j v ns) k u more is none =
+    let parts = or_parts (bytes_eq k j) (among (first_keys n ns) k) none in
+    ap (λ b. cond b (Some v) (member_at ns k)) (key_flip k j false parts.0) ∙ first_there n ns k u more is parts.1
+
+-- A value that is compared with one member is compared with the first of its key, or the key came before.
+pub or_agrees : (p : Bool) (k : List ℕ) (t : Tree) (ns : Members) (o : Option Tree) → (p ≡ false → o ≡ member_at ns k) → (p || next_alike t o) ≡ (p || agrees k t ns)
+or_agrees true k t ns o h = refl
+or_agrees false k t ns o h = next_agrees k t ns o (h refl)
+
+-- the keys in order
+abbrev pub keys_of : Members → List (List ℕ)
+keys_of ms = map (λ (p : List ℕ × Tree). p.0) (member_pairs ms)
+
+pub key_next : (n : ℕ) (ms : Members) (k : List ℕ) (ks : List (List ℕ)) → keys_of (behind_first n ms) ≡ k ∷ ks → (first_keys (suc n) ms ≡ first_keys n ms ++ k ∷ []) × (keys_of (behind_first (suc n) ms) ≡ ks)
+key_next zero no_members k ks h = cc
+key_next zero (member j t ms) k ks h = (cc, cc)
+key_next (suc n) no_members k ks h = cc
+key_next (suc n) (member j t ms) k ks h = let more = key_next n ms k ks h in (ap (λ l. j ∷ l) more.0, more.1)
+
+-- Each key of an object has a member in it.
+some_or : {A : Type 0} (b : Bool) (x : A) (o : Option A) → is_some o ≡ true → is_some (cond b (Some x) o) ≡ true
+some_or true x o h = refl
+some_or false x o h = h
+
+within_more : (xs ms : Members) (k : List ℕ) (t : Tree) → keys_within xs ms ≡ true → keys_within xs (member k t ms) ≡ true
+within_more no_members ms k t h = refl
+within_more (member j u xs) ms k t h =
+    let parts = and_parts (is_some (member_at ms j)) (keys_within xs ms) h in
+    and_from _ _ (some_or (bytes_eq k j) t (member_at ms j) parts.0) (within_more xs ms k t parts.1)
+
+within_itself : (ms : Members) → keys_within ms ms ≡ true
+within_itself no_members = refl
+within_itself (member k t ms) =
+    and_from _ _ (ap (λ b. is_some (cond b (Some t) (member_at ms k))) (own_key k)) (within_more ms ms k t (within_itself ms))
+
+pub own_keys : (ms : Members) → all_found (keys_of ms) ms ≡ true
+own_keys ms = found_within ms ms ∙ within_itself ms
+
+-- Lists of other lengths aren't alike.
+other_items : (ts us : Items) → (items_len ts ≡ items_len us → ⊥) → alike_items (keep_items ts) (keep_items us) ≡ false
+other_items no_items no_items n = absurd (n refl)
+other_items no_items (item u us) n = refl
+other_items (item t ts) no_items n = refl
+other_items (item t ts) (item u us) n =
+    ap (λ b. alike (keep t) (keep u) && b) (other_items ts us (λ e. n (ap suc e))) ∙ and-false (alike (keep t) (keep u))
+
+pub other_lengths : (ts us : Items) → (items_len ts ≡ items_len us → ⊥) → kept_alike (list ts) (list us) ≡ false
+other_lengths = other_items
+
+-- the values in order
+abbrev pub values_of : Members → List Tree
+values_of ms = map (λ (p : List ℕ × Tree). p.1) (member_pairs ms)
+
+cons_parts : {A : Type 0} {x y : A} {xs ys : List A} → x ∷ xs ≡ y ∷ ys → (x ≡ y) × (xs ≡ ys)
+cons_parts e = (cc, cc)
+
+next_value : (r : Option Value) (ws vs : List Contents) (u : Tree) (us : List Tree) → Gives r ws vs → map contents_tree ws ≡ u ∷ us → (option_map lazy_tree r ≡ Some u) × (map contents_tree vs ≡ us)
+next_value None ws vs u us h e = absurd (nothing_first (sym (ap (map contents_tree) h.0) ∙ e))
+  where
+    nothing_first : [] ≡ u ∷ us → ⊥
+    nothing_first i = cc
+next_value (Some x) ws vs u us h e = let parts = cons_parts (sym (ap (map contents_tree) h) ∙ e) in (ap Some parts.0, parts.1)
+
+-- The next value on the other side is the first of its key, if the key didn't come before, and the values behind it are next.
+pub next_in_front : (n front : ℕ) (all ns : Members) (k : List ℕ) (t : Tree) (more : Members) (r : Option Value) (ws vs : List Contents) → n < front → first_keys front all ≡ first_keys front ns
+    → behind_first n all ≡ member k t more → Gives r ws vs → map contents_tree ws ≡ values_of (behind_first n ns)
+    → (among (first_keys n all) k ≡ false → option_map lazy_tree r ≡ member_at ns k) × (map contents_tree vs ≡ values_of (behind_first (suc n) ns))
+next_in_front n front all ns k t more r ws vs lt same is gives left =
+    let there = in_front n front all ns k t more lt same is in
+    let next = next_value r ws vs there.0 (values_of there.1) gives (left ∙ ap values_of there.2) in (
+      (λ none. next.0 ∙ sym (first_there n ns k there.0 there.1 there.2 (ap (λ l. among l k) (sym there.3) ∙ none))),
+      next.1 ∙ sym (ap values_of (key_passed n ns there.1 k there.0 there.2).1),
+    )
+
+nothing_behind : (ms : Members) → keys_of ms ≡ [] → ms ≡ no_members
+nothing_behind no_members e = refl
+nothing_behind (member k t ms) e = cc
+
+some_parts : {A : Type 0} {x y : A} → Some x ≡ Some y → x ≡ y
+some_parts e = cc
+
+-- what an iterator of keys gave, and what it has left
+abbrev pub GivesKey : {A : Type 0} → (A → List ℕ) → Option A → List (List ℕ) → List (List ℕ) → Type 0
+GivesKey text r ws vs = MatchOption r ((ws ≡ []) × (vs ≡ [])) (λ k. ws ≡ text k ∷ vs)
+
+-- Where the next keys on both sides are equal, the front with the same keys is longer by one.
+pub front_passed : {A : Type 0} (text : A → List ℕ) (n : ℕ) (ms ns : Members) (r q : Option A) (ws vs xs us : List (List ℕ)) → n < members_len ms → first_keys n ms ≡ first_keys n ns
+    → keys_of (behind_first n ms) ≡ ws → keys_of (behind_first n ns) ≡ xs → GivesKey text r ws vs → GivesKey text q xs us → option_map text r ≡ option_map text q
+    → (first_keys (suc n) ms ≡ first_keys (suc n) ns) × (keys_of (behind_first (suc n) ms) ≡ vs) × (keys_of (behind_first (suc n) ns) ≡ us)
+front_passed text n ms ns None q ws vs xs us lt same left others h i e = absurd (some_behind n ms lt (nothing_behind (behind_first n ms) (left ∙ h.0)))
+front_passed text n ms ns (Some k) None ws vs xs us lt same left others h i e = absurd (none-some (text k) (sym e))
+front_passed text n ms ns (Some k) (Some j) ws vs xs us lt same left others h i e =
+    let a = key_next n ms (text k) vs (left ∙ h) in
+    let b = key_next n ns (text j) us (others ∙ i) in
+    (a.0 ∙ ap₂ (λ ks l. ks ++ l ∷ []) same (some_parts e) ∙ sym b.0, a.1, b.1)

@@ -201,8 +201,7 @@ impl<'t, 'i> Value<'_, 't, 'i> {
     ///
     /// # Errors
     ///
-    /// `TryTypeError` if the value isn't an object, with the expected type `Object`, or if the member isn't an object, with
-    /// `Object`.
+    /// `TryTypeError` if the value or the member isn't an object. The expected type is `Object`.
     pub fn try_get_object(&self, name: &str) -> Result<Option<Object<'_, 't, 'i>>, TryTypeError>
         ensures { ok_map (option_map object_contents) result
             ≡ read_found object_in ValueType.Object (try_member (contents self.now) name.now) }
@@ -258,7 +257,7 @@ impl<'b, 't, 'i> Value<'b, 't, 'i> {
 }
 
 // Whether there is a value, which is dropped.
-fn is_there<T: Drop>(found: Option<T>) -> bool
+pub(crate) fn is_there<T: Drop>(found: Option<T>) -> bool
     ensures { result ≡ is_some found }
 {
     found.is_some()

@@ -1,8 +1,9 @@
 //! Comparisons of lazy values. They take no memory.
 //!
 //! Two documents are compared by `==` of documents. A part of a tape is walked through, and its repeated keys are passed
-//! over.
-ghost use Rattle.std.specs.Prelude.{◌≡◌, is_none, option_map};
+//! over. That takes time in proportion to what is compared where the members come in the same order on both sides. Where they
+//! don't, keys are looked up.
+ghost use Rattle.std.specs.Prelude.{◌≡◌, option_map};
 ghost use Rattle.std.specs.Cmp.{on_equiv, partial_equiv_from_equiv};
 ghost use Rattle.std.specs.Ordering.{on};
 ghost use Rattle.sj_base.specs.Scalar.{scalar_tree};
@@ -63,23 +64,31 @@ fn is_among(members: &TapeObject<'_, '_>, count: usize, name: &str) -> bool
     false
 }
 
-// Returns `true` if each of these keys has a member.
+// Returns how many members, counted from the first, have the same keys on both sides in the same order.
+fn same_front(members: &TapeObject<'_, '_>, others: &Object<'_, '_, '_>) -> usize
+    ensures { first_keys result (tape_members members.now) ≡ first_keys result (object_members others.now) }
+{
+    let mut keys = members.keys();
+    let mut other_keys = others.keys();
+    for count in 0..members.len() {
+        if keys.next() != other_keys.next() {
+            return count;
+        }
+    }
+    members.len()
+}
+
+// Returns `true` if each of these keys has a member. None is looked up that comes in the order of the members.
 fn are_found(keys: Keys<'_, '_, '_>, members: &TapeObject<'_, '_>) -> bool
     ensures { result ≡ all_found (keys_left keys.entry) (tape_members members.now) }
 {
+    let mut in_order = members.keys();
     for key in keys {
-        if members.get(key).is_none() {
+        if in_order.next() != Some(key) && members.get(key).is_none() {
             return false;
         }
     }
     true
-}
-
-// Returns `true` if there is no next value, and drops one that there is.
-pub(crate) fn is_end<T: Drop>(next: Option<T>) -> bool
-    ensures { result ≡ is_none next }
-{
-    next.is_none()
 }
 
 #[cycle(same)]
@@ -120,6 +129,9 @@ fn same_next(view: &TapeValue<'_, '_>, next: Option<Value<'_, '_, '_>>) -> bool
 fn same_items(items: TapeArray<'_, '_>, others: Array<'_, '_, '_>) -> bool
     ensures { result ≡ kept_alike (list (tape_items items.entry)) (list (array_items others.entry)) }
 {
+    if items.len() != others.len() {
+        return false;
+    }
     let mut rest = items;
     let mut left = others.iter();
     while let Some((item, behind)) = rest.split_first() {
@@ -128,20 +140,27 @@ fn same_items(items: TapeArray<'_, '_>, others: Array<'_, '_, '_>) -> bool
         }
         rest = behind;
     }
-    is_end(left.next())
+    true
 }
 
+// The values are compared before it is asked whether a key is a repeat, since few objects repeat one.
 #[cycle(same)]
 fn same_members(members: TapeObject<'_, '_>, others: Object<'_, '_, '_>) -> bool
     ensures { result ≡ kept_alike (object (tape_members members.entry)) (object (object_members others.entry)) }
 {
+    let front = same_front(&members, &others);
     let mut rest = members;
+    let mut in_order = others.values();
     for count in 0..members.len() {
         let Some((key, value, behind)) = rest.split_first() else {
             unreachable!()
         };
-        let is_repeat = is_among(&members, count, key);
-        if !is_repeat && !same_next(&value, others.get(key)) {
+        let other = if count < front {
+            in_order.next()
+        } else {
+            others.get(key)
+        };
+        if !same_next(&value, other) && !is_among(&members, count, key) {
             return false;
         }
         rest = behind;
@@ -149,7 +168,7 @@ fn same_members(members: TapeObject<'_, '_>, others: Object<'_, '_, '_>) -> bool
     are_found(others.keys(), &members)
 }
 
-/// Two lazy values are equal if what is kept of their trees is: of a tape the first member of each key counts, alone.
+/// Two lazy values are equal if the documents made of them are: of a tape only the first member of each key counts.
 /// Objects are compared as maps, integers by number and decimal literals by text, as those of documents are.
 ///
 /// The recursion is as deep as the values nest.

@@ -9,7 +9,7 @@ use sj_tape::Value as TapeValue;
 use std::fmt;
 
 /// A lazy value is shown as a document is: a string without quotes, and any other scalar as its JSON text. An array or an
-/// object is shown as its compact JSON text, in which a tape's repeated keys are.
+/// object is shown as its compact JSON text, with a tape's repeated keys.
 ///
 /// The recursion is as deep as the value nests.
 impl fmt::Display for Value<'_, '_, '_> {

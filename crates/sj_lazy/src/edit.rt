@@ -107,7 +107,8 @@ impl<T: ToDocument<D> + Drop, B: ToDocument<D> + Drop, D: Drop> TapeOrDocument<T
     ///
     /// # Errors
     ///
-    /// `AllocError` if there is no memory for the document. The value is unchanged. A document of its own takes none.
+    /// `AllocError` if there is no memory for the document. The value is unchanged. A value that owns its document already needs
+    /// no memory.
     pub fn value_mut(&mut self, alloc: Global) -> Result<&mut D, AllocError>
         ensures* writes_back { sem 𝓛 (lends_document T.row B.row D.row self.entry result) }
         ensures value { IfOk result (λ d. UpgradesBy T.makes B.makes self.old d.now) }
@@ -130,9 +131,11 @@ impl<'i> Value<'_, '_, 'i> {
     ///
     /// # Errors
     ///
-    /// `Memory` if there is no memory for the document: the value is unchanged. Otherwise `NotAnObject` if it isn't an
-    /// object, and then `Memory` if there is no memory for a new member: the value is that document. The key and the value
-    /// to insert are dropped.
+    /// - `Memory` if there is no memory for the document. The value is unchanged.
+    /// - `NotAnObject` if the value isn't an object. It owns its document now.
+    /// - `Memory` if there is no memory for a new member. The value owns its document now, without that member.
+    ///
+    /// In each case the key and the value to insert are dropped.
     pub fn insert(
         &mut self,
         alloc: Global,
@@ -159,8 +162,8 @@ impl<'i> Value<'_, '_, 'i> {
     ///
     /// # Errors
     ///
-    /// `Memory` if there is no memory for the document: the value is unchanged. Otherwise `NotAnObject` if it isn't an
-    /// object: the value is that document.
+    /// - `Memory` if there is no memory for the document. The value is unchanged.
+    /// - `NotAnObject` if the value isn't an object. It owns its document now.
     pub fn remove(
         &mut self,
         alloc: Global,
@@ -184,8 +187,11 @@ impl<'i> Value<'_, '_, 'i> {
     ///
     /// # Errors
     ///
-    /// `Memory` if there is no memory for the document: the value is unchanged. Otherwise `NotAnArray` if it isn't an
-    /// array, and then `Memory` if there is no memory for one more item: the value is that document. The item is dropped.
+    /// - `Memory` if there is no memory for the document. The value is unchanged.
+    /// - `NotAnArray` if the value isn't an array. It owns its document now.
+    /// - `Memory` if there is no memory for one more item. The value owns its document now, without that item.
+    ///
+    /// In each case the item is dropped.
     pub fn push(&mut self, alloc: Global, value: BorrowedValue<'i>) -> Result<(), AccessError>
         ensures ok { OnOk result (OwnsSuch (λ d. Some (document_tree d)
             ≡ with_item (upgraded self.old) (document_tree value.entry)) self.new) }
@@ -204,8 +210,8 @@ impl<'i> Value<'_, '_, 'i> {
     ///
     /// # Errors
     ///
-    /// `Memory` if there is no memory for the document: the value is unchanged. Otherwise `NotAnArray` if it isn't an
-    /// array: the value is that document.
+    /// - `Memory` if there is no memory for the document. The value is unchanged.
+    /// - `NotAnArray` if the value isn't an array. It owns its document now.
     pub fn pop(&mut self, alloc: Global) -> Result<Option<BorrowedValue<'i>>, AccessError>
         ensures ok { OnOk result (OwnsSuch (λ d. Some (document_tree d)
             ≡ without_last (upgraded self.old)) self.new) }
@@ -227,7 +233,8 @@ impl<'i> Value<'_, '_, 'i> {
     ///
     /// # Errors
     ///
-    /// `AllocError` if there is no memory for the document. The value is unchanged. A document of its own takes none.
+    /// `AllocError` if there is no memory for the document. The value is unchanged. A value that owns its document already needs
+    /// no memory.
     pub fn as_array_mut(
         &mut self,
         alloc: Global,
@@ -244,7 +251,8 @@ impl<'i> Value<'_, '_, 'i> {
     ///
     /// # Errors
     ///
-    /// `AllocError` if there is no memory for the document. The value is unchanged. A document of its own takes none.
+    /// `AllocError` if there is no memory for the document. The value is unchanged. A value that owns its document already needs
+    /// no memory.
     pub fn as_object_mut(&mut self, alloc: Global) -> Result<Option<&mut Object<'i>>, AllocError>
         ensures part { IfOk result (λ found. (d : Document) × Upgrades self.old d × (option_copied_mut found ≡ members_inside d)) }
         ensures succeeds { owns self.old ≡ true → IsOk result }
@@ -259,7 +267,8 @@ impl<'i> Value<'_, '_, 'i> {
     ///
     /// # Errors
     ///
-    /// `AllocError` if there is no memory for the document. The value is unchanged. A document of its own takes none.
+    /// `AllocError` if there is no memory for the document. The value is unchanged. A value that owns its document already needs
+    /// no memory.
     pub fn get_mut(
         &mut self,
         alloc: Global,
@@ -278,7 +287,8 @@ impl<'i> Value<'_, '_, 'i> {
     ///
     /// # Errors
     ///
-    /// `AllocError` if there is no memory for the document. The value is unchanged. A document of its own takes none.
+    /// `AllocError` if there is no memory for the document. The value is unchanged. A value that owns its document already needs
+    /// no memory.
     pub fn get_idx_mut(
         &mut self,
         alloc: Global,

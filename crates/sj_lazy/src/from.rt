@@ -97,7 +97,8 @@ impl<'i> Value<'_, '_, 'i> {
     ///
     /// # Errors
     ///
-    /// `AllocError` if there is no memory for the object, or meanwhile for its pairs. The entries are dropped.
+    /// `AllocError` if there is no memory for the object, or for the list in which its pairs are sorted. The entries are
+    /// dropped.
     pub fn from_map(
         alloc: Global,
         map: HashMap<String, BorrowedValue<'i>>,

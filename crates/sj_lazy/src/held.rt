@@ -12,9 +12,9 @@ use sj_values::BorrowedValue;
 /// In lazy values, `D` is a [`BorrowedValue`], and `B` is a reference to one.
 #[derive(Debug, Drop)]
 pub enum Held<B, D> {
-    /// A document of another value.
+    /// A document that another value owns.
     Borrowed(B),
-    /// A document of its own.
+    /// A document that the value owns.
     Owned(D),
 }
 

@@ -47,7 +47,7 @@ impl<'t, 'i> Value<'_, 't, 'i> {
         match self {
             Value::Tape(view) => Ok(Value::Tape(view)),
             other => match other.into_value(alloc) {
-                Ok(document) => Ok(Value::Value(Held::Owned(document))),
+                Ok(document) => Ok(Value::owned(document)),
                 Err(value) => Err(value),
             },
         }
@@ -90,10 +90,8 @@ impl TryCopy for Value<'_, '_, '_> {
     fn try_clone(&self) -> Result<Self, AllocError> {
         match self {
             Value::Tape(view) => Ok(Value::Tape(*view)),
-            Value::Value(Held::Borrowed(document)) => Ok(Value::Value(Held::Borrowed(document))),
-            Value::Value(Held::Owned(document)) => Ok(Value::Value(Held::Owned(
-                document.try_clone()?,
-            ))),
+            Value::Value(Held::Borrowed(document)) => Ok(Value::borrowed(document)),
+            Value::Value(Held::Owned(document)) => Ok(Value::owned(document.try_clone()?)),
         }
     }
 }

@@ -8,16 +8,17 @@ ghost use Rattle.sj_lazy.specs.Views.{lazy_tree};
 ghost use Rattle.sj_lazy.specs.inside.Scalars.{alone};
 ghost use Rattle.sj_owned.specs.SameAs.{EqualsAll};
 
+use crate::access::is_there;
 use crate::array::Array;
-use crate::compare::{document_of, is_end};
+use crate::compare::document_of;
 use crate::object::Object;
 use crate::value::Value;
 use sj_owned::{Comparand, SameAs};
 use sj_reads::ValueAsScalar;
 use std::collections::HashMap;
 
-/// A lazy value equals another value as a document of the same tree does. Of a tape each member counts, a repeated key too,
-/// so an object with one never equals a map.
+/// A lazy value equals another value exactly if a document of the same tree would. A tape's repeated members count, so an
+/// object that repeats a key never equals a map.
 ///
 /// The recursion is as deep as the other value nests.
 impl<T: LazyComparand> SameAs<T> for Value<'_, '_, '_> {
@@ -148,7 +149,7 @@ fn equals_items<U: LazyComparand>(values: &[U], items: Array<'_, '_, '_>) -> boo
             return false;
         }
     }
-    is_end(left.next())
+    !is_there(left.next())
 }
 
 fn equals_members<U: LazyComparand>(map: &HashMap<String, U>, members: Object<'_, '_, '_>) -> bool

@@ -191,7 +191,8 @@ impl Table {
         self.links.push_reserved(Link { hash, next });
     }
 
-    // The chain in which this hash stands. A multiplication takes a fraction of the time of a division.
+    // The chain in which this hash stands: the high word of the mixed hash times the number of chains, which is below that
+    // number. A remainder would take several times as long.
     #[inline]
     fn home(&self, hash: u64) -> usize
         requires { 0 < length self.now.heads.items }

@@ -162,8 +162,7 @@ impl<K: ObjectKey, D: Literal> Value<K, D> {
     ///
     /// # Errors
     ///
-    /// `TryTypeError` if the value isn't an object, with the expected type `Object`, or if the member isn't an object, with
-    /// `Object`.
+    /// `TryTypeError` if the value or the member isn't an object. The expected type is `Object`.
     pub fn try_get_object(
         &self,
         name: &str,

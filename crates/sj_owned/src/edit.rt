@@ -74,7 +74,7 @@ impl<K: ObjectKey, D: Literal> Value<K, D> {
     ///
     /// # Errors
     ///
-    /// `NotAnArray` if the value isn't an array, and then `Memory` if there is no memory for one more item. The document is
+    /// `NotAnArray` if the value isn't an array. Otherwise `Memory` if there is no memory for one more item. The document is
     /// unchanged, and the value is dropped.
     pub fn push(&mut self, value: Value<K, D>) -> Result<(), AccessError>
     where

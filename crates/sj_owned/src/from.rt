@@ -315,7 +315,8 @@ impl<K: FromString + Drop, D: Literal + Drop> Value<K, D> {
     ///
     /// # Errors
     ///
-    /// `AllocError` if there is no memory for the object, or meanwhile for its pairs. The entries are dropped.
+    /// `AllocError` if there is no memory for the object, or for the list in which its pairs are sorted. The entries are
+    /// dropped.
     pub fn from_map(alloc: Global, map: HashMap<String, Value<K, D>>) -> Result<Self, AllocError>
         ensures { IfOk result (IsObjectOfEntries K.of_string K.text map.entries) }
     {

@@ -24,8 +24,8 @@ use std::alloc::AllocError;
 /// # Errors
 ///
 /// `AllocError` if there is no memory for what the call of the document needs, or for one more inverse. `out` is unchanged. The
-/// document is as it was, as the command leaves it or, in the form `Lazy`, without repeated members. The
-/// state of `history` is unspecified.
+/// document is unchanged, or the command has been run in full on it, or, in the form `Lazy`, only its repeated members have been
+/// dropped. The state of `history` is unspecified.
 pub fn apply<T: Document>(
     document: &mut T,
     history: &mut Vec<Inverse>,

@@ -2,10 +2,10 @@
 use super::{borrowed_of, expect_eq, expect_made, expect_that, is_borrowed_text, owned_of};
 use sj_base::{DecimalBuf, DecimalCow, ErrorType, ValueType};
 use sj_owned::{
-    OwnedDeserializer, OwnedValue, Value, deserialize, deserialize_with_buffers,
-    to_owned_value_with_buffers,
+    OwnedDeserializer, OwnedValue, Value, build_tape, build_value, deserialize,
+    deserialize_with_buffers, to_owned_value_with_buffers,
 };
-use sj_parse::{Buffers, Deserializer};
+use sj_parse::{Buffers, Deserializer, to_tape};
 use sj_reads::ValueAsScalar;
 use sj_values::{BorrowDeserializer, BorrowedValue, to_borrowed_value_with_buffers};
 use std::alloc::Global;
@@ -33,6 +33,19 @@ fn read_with_owned_literals(rt: HostRuntime) {
     let value = deserialize::<Value<CowStr<'_>, DecimalBuf>, CowStr<'_>>(alloc, &mut text);
     let document = r#"{"a":["x",1.50],"b":null}"#;
     expect_made(&rt, alloc, value.expect(&rt, "a document"), document);
+}
+
+// A document can be built of a tape, which stays, or of one that is handed over.
+#[test]
+fn built_of_a_tape(rt: HostRuntime) {
+    let alloc = rt.alloc();
+    let mut text = *br#"{"a":[1.50,"x"],"a":2}"#;
+    let tape = to_tape(alloc, &mut text).expect(&rt, "a tape");
+    let document = r#"{"a":[1.50,"x"]}"#;
+    let value = build_value::<OwnedValue, String>(alloc, tape.as_value());
+    expect_made(&rt, alloc, value.expect(&rt, "memory"), document);
+    let value = build_tape::<OwnedValue, String>(alloc, tape);
+    expect_made(&rt, alloc, value.expect(&rt, "memory"), document);
 }
 
 fn expect_owned(rt: &impl Abort, alloc: Global, buffers: &mut Buffers) {

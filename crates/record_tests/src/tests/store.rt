@@ -2,7 +2,7 @@
 
 use super::{LIMIT, expect_at, expect_eq, script_of};
 use sj_owned::{OwnedValue, to_owned_value};
-use sj_records::{Command, Inverse, Script, apply};
+use sj_records::{Command, Document, Inverse, Script, apply};
 use std::alloc::{AllocError, Global};
 use std::process::Abort;
 
@@ -75,5 +75,29 @@ fn scripts_on_one_document(rt: HostRuntime) {
     ] {
         expect_run(&rt, alloc, &mut store, script, replies, document);
     }
+    drop(store);
+}
+
+// A write is taken back by what it hands out, without a history.
+#[test]
+fn write_taken_back(rt: HostRuntime) {
+    let alloc = rt.alloc();
+    let mut text = *br#"{"hosts": ["a"]}"#;
+    let mut store = Store {
+        document: to_owned_value(alloc, &mut text).expect(&rt, "a document"),
+        history: Vec::new(alloc),
+    };
+    let written = r#"{"hosts":["a","b"]}"#;
+    expect_run(
+        &rt,
+        alloc,
+        &mut store,
+        r#"[["push",["hosts"],"b"]]"#,
+        "[]\n",
+        written,
+    );
+    let inverse = store.history.pop().expect(&rt, "an inverse");
+    expect_eq(&rt, store.document.take_back(alloc, inverse), Ok(true));
+    expect_run(&rt, alloc, &mut store, "[]", "", r#"{"hosts":["a"]}"#);
     drop(store);
 }

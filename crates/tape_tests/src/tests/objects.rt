@@ -84,6 +84,20 @@ fn replaced_in_place(rt: HostRuntime) {
     drop(object);
 }
 
+// An object with room for as many pairs as another one has takes pairs whose keys are known to be new.
+#[test]
+fn new_pairs(rt: HostRuntime) {
+    let object = object_of::<String, u64>(&rt, rt.alloc(), &[("a", 1), ("b", 2)]);
+    let mut other = object.emptied().expect(&rt, "memory");
+    expect_that(&rt, "an empty object", other.is_empty());
+    other
+        .push_new(text(&rt, rt.alloc(), "b"), 3)
+        .expect(&rt, "memory");
+    expect_eq(&rt, other.len(), 1);
+    expect_eq(&rt, other.get("b"), Some(&3));
+    drop((object, other));
+}
+
 fn show(rt: &impl Abort, shown: &mut String, key: &str, value: u64) {
     write!(shown, "{key}{value} ").expect(rt, "memory");
 }

@@ -3,9 +3,10 @@
 use super::{expect_at, expect_bytes, expect_eq, expect_that, is_there};
 use sj_base::{Error, ErrorType, TextBuffer, TryTypeError, ValueType};
 use sj_parse::{
-    Buffers, Deserializer, codepoint_to_utf8, fill_tape, fill_tape_padded, to_tape,
+    Buffers, Deserializer, codepoint_to_utf8, fill_tape, fill_tape_by, fill_tape_padded, to_tape,
     to_tape_with_buffers,
 };
+use sj_scan::PlainScan;
 use sj_tape::{Array, Tape, Value};
 use std::alloc::{AllocError, Global};
 use std::process::Abort;
@@ -156,11 +157,14 @@ fn tape_with_buffers(rt: HostRuntime) {
 
 #[test]
 fn filled_tape(rt: HostRuntime) {
-    let mut text = *b"[1]";
+    let mut first = *b"[1]";
+    let mut second = *b"[2]";
     let mut buffers = Buffers::new(rt.alloc(), 3).expect(&rt, "memory");
     let mut tape = Tape::empty(rt.alloc());
-    fill_tape(&mut text, &mut buffers, &mut tape).expect(&rt, "a tape");
+    fill_tape(&mut first, &mut buffers, &mut tape).expect(&rt, "a tape");
     expect_document(&rt, rt.alloc(), &tape, "[1]");
+    fill_tape_by(&mut PlainScan, &mut second, &mut buffers, &mut tape).expect(&rt, "a tape");
+    expect_document(&rt, rt.alloc(), &tape, "[2]");
 }
 
 #[test]
