@@ -143,7 +143,8 @@ fn same_items(items: TapeArray<'_, '_>, others: Array<'_, '_, '_>) -> bool
     true
 }
 
-// The values are compared before it is asked whether a key is a repeat, since few objects repeat one.
+// As long as the keys come in the same order on both sides, the next value there is the one to compare, and no key is looked
+// up. Whether a key is a repeat is asked only where values differ, since few objects repeat one.
 #[cycle(same)]
 fn same_members(members: TapeObject<'_, '_>, others: Object<'_, '_, '_>) -> bool
     ensures { result ≡ kept_alike (object (tape_members members.entry)) (object (object_members others.entry)) }
