@@ -18,7 +18,7 @@ use Rattle.sj_lazy.specs.Contents.{Contents, Value, contents}
 use Rattle.sj_lazy.specs.Views.{contents_tree, lazy_tree}
 use Rattle.sj_lazy.specs.inside.Comparing.{next_alike, among, first_keys, all_found}
 
-pub items_back : (ts : Items) → items_of (item_trees ts) ≡ ts
+items_back : (ts : Items) → items_of (item_trees ts) ≡ ts
 items_back no_items = refl
 items_back (item t ts) = ap (item t) (items_back ts)
 
@@ -120,12 +120,16 @@ kept_within (member k t ns) ms =
     both_within (is_some (member_at ms k)) (keys_within (without k (keep_members ns)) ms) (keys_within ns ms)
     (λ there. without_within k (keep_members ns) ms there ∙ kept_within ns ms)
 
-pub found_within : (ns ms : Members) → all_found (map (λ (p : List ℕ × Tree). p.0) (member_pairs ns)) ms ≡ keys_within ns ms
+-- the keys in order
+abbrev pub keys_of : Members → List (List ℕ)
+keys_of ms = map (λ (p : List ℕ × Tree). p.0) (member_pairs ms)
+
+found_within : (ns ms : Members) → all_found (keys_of ns) ms ≡ keys_within ns ms
 found_within no_members ms = refl
 found_within (member k t ns) ms = ap (λ b. is_some (member_at ms k) && b) (found_within ns ms)
 
 -- Objects are compared in two passes.
-pub objects_alike : (ms ns : Members) → (rest_alike [] ms ns && all_found (map (λ (p : List ℕ × Tree). p.0) (member_pairs ns)) ms) ≡ kept_alike (object ms) (object ns)
+pub objects_alike : (ms ns : Members) → (rest_alike [] ms ns && all_found (keys_of ns) ms) ≡ kept_alike (object ms) (object ns)
 objects_alike ms ns =
     ap₂ (λ a b. a && b) (rest_kept [] ms ns) (found_within ns ms ∙ sym (kept_within ns ms) ∙ sym (within_kept (keep_members ns) ms))
 
@@ -151,7 +155,7 @@ some_behind zero (member k t all) h is = cc
 some_behind (suc n) (member k t all) h is = some_behind n all (omega arith) is
 
 -- Behind a front with the same keys on both sides, the next members have one key.
-pub in_front : (n front : ℕ) (ms ns : Members) (k : List ℕ) (t : Tree) (more : Members) → n < front → first_keys front ms ≡ first_keys front ns → behind_first n ms ≡ member k t more
+in_front : (n front : ℕ) (ms ns : Members) (k : List ℕ) (t : Tree) (more : Members) → n < front → first_keys front ms ≡ first_keys front ns → behind_first n ms ≡ member k t more
     → (u : Tree) × (others : Members) × (behind_first n ns ≡ member k u others) × (first_keys n ms ≡ first_keys n ns)
 in_front n zero ms ns k t more lt e is = absurd (omega (arith, lt))
 in_front zero (suc f) no_members ns k t more lt e is = cc
@@ -166,7 +170,7 @@ in_front (suc n) (suc f) (member j v ms) (member i u ns) k t more lt e is =
     (found.0, found.1, found.2, ap₂ (λ a b. a ∷ b) same found.3)
 
 -- The first member with a key is the one there, if no member before has it.
-pub first_there : (n : ℕ) (ns : Members) (k : List ℕ) (u : Tree) (more : Members) → behind_first n ns ≡ member k u more → among (first_keys n ns) k ≡ false → member_at ns k ≡ Some u
+first_there : (n : ℕ) (ns : Members) (k : List ℕ) (u : Tree) (more : Members) → behind_first n ns ≡ member k u more → among (first_keys n ns) k ≡ false → member_at ns k ≡ Some u
 first_there zero ns k u more is none = ap (λ l. member_at l k) is ∙ ap (λ b. cond b (Some u) (member_at more k)) (own_key k)
 first_there (suc n) no_members k u more is none = cc
 first_there (suc n) (member j v ns) k u more is none =
@@ -177,10 +181,6 @@ first_there (suc n) (member j v ns) k u more is none =
 pub or_agrees : (p : Bool) (k : List ℕ) (t : Tree) (ns : Members) (o : Option Tree) → (p ≡ false → o ≡ member_at ns k) → (p || next_alike t o) ≡ (p || agrees k t ns)
 or_agrees true k t ns o h = refl
 or_agrees false k t ns o h = next_agrees k t ns o (h refl)
-
--- the keys in order
-abbrev pub keys_of : Members → List (List ℕ)
-keys_of ms = map (λ (p : List ℕ × Tree). p.0) (member_pairs ms)
 
 pub key_next : (n : ℕ) (ms : Members) (k : List ℕ) (ks : List (List ℕ)) → keys_of (behind_first n ms) ≡ k ∷ ks → (first_keys (suc n) ms ≡ first_keys n ms ++ k ∷ []) × (keys_of (behind_first (suc n) ms) ≡ ks)
 key_next zero no_members k ks h = cc
@@ -208,15 +208,12 @@ pub own_keys : (ms : Members) → all_found (keys_of ms) ms ≡ true
 own_keys ms = found_within ms ms ∙ within_itself ms
 
 -- Lists of other lengths aren't alike.
-other_items : (ts us : Items) → (items_len ts ≡ items_len us → ⊥) → alike_items (keep_items ts) (keep_items us) ≡ false
-other_items no_items no_items n = absurd (n refl)
-other_items no_items (item u us) n = refl
-other_items (item t ts) no_items n = refl
-other_items (item t ts) (item u us) n =
-    ap (λ b. alike (keep t) (keep u) && b) (other_items ts us (λ e. n (ap suc e))) ∙ and-false (alike (keep t) (keep u))
-
 pub other_lengths : (ts us : Items) → (items_len ts ≡ items_len us → ⊥) → kept_alike (list ts) (list us) ≡ false
-other_lengths = other_items
+other_lengths no_items no_items n = absurd (n refl)
+other_lengths no_items (item u us) n = refl
+other_lengths (item t ts) no_items n = refl
+other_lengths (item t ts) (item u us) n =
+    ap (λ b. alike (keep t) (keep u) && b) (other_lengths ts us (λ e. n (ap suc e))) ∙ and-false (alike (keep t) (keep u))
 
 -- the values in order
 abbrev pub values_of : Members → List Tree
@@ -251,7 +248,7 @@ some_parts : {A : Type 0} {x y : A} → Some x ≡ Some y → x ≡ y
 some_parts e = cc
 
 -- what an iterator of keys gave, and what it has left
-abbrev pub GivesKey : {A : Type 0} → (A → List ℕ) → Option A → List (List ℕ) → List (List ℕ) → Type 0
+abbrev GivesKey : {A : Type 0} → (A → List ℕ) → Option A → List (List ℕ) → List (List ℕ) → Type 0
 GivesKey text r ws vs = MatchOption r ((ws ≡ []) × (vs ≡ [])) (λ k. ws ≡ text k ∷ vs)
 
 -- Where the next keys on both sides are equal, the front with the same keys is longer by one.

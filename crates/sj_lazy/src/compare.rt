@@ -1,8 +1,8 @@
 //! Comparisons of lazy values. They take no memory.
 //!
 //! Two documents are compared by `==` of documents. A part of a tape is walked through, and its repeated keys are passed
-//! over. That takes time in proportion to what is compared where the members come in the same order on both sides. Where they
-//! don't, keys are looked up.
+//! over. That takes time in proportion to what is compared where the members come in the same order on both sides and no key
+//! is repeated. Otherwise keys are looked up.
 ghost use Rattle.std.specs.Prelude.{◌≡◌, option_map};
 ghost use Rattle.std.specs.Cmp.{on_equiv, partial_equiv_from_equiv};
 ghost use Rattle.std.specs.Ordering.{on};
