@@ -303,9 +303,12 @@ fn display_texts(rt: HostRuntime) {
         fault: CommandFault::NoName,
     };
     for (fault, text) in &[
-        (ScriptFault::Json(Error::generic(ErrorType::Eof)), "Json"),
+        (
+            ScriptFault::Json(Error::generic(ErrorType::Eof)),
+            "Eof at character 0",
+        ),
         (ScriptFault::NotAnArray, "NotAnArray"),
-        (no_name, "Command"),
+        (no_name, "command 0: NoName"),
         (ScriptFault::Memory, "Memory"),
     ] {
         expect_display(&rt, rt.alloc(), fault, text);
