@@ -13,6 +13,7 @@ use Rattle.sj_base.proofs.Keeping.{keeps_once}
 use Rattle.sj_documents.specs.Inverse.{Change, back}
 use Rattle.sj_documents.specs.Inverses.{Settles, TakesBack}
 use Rattle.sj_documents.specs.declared.inverse.Inverse.{Inverse}
+use Rattle.sj_documents.specs.declared.inverse.Undo.{Undo}
 use Rattle.sj_documents.specs.Step.{Rewrite, from_start, from_write, write_at}
 use Rattle.sj_documents.specs.inside.KeptChanges.{IsKeptChange}
 use Rattle.sj_documents.specs.inside.LazyDocuments.{RepeatsNoKey}
@@ -30,9 +31,9 @@ upgrade_keeps (lazy.Value (Owned e)) d r h = ap document_tree h ∙ sym (kept-fo
 made_kept : (v : Value) (d : Document) → RepeatsNoKey v → Upgrades v d → IsKept (document_tree d)
 made_kept v d r h = subst IsKept (sym (upgrade_keeps v d r h)) (keeps_once (lazy_tree v))
 
-module _ {E : Type 0} (old new : List ℕ) (path : List Part) (change : Rewrite) (undo : Tree → Option Tree → Change) where
+module _ {E : Type 0} (how : Undo) (old new : List ℕ) (path : List Part) (change : Rewrite) (inversion : Tree → Option Tree → Change) where
   -- A write on a kept tree leaves a kept tree, also where memory is lacking.
-  pub settles_kept : (r : Result (Option Inverse) E) (t u : Tree) → StaysKept change → IsKept t → Settles r old new from_start t u path change (undo t) → IsKept u
+  pub settles_kept : (r : Result (Option Inverse) E) (t u : Tree) → StaysKept change → IsKept t → Settles how r old new from_start t u path change (inversion t) → IsKept u
   settles_kept (Ok inverse) t u fine kept h = subst IsKept (sym h.1) (settled_kept t [] path change (write_at t path change) refl fine kept tt).0
   settles_kept (Err e) t u fine kept h = elim h.1 [
     | inl same ↦ subst IsKept (sym same) kept
@@ -43,15 +44,15 @@ module _ {E : Type 0} (old new : List ℕ) (path : List Part) (change : Rewrite)
   ]
 
   -- What such a write on what is kept of a tree leaves is what the form `Lazy` leaves of that tree.
-  pub settles_lazy : (r : Result (Option Inverse) E) (t d u : Tree) → d ≡ keep t → Settles r old new from_start d u path change (undo d) → Settles r old new from_write t u path change (undo (keep t))
-  settles_lazy (Ok inverse) t d u is h = subst (λ x. Settles {E = E} (Ok inverse) old new from_start x u path change (undo x)) is h
+  pub settles_lazy : (r : Result (Option Inverse) E) (t d u : Tree) → d ≡ keep t → Settles how r old new from_start d u path change (inversion d) → Settles how r old new from_write t u path change (inversion (keep t))
+  settles_lazy (Ok inverse) t d u is h = subst (λ x. Settles {E = E} how (Ok inverse) old new from_start x u path change (inversion x)) is h
   settles_lazy (Err e) t d u is h =
-      let k = subst (λ x. Settles {E = E} (Err e) old new from_start x u path change (undo x)) is h in
+      let k = subst (λ x. Settles {E = E} how (Err e) old new from_start x u path change (inversion x)) is h in
       (k.0, elim k.1 [ inl same ↦ inr (inl same) | inr rest ↦ inr rest ])
 
-  module _ (value : Value) (d e : Document) (r : Result (Option Inverse) E) (once : RepeatsNoKey value) (made : Upgrades value d) (wrote : Settles r old new from_start (document_tree d) (document_tree e) path change (undo (document_tree d))) where
+  module _ (value : Value) (d e : Document) (r : Result (Option Inverse) E) (once : RepeatsNoKey value) (made : Upgrades value d) (wrote : Settles how r old new from_start (document_tree d) (document_tree e) path change (inversion (document_tree d))) where
     -- a value after a write on the document that was made of it
-    pub settles_value : Settles r old new from_write (lazy_tree value) (document_tree e) path change (undo (keep (lazy_tree value)))
+    pub settles_value : Settles how r old new from_write (lazy_tree value) (document_tree e) path change (inversion (keep (lazy_tree value)))
     settles_value = settles_lazy r (lazy_tree value) (document_tree d) (document_tree e) (upgrade_keeps value d once made) wrote
 
     pub settles_value_kept : StaysKept change → is_kept (document_tree e) ≡ true

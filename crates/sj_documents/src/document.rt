@@ -14,7 +14,7 @@ ghost use Rattle.sj_scripts.specs.Script.{path_view};
 ghost use Rattle.sj_base.specs.Output.{AppendsOrLeaves};
 
 use crate::edit::{ScriptText, Write, edit_at, is_within, is_within_below};
-use crate::inverse::Inverse;
+use crate::inverse::{Inverse, Undo, WriteResult};
 use crate::reads::{contains_at, find, len_at, put_answer, put_found, put_keys_at, type_at};
 use sj_base::put_string;
 use sj_object::ObjectKey;
@@ -26,9 +26,9 @@ use std::alloc::{AllocError, Global};
 /// nothing.
 ///
 /// The write calls are `insert`, `remove`, `push`, `pop` and `set_at`. Those that take `depth` refuse a value that would nest
-/// more levels than that in the document. Each returns what takes the write back, or `None` if it is refused. After an
-/// error the document is unchanged, or the write has been made in full, or, in the form `Lazy`, only the repeated members have
-/// been dropped.
+/// more levels than that in the document. With `Undo::Possible` each returns what takes the write back, or `None` if it is
+/// refused. With `Undo::Impossible` it returns `None`, refused or not. After an error the document is unchanged, or the write has
+/// been made in full, or, in the form `Lazy`, only the repeated members have been dropped.
 pub trait Document {
     // The tree that the document stands for.
     ghost tree: { Self → Tree };
@@ -94,9 +94,10 @@ pub trait Document {
         key: &str,
         value: &ScriptValue,
         depth: usize,
+        undo: Undo,
         out: &mut Vec<u8>,
-    ) -> Result<Option<Inverse>, AllocError>
-        ensures { Settles result out.old.items out.new.items keeping (tree self.old) (tree self.new) (path_view path.now)
+    ) -> WriteResult
+        ensures { Settles undo result out.old.items out.new.items keeping (tree self.old) (tree self.new) (path_view path.now)
             (insertion (fits_below (path_view path.now) (owned_tree value.now.value) depth) key.now (owned_tree value.now.value))
             (insertion_back key.now) };
 
@@ -105,13 +106,8 @@ pub trait Document {
     /// # Errors
     ///
     /// `AllocError` if there is no memory for the inverse, the reply or, in the form `Lazy`, the document that is built.
-    fn remove(
-        &mut self,
-        path: &[PathPart],
-        key: &str,
-        out: &mut Vec<u8>,
-    ) -> Result<Option<Inverse>, AllocError>
-        ensures { Settles result out.old.items out.new.items keeping (tree self.old) (tree self.new) (path_view path.now)
+    fn remove(&mut self, path: &[PathPart], key: &str, undo: Undo, out: &mut Vec<u8>) -> WriteResult
+        ensures { Settles undo result out.old.items out.new.items keeping (tree self.old) (tree self.new) (path_view path.now)
             (removal key.now)
             (removal_back (place_at (base (tree self.old) keeping) (path_view path.now) key.now) key.now) };
 
@@ -126,9 +122,10 @@ pub trait Document {
         path: &[PathPart],
         value: &ScriptValue,
         depth: usize,
+        undo: Undo,
         out: &mut Vec<u8>,
-    ) -> Result<Option<Inverse>, AllocError>
-        ensures { Settles result out.old.items out.new.items keeping (tree self.old) (tree self.new) (path_view path.now)
+    ) -> WriteResult
+        ensures { Settles undo result out.old.items out.new.items keeping (tree self.old) (tree self.new) (path_view path.now)
             (pushing (fits_below (path_view path.now) (owned_tree value.now.value) depth) (owned_tree value.now.value))
             (λ _. drop_item) };
 
@@ -137,8 +134,8 @@ pub trait Document {
     /// # Errors
     ///
     /// `AllocError` if there is no memory for the inverse, the reply or, in the form `Lazy`, the document that is built.
-    fn pop(&mut self, path: &[PathPart], out: &mut Vec<u8>) -> Result<Option<Inverse>, AllocError>
-        ensures { Settles result out.old.items out.new.items keeping (tree self.old) (tree self.new) (path_view path.now)
+    fn pop(&mut self, path: &[PathPart], undo: Undo, out: &mut Vec<u8>) -> WriteResult
+        ensures { Settles undo result out.old.items out.new.items keeping (tree self.old) (tree self.new) (path_view path.now)
             popping popping_back };
 
     /// Replaces the value that the path selects. Appends the reply to the command `set`.
@@ -152,9 +149,10 @@ pub trait Document {
         path: &[PathPart],
         value: &ScriptValue,
         depth: usize,
+        undo: Undo,
         out: &mut Vec<u8>,
-    ) -> Result<Option<Inverse>, AllocError>
-        ensures { Settles result out.old.items out.new.items keeping (tree self.old) (tree self.new) (path_view path.now)
+    ) -> WriteResult
+        ensures { Settles undo result out.old.items out.new.items keeping (tree self.old) (tree self.new) (path_view path.now)
             (setting (fits (path_view path.now) (owned_tree value.now.value) depth) (owned_tree value.now.value))
             setting_back };
 
@@ -217,21 +215,26 @@ impl<K: ScriptText<D> + Drop, D: Literal + Drop> Document for Value<K, D> {
         key: &str,
         value: &ScriptValue,
         depth: usize,
+        undo: Undo,
         out: &mut Vec<u8>,
-    ) -> Result<Option<Inverse>, AllocError> {
+    ) -> WriteResult {
         let fits = is_within_below(path, value.depth(), depth);
         let value = value.value();
-        make_write(self, path, Write::Insert { key, value, fits }, out)
+        make_write(self, path, Write::Insert { key, value, fits }, undo, out)
     }
 
     fn remove(
         &mut self,
         path: &[PathPart],
         key: &str,
+        undo: Undo,
         out: &mut Vec<u8>,
-    ) -> Result<Option<Inverse>, AllocError> {
-        let place = place_at(self, path, key);
-        make_write(self, path, Write::Remove { key, place }, out)
+    ) -> WriteResult {
+        let place = match undo {
+            Undo::Possible => place_at(self, path, key),
+            Undo::Impossible => 0,
+        };
+        make_write(self, path, Write::Remove { key, place }, undo, out)
     }
 
     fn push(
@@ -239,15 +242,16 @@ impl<K: ScriptText<D> + Drop, D: Literal + Drop> Document for Value<K, D> {
         path: &[PathPart],
         value: &ScriptValue,
         depth: usize,
+        undo: Undo,
         out: &mut Vec<u8>,
-    ) -> Result<Option<Inverse>, AllocError> {
+    ) -> WriteResult {
         let fits = is_within_below(path, value.depth(), depth);
         let value = value.value();
-        make_write(self, path, Write::Push { value, fits }, out)
+        make_write(self, path, Write::Push { value, fits }, undo, out)
     }
 
-    fn pop(&mut self, path: &[PathPart], out: &mut Vec<u8>) -> Result<Option<Inverse>, AllocError> {
-        make_write(self, path, Write::Pop, out)
+    fn pop(&mut self, path: &[PathPart], undo: Undo, out: &mut Vec<u8>) -> WriteResult {
+        make_write(self, path, Write::Pop, undo, out)
     }
 
     fn set_at(
@@ -255,11 +259,12 @@ impl<K: ScriptText<D> + Drop, D: Literal + Drop> Document for Value<K, D> {
         path: &[PathPart],
         value: &ScriptValue,
         depth: usize,
+        undo: Undo,
         out: &mut Vec<u8>,
-    ) -> Result<Option<Inverse>, AllocError> {
+    ) -> WriteResult {
         let fits = is_within(path, value.depth(), depth);
         let value = value.value();
-        make_write(self, path, Write::Set { value, fits }, out)
+        make_write(self, path, Write::Set { value, fits }, undo, out)
     }
 
     fn take_back(&mut self, alloc: Global, inverse: Inverse) -> Result<bool, AllocError> {
@@ -280,29 +285,47 @@ impl<K: ScriptText<D> + Drop, D: Literal + Drop> Document for Value<K, D> {
     }
 }
 
-/// Makes a write, appends its reply, and returns what takes it back.
+/// Makes a write and appends its reply. With `Undo::Possible` returns what takes it back, unless it is refused.
 fn make_write<K: ScriptText<D> + Drop, D: Literal + Drop>(
     document: &mut Value<K, D>,
     path: &[PathPart],
     write: Write<'_>,
+    undo: Undo,
     out: &mut Vec<u8>,
-) -> Result<Option<Inverse>, AllocError>
-    ensures { Settles result out.old.items out.new.items from_start (value_tree K.text D.literal document.old) (value_tree K.text D.literal document.new)
+) -> WriteResult
+    ensures { Settles undo result out.old.items out.new.items from_start (value_tree K.text D.literal document.old) (value_tree K.text D.literal document.new)
         (path_view path.now) (rewrite_of write.entry) (back_of write.entry) }
 {
     let alloc = *out.allocator();
-    match edit_at(alloc, document, path, write) {
-        Ok(found) => {
+    let found = match edit_at(alloc, document, path, write) {
+        Ok(found) => found,
+        Err(MemoryOr::Refused(refusal)) => {
+            put_string(out, refusal.name())?;
+            return Ok(None);
+        }
+        Err(MemoryOr::Memory) => return Err(AllocError),
+    };
+    match undo {
+        Undo::Possible => {
             let found = own_found(alloc, found)?;
             let inverse = put_write_reply(path, write, found, out)?;
             Ok(Some(inverse))
         }
-        Err(MemoryOr::Refused(refusal)) => {
-            put_string(out, refusal.name())?;
+        Undo::Impossible => {
+            put_taken(found, out)?;
             Ok(None)
         }
-        Err(MemoryOr::Memory) => Err(AllocError),
     }
+}
+
+/// Appends the reply to a write that was made. `found`, the value that it replaced or took out, is dropped.
+fn put_taken<K: ScriptText<D> + Drop, D: Literal + Drop>(
+    found: Option<Value<K, D>>,
+    out: &mut Vec<u8>,
+) -> Result<(), AllocError>
+    ensures { AppendsOrLeaves result out.old.items out.new.items (text (reply_of (option_map (value_tree K.text D.literal) found))) }
+{
+    put_found(found.as_ref(), out)
 }
 
 /// Appends the reply to a write that was made, and returns what takes it back. `found` is the value that it replaced or took out.

@@ -94,7 +94,7 @@ pub(crate) enum Write<'e> {
     },
     Remove {
         key: &'e str,
-        /// The place of the key, if it is there.
+        /// The place of the key, if it is there, for the inverse. Any number if none is made.
         place: usize,
     },
     Push {

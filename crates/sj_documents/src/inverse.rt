@@ -11,6 +11,19 @@ use sj_owned::OwnedValue;
 use sj_scripts::PathPart;
 use std::alloc::{AllocError, Global};
 
+/// Whether a write may be taken back later.
+#[derive(Clone, Copy, Debug, PartialEq, Eq)]
+pub enum Undo {
+    /// It may. The write call makes its [`Inverse`]: it copies the path, and the key if there is one, and keeps the value that
+    /// was replaced or taken out.
+    Possible,
+    /// It won't be. The write call makes no inverse, and so takes less time and memory.
+    Impossible,
+}
+
+/// What a write call returns: what takes the write back, if that is asked for and the write isn't refused, and else `None`.
+pub type WriteResult = Result<Option<Inverse>, AllocError>;
+
 /// What takes a write back: a change of the part that the path of the write selects.
 #[derive(Debug, Drop)]
 pub struct Inverse {

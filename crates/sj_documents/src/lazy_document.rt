@@ -7,7 +7,7 @@ ghost use Rattle.sj_documents.specs.Step.{from_write};
 ghost use Rattle.sj_documents.specs.inside.LazyDocuments.{RepeatsNoKey};
 
 use crate::document::Document;
-use crate::inverse::Inverse;
+use crate::inverse::{Inverse, Undo, WriteResult};
 use crate::reads::{contains_at, find, len_at, put_answer, put_found, put_keys_at, type_at};
 use sj_lazy::Value as LazyValue;
 use sj_scripts::{PathPart, ScriptValue};
@@ -81,20 +81,22 @@ impl Document for LazyDocument<'_, '_> {
         key: &str,
         value: &ScriptValue,
         depth: usize,
+        undo: Undo,
         out: &mut Vec<u8>,
-    ) -> Result<Option<Inverse>, AllocError> {
+    ) -> WriteResult {
         let document = self.value.value_mut(*out.allocator())?;
-        Document::insert(document, path, key, value, depth, out)
+        Document::insert(document, path, key, value, depth, undo, out)
     }
 
     fn remove(
         &mut self,
         path: &[PathPart],
         key: &str,
+        undo: Undo,
         out: &mut Vec<u8>,
-    ) -> Result<Option<Inverse>, AllocError> {
+    ) -> WriteResult {
         let document = self.value.value_mut(*out.allocator())?;
-        Document::remove(document, path, key, out)
+        Document::remove(document, path, key, undo, out)
     }
 
     fn push(
@@ -102,15 +104,16 @@ impl Document for LazyDocument<'_, '_> {
         path: &[PathPart],
         value: &ScriptValue,
         depth: usize,
+        undo: Undo,
         out: &mut Vec<u8>,
-    ) -> Result<Option<Inverse>, AllocError> {
+    ) -> WriteResult {
         let document = self.value.value_mut(*out.allocator())?;
-        Document::push(document, path, value, depth, out)
+        Document::push(document, path, value, depth, undo, out)
     }
 
-    fn pop(&mut self, path: &[PathPart], out: &mut Vec<u8>) -> Result<Option<Inverse>, AllocError> {
+    fn pop(&mut self, path: &[PathPart], undo: Undo, out: &mut Vec<u8>) -> WriteResult {
         let document = self.value.value_mut(*out.allocator())?;
-        Document::pop(document, path, out)
+        Document::pop(document, path, undo, out)
     }
 
     fn set_at(
@@ -118,10 +121,11 @@ impl Document for LazyDocument<'_, '_> {
         path: &[PathPart],
         value: &ScriptValue,
         depth: usize,
+        undo: Undo,
         out: &mut Vec<u8>,
-    ) -> Result<Option<Inverse>, AllocError> {
+    ) -> WriteResult {
         let document = self.value.value_mut(*out.allocator())?;
-        Document::set_at(document, path, value, depth, out)
+        Document::set_at(document, path, value, depth, undo, out)
     }
 
     fn take_back(&mut self, alloc: Global, inverse: Inverse) -> Result<bool, AllocError> {

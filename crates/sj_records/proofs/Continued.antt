@@ -9,7 +9,8 @@ use Rattle.sj_base.proofs.Trees.{only_trees}
 use Rattle.sj_scripts.specs.Command.{Step, get, contains, type_of, len, keys, insert, remove, push, pop, set_at, undo, reload, reload_pp}
 use Rattle.sj_documents.specs.Step.{Job, State, Word, Rewrite, begun, start, base, reply_of, contains_reply, type_reply, len_reply, keys_reply, reload_reply, write_at, settled, rewritten, step, replies, after}
 use Rattle.sj_records.specs.Record.{record_of, outcome}
-use Rattle.sj_records.specs.Laws.{with_script, is_undo, ScriptsContinue}
+use Rattle.sj_records.specs.History.{is_undo}
+use Rattle.sj_records.specs.Laws.{with_script, ScriptsContinue}
 use Rattle.sj_records.proofs.Accepted.{accepted_sound}
 use Rattle.sj_records.proofs.KeptAlong.{taken_after}
 use Rattle.sj_records.proofs.Readable.{readable_after, started_again}

@@ -1,8 +1,9 @@
 -- Commands on a document whose writes can be taken back.
 use Rattle.std.proofs.Common.{◌≡◌, ℕ, Bool, true, false, List, [], ◌∷◌, ◌++◌, Option, Some, None, Result, Ok, Err, refl, sym, ap, subst, ◌∙◌, inl, inr}
-use Rattle.std.specs.Prelude.{map, reverse, is_some, option_map, option_and_then, IsErr}
+use Rattle.std.specs.Prelude.{◌⊎◌, map, reverse, is_some, option_map, option_and_then, IsErr}
 use Rattle.std.specs.Option.{unwrap_or}
 use Rattle.std.specs.List.{AllByRecursion}
+use Rattle.std.proofs.lemmas.Bool.{and_parts}
 use Rattle.std.proofs.lemmas.List.{reverse-append}
 use Rattle.std.proofs.lemmas.Option.{none-some, same_Some}
 use Rattle.sj_base.specs.Keep.{keep, IsKept}
@@ -11,7 +12,7 @@ use Rattle.sj_base.specs.Path.{Part, at}
 use Rattle.sj_base.specs.Text.{text, pretty}
 use Rattle.sj_base.specs.Tree.{Tree, boolean}
 use Rattle.sj_base.proofs.Keeping.{keeps_once}
-use Rattle.sj_scripts.specs.Command.{get, contains, type_of, len, keys, insert, remove, push, pop, set_at, undo, reload, reload_pp}
+use Rattle.sj_scripts.specs.Command.{Step, get, contains, type_of, len, keys, insert, remove, push, pop, set_at, undo, reload, reload_pp}
 use Rattle.sj_documents.specs.Inverse.{Change, drop_item, place_in, place_at, back, insertion_back, removal_back, popping_back, setting_back}
 use Rattle.sj_documents.specs.Inverses.{change_view, HandsOut, TakesBack}
 use Rattle.sj_scripts.specs.Script.{path_view, command_view}
@@ -19,29 +20,34 @@ use Rattle.sj_documents.specs.Step.{Job, Keeping, begun, from_start, from_write,
 use Rattle.std.specs.declared.alloc.AllocError.{AllocError}
 use Rattle.sj_scripts.specs.Values.{owned_tree}
 use Rattle.sj_documents.specs.declared.inverse.Inverse.{Inverse}
+use Rattle.sj_documents.specs.declared.inverse.Undo.{Undo}
+use Rattle.sj_documents.specs.declared.inverse.Undo.TheVariants.{Possible, Impossible}
 use Rattle.sj_scripts.specs.declared.script.Command.{Command}
-use Rattle.sj_scripts.specs.declared.script.Command.TheVariants.{Get, Contains, TypeOf, Len, Keys, Insert, Remove, Push, Pop, SetAt, Undo, Reload, ReloadPp}
+use Rattle.sj_scripts.specs.declared.script.Command.TheVariants.{Get, Contains, TypeOf, Len, Keys, Insert, Remove, Push, Pop, SetAt, Undo as UndoNewest, Reload, ReloadPp}
 use Rattle.sj_documents.proofs.Changes.{same_ok}
 use Rattle.sj_documents.proofs.KeptChanges.{StaysKept, settled_kept, insertion_kept, removal_kept, pushing_kept, popping_kept, setting_kept}
 use Rattle.sj_scripts.proofs.KeptTrees.{kept-found}
 use Rattle.sj_documents.proofs.MadeChanges.{same_found}
-use Rattle.sj_records.specs.History.{added, WriteLeaves, UndoLeaves, inverse_view, bases_from, bases, StandFor}
+use Rattle.sj_records.specs.History.{added, WriteLeaves, UndoLeaves, inverse_view, bases_from, bases, BringsBack, StandFor, may_run}
+use Rattle.sj_records.specs.inside.Undoing.{all_may_run}
 use Rattle.sj_records.specs.Laws.{Undoes, WritesKept, HistoriesStand}
 use Rattle.sj_records.proofs.Inverses.{insert_undone, remove_undone, push_undone, pop_undone, set_undone}
 
 -- ---- what a write leaves
 
 -- The state n comes after a write on the base b, behind these bases: a refused one leaves b and adds no base. Any other adds b,
--- and is taken back by the inverse, if b repeats no key.
-abbrev IsWritten : Option Inverse → Tree → List Tree → State → Type 0
-IsWritten None b bases n = n ≡ record { tree = b; bases = bases }
-IsWritten (Some inverse) b bases n =
+-- and is taken back by the inverse, if b repeats no key. Where it isn't to be taken back, there is no inverse.
+abbrev IsWritten : Undo → Option Inverse → Tree → List Tree → State → Type 0
+IsWritten Possible None b bases n = n ≡ record { tree = b; bases = bases }
+IsWritten Possible (Some inverse) b bases n =
     let i = inverse_view inverse in
     (n.bases ≡ b ∷ bases) × (IsKept b → (back i.0 i.1 n.tree ≡ Some b) × IsKept n.tree)
+IsWritten Impossible inverse b bases n =
+    (inverse ≡ None) × ((n ≡ record { tree = b; bases = bases }) ⊎ ((n.bases ≡ b ∷ bases) × (IsKept b → IsKept n.tree)))
 
 module _ (b : Tree) (path : List Part) (change : Rewrite) (inverse_of : Tree → Option Tree → Change) (takes_back : Undoes path change inverse_of) (fine : StaysKept change)
     (handed : Option Tree → Change) (agree : (part : Tree) (found : Option Tree) → at b path ≡ Some part → handed found ≡ inverse_of part found) where
-  undone_write : (inverse : Inverse) (w : Tree × Tree) → write_at b path change ≡ Ok w → HandsOut (Some inverse) path (Ok w) handed → IsKept b
+  undone_write : (inverse : Inverse) (w : Tree × Tree) → write_at b path change ≡ Ok w → HandsOut Possible (Some inverse) path (Ok w) handed → IsKept b
       → (back (path_view inverse.path.items) (change_view inverse.change) w.1 ≡ Some b) × IsKept w.1
   undone_write inverse w written hands kept =
       let law = takes_back b w.0 w.1 kept written in
@@ -52,11 +58,13 @@ module _ (b : Tree) (path : List Part) (change : Rewrite) (inverse_of : Tree →
         (settled_kept b [] path change (Ok w) written fine kept tt).0,
       )
 
-  written_state : (inverse : Option Inverse) (bases : List Tree) (r : Result (Tree × Tree) Word) → write_at b path change ≡ r → HandsOut inverse path r handed → IsWritten inverse b bases (settled b bases r).1
-  written_state None bases (Err word) written hands = refl
-  written_state None bases (Ok w) written hands = absurd cc
-  written_state (Some inverse) bases (Err word) written hands = let wrong = hands.1.2 in absurd cc
-  written_state (Some inverse) bases (Ok w) written hands = (refl, λ kept. undone_write inverse w written hands kept)
+  written_state : (how : Undo) (inverse : Option Inverse) (bases : List Tree) (r : Result (Tree × Tree) Word) → write_at b path change ≡ r → HandsOut how inverse path r handed → IsWritten how inverse b bases (settled b bases r).1
+  written_state Possible None bases (Err word) written hands = refl
+  written_state Possible None bases (Ok w) written hands = absurd cc
+  written_state Possible (Some inverse) bases (Err word) written hands = let wrong = hands.1.2 in absurd cc
+  written_state Possible (Some inverse) bases (Ok w) written hands = (refl, λ kept. undone_write inverse w written hands kept)
+  written_state Impossible inverse bases (Err word) written hands = (hands, inl refl)
+  written_state Impossible inverse bases (Ok w) written hands = (hands, inr (refl, λ kept. (settled_kept b [] path change (Ok w) written fine kept tt).0))
 
 same_reply : (b : Tree) (bases : List Tree) (r : Result (Tree × Tree) Word) → (settled b [] r).0 ≡ (settled b bases r).0
 same_reply b bases (Ok w) = refl
@@ -88,7 +96,11 @@ base_starts : (keeping : Keeping) (t : Tree) → start t keeping ≡ t → start
 base_starts from_start t kept = kept
 base_starts from_write t kept = refl
 
-module _ (keeping : Keeping) (t u : Tree) (history : List Inverse) (s : State) (stand : StandFor keeping t history s) where
+brings_base : (how : Undo) (history : List Inverse) (t b : Tree) (bs : List Tree) → keep b ≡ keep t → BringsBack how history t bs → BringsBack how history b bs
+brings_base Possible history t b bs same brings = ap (λ v. bases_from (reverse (map inverse_view history)) v) same ∙ brings
+brings_base Impossible history t b bs same brings = tt
+
+module _ (how : Undo) (keeping : Keeping) (t u : Tree) (history : List Inverse) (s : State) (stand : StandFor how keeping t history s) where
   abbrev b : Tree
   b = base t keeping
 
@@ -96,16 +108,20 @@ module _ (keeping : Keeping) (t u : Tree) (history : List Inverse) (s : State) (
   b_kept = subst IsKept (sym (base_is keeping t stand.1)) (keeps_once t)
 
   -- after a write that was refused
-  pub stands_refused : (n : State) → u ≡ n.tree → IsWritten None b s.bases n → StandFor keeping u history n
+  stands_refused : (n : State) → u ≡ n.tree → n ≡ record { tree = b; bases = s.bases } → StandFor how keeping u history n
   stands_refused n is written =
       let same : b ≡ u = sym (ap (λ (m : State). m.tree) written) ∙ sym is in
-      let all : StandFor keeping b history (record { tree = b; bases = s.bases }) = (refl, base_starts keeping t stand.1, stand.2, ap (λ v. bases_from (reverse (map inverse_view history)) v) (b_kept ∙ base_is keeping t stand.1) ∙ stand.3) in
-      subst (λ (v : Tree). StandFor keeping v history n) same (subst (λ (m : State). StandFor keeping b history m) (sym written) all)
+      let all : StandFor how keeping b history (record { tree = b; bases = s.bases }) =
+      (refl, base_starts keeping t stand.1, stand.2, brings_base how history t b s.bases (b_kept ∙ base_is keeping t stand.1) stand.3) in
+      subst (λ (v : Tree). StandFor how keeping v history n) same (subst (λ (m : State). StandFor how keeping b history m) (sym written) all)
 
+module _ (keeping : Keeping) (t u : Tree) (history : List Inverse) (s : State) where
   -- after one that wasn't
-  pub stands_written : (inverse : Inverse) (n : State) → u ≡ n.tree → IsWritten (Some inverse) b s.bases n → StandFor keeping u (history ++ inverse ∷ []) n
-  stands_written inverse n is written =
-      let taken = written.1 b_kept in
+  stands_written : (inverse : Inverse) (n : State) → StandFor Possible keeping t history s → u ≡ n.tree → IsWritten Possible (Some inverse) (base t keeping) s.bases n → StandFor Possible keeping u (history ++ inverse ∷ []) n
+  stands_written inverse n stand is written =
+      let b = base t keeping in
+      let kept : IsKept b = b_kept Possible keeping t u history s stand in
+      let taken = written.1 kept in
       let u_kept : IsKept u = subst IsKept (sym is) taken.1 in
       let i = inverse_view inverse in
       let rest : bases_from (reverse (map inverse_view history)) b ≡ Some s.bases = ap (λ v. bases_from (reverse (map inverse_view history)) v) (base_is keeping t stand.1) ∙ stand.3 in
@@ -115,16 +131,31 @@ module _ (keeping : Keeping) (t u : Tree) (history : List Inverse) (s : State) (
       ∙ ap (λ o. option_and_then (λ c. option_map (λ cs. c ∷ cs) (bases_from (reverse (map inverse_view history)) c)) o) first
       ∙ ap (option_map (λ cs. b ∷ cs)) rest
       ∙ ap (λ cs. Some cs) (sym written.0) in
-      (sym is, starts keeping u u_kept, subst (λ (cs : List Tree). AllByRecursion IsKept cs) (sym written.0) (b_kept, stand.2), all)
+      (sym is, starts keeping u u_kept, subst (λ (cs : List Tree). AllByRecursion IsKept cs) (sym written.0) (kept, stand.2), all)
+
+  -- after one that isn't to be taken back
+  stands_forgotten : (n : State) → StandFor Impossible keeping t history s → u ≡ n.tree → n.bases ≡ base t keeping ∷ s.bases → (IsKept (base t keeping) → IsKept n.tree) → StandFor Impossible keeping u history n
+  stands_forgotten n stand is added kept =
+      let first : IsKept (base t keeping) = b_kept Impossible keeping t u history s stand in
+      (sym is, starts keeping u (subst IsKept (sym is) (kept first)), subst (λ (cs : List Tree). AllByRecursion IsKept cs) (sym added) (first, stand.2), tt)
+
+  stands_after : (how : Undo) (inverse : Option Inverse) (n : State) → StandFor how keeping t history s → u ≡ n.tree → IsWritten how inverse (base t keeping) s.bases n → StandFor how keeping u (added history inverse) n
+  stands_after Possible None n stand is written = stands_refused Possible keeping t u history s stand n is written
+  stands_after Possible (Some inverse) n stand is written = stands_written inverse n stand is written
+  stands_after Impossible inverse n stand is written =
+      subst (λ o. StandFor Impossible keeping u (added history o) n) (sym written.0) (elim written.1 [
+        | inl same ↦ stands_refused Impossible keeping t u history s stand n is same
+        | inr more ↦ stands_forgotten n stand is more.0 more.1
+      ])
 
 -- ---- taking back
 
 -- nothing is left to take back
-pub stands_undone_none : (keeping : Keeping) (t : Tree) (s : State) → StandFor keeping t [] s → ((undone s.tree s.bases).0 ≡ boolean false) × StandFor keeping t [] (undone s.tree s.bases).1
+pub stands_undone_none : (keeping : Keeping) (t : Tree) (s : State) → StandFor Possible keeping t [] s → ((undone s.tree s.bases).0 ≡ boolean false) × StandFor Possible keeping t [] (undone s.tree s.bases).1
 stands_undone_none keeping t s stand =
     let none : [] ≡ s.bases = same_Some [] s.bases stand.3 in (
       ap (λ bs. (undone s.tree bs).0) (sym none),
-      subst (λ (bs : List Tree). StandFor keeping t [] (undone s.tree bs).1) none (stand.0, stand.1, tt, refl),
+      subst (λ (bs : List Tree). StandFor Possible keeping t [] (undone s.tree bs).1) none (stand.0, stand.1, tt, refl),
     )
 
 -- the bases of a history with a newest inverse
@@ -136,9 +167,9 @@ mapped : {A B : Type 0} (o : Option A) (f : A → B) (y : B) → option_map f o 
 mapped None f y e = absurd (none-some y e)
 mapped (Some x) f y e = (x, refl, same_Some (f x) y e)
 
-module _ (keeping : Keeping) (t u : Tree) (history : List Inverse) (inverse : Inverse) (s : State) (stand : StandFor keeping t (history ++ inverse ∷ []) s) where
+module _ (keeping : Keeping) (t u : Tree) (history : List Inverse) (inverse : Inverse) (s : State) (stand : StandFor Possible keeping t (history ++ inverse ∷ []) s) where
   pub stands_undone : (E : Type 0) (is_made : Bool) → TakesBack {E = E} (Ok is_made) keeping t u (path_view inverse.path.items) (change_view inverse.change)
-      → ((undone s.tree s.bases).0 ≡ boolean is_made) × StandFor keeping u history (undone s.tree s.bases).1
+      → ((undone s.tree s.bases).0 ≡ boolean is_made) × StandFor Possible keeping u history (undone s.tree s.bases).1
   stands_undone E is_made takes =
       let i = inverse_view inverse in
       let rest = reverse (map inverse_view history) in
@@ -150,73 +181,71 @@ module _ (keeping : Keeping) (t u : Tree) (history : List Inverse) (inverse : In
       let yes : true ≡ is_made = sym (takes.0 ∙ ap is_some on_base) in
       let is : u ≡ c = takes.1 ∙ ap (λ o. unwrap_or o (base t keeping)) on_base in
       let both = subst (λ (cs : List Tree). AllByRecursion IsKept cs) (sym behind.2) stand.2 in
-      let stands : StandFor keeping c history (record { tree = c; bases = behind.0 }) = (refl, starts keeping c both.0, both.1, ap (bases_from rest) both.0 ∙ behind.1) in (
+      let stands : StandFor Possible keeping c history (record { tree = c; bases = behind.0 }) = (refl, starts keeping c both.0, both.1, ap (bases_from rest) both.0 ∙ behind.1) in (
         ap (λ bs. (undone s.tree bs).0) (sym behind.2) ∙ ap boolean yes,
-        subst (λ (bs : List Tree). StandFor keeping u history (undone s.tree bs).1) behind.2 (subst (λ (v : Tree). StandFor keeping v history (record { tree = c; bases = behind.0 })) (sym is) stands),
+        subst (λ (bs : List Tree). StandFor Possible keeping u history (undone s.tree bs).1) behind.2 (subst (λ (v : Tree). StandFor Possible keeping v history (record { tree = c; bases = behind.0 })) (sym is) stands),
       )
 
 -- ---- each command
 
-module _ (keeping : Keeping) (t u : Tree) (history next : List Inverse) (old new : List ℕ) (s : State) (stand : StandFor keeping t history s) where
+module _ (how : Undo) (keeping : Keeping) (t u : Tree) (history next : List Inverse) (old new : List ℕ) (s : State) (stand : StandFor how keeping t history s) where
   -- the document and the history are as they were
-  same_stand : u ≡ t → next ≡ history → StandFor keeping u next s
-  same_stand is same = subst (λ (h : List Inverse). StandFor keeping u h s) (sym same) (subst (λ (v : Tree). StandFor keeping v history s) (sym is) stand)
+  same_stand : u ≡ t → next ≡ history → StandFor how keeping u next s
+  same_stand is same = subst (λ (h : List Inverse). StandFor how keeping u h s) (sym same) (subst (λ (v : Tree). StandFor how keeping v history s) (sym is) stand)
 
-  read_stands : (reply : Tree → Tree) → (new ≡ old ++ text (reply t)) × (u ≡ t) × (next ≡ history) → (new ≡ old ++ text (reply s.tree)) × StandFor keeping u next s
+  read_stands : (reply : Tree → Tree) → (new ≡ old ++ text (reply t)) × (u ≡ t) × (next ≡ history) → (new ≡ old ++ text (reply s.tree)) × StandFor how keeping u next s
   read_stands reply leaves = (leaves.0 ∙ ap (λ v. old ++ text (reply v)) (sym stand.0), same_stand leaves.1 leaves.2)
 
   module _ (path : List Part) (change : Rewrite) (inverse_of : Tree → Option Tree → Change) (takes_back : Undoes path change inverse_of) (fine : StaysKept change) (handed : Option Tree → Change)
       (agree : (part : Tree) (found : Option Tree) → at (base t keeping) path ≡ Some part → handed found ≡ inverse_of part found) where
     abbrev Leaves : Tree → Type 0
-    Leaves v = let n = settled (base v keeping) s.bases (write_at (base v keeping) path change) in (new ≡ old ++ text n.0) × StandFor keeping u next n.1
+    Leaves v = let n = settled (base v keeping) s.bases (write_at (base v keeping) path change) in (new ≡ old ++ text n.0) × StandFor how keeping u next n.1
 
-    stands_after : (inverse : Option Inverse) (n : State) → u ≡ n.tree → IsWritten inverse (base t keeping) s.bases n → StandFor keeping u (added history inverse) n
-    stands_after None n is written = stands_refused keeping t u history s stand n is written
-    stands_after (Some inverse) n is written = stands_written keeping t u history s stand inverse n is written
-
-    write_stands : WriteLeaves {E = AllocError} (Ok tt) keeping t u history next old new path change handed → Leaves s.tree
+    write_stands : WriteLeaves {E = AllocError} how (Ok tt) keeping t u history next old new path change handed → Leaves s.tree
     write_stands leaves =
         let inverse = leaves.0 in
         let settles = leaves.1 in
         let b = base t keeping in
         let r = write_at b path change in
-        let written = written_state b path change inverse_of takes_back fine handed agree inverse s.bases r refl settles.2 in
+        let written = written_state b path change inverse_of takes_back fine handed agree how inverse s.bases r refl settles.2 in
         let is : u ≡ (settled b s.bases r).1.tree = settles.1 ∙ same_tree b s.bases r in
-        let stands = stands_after inverse (settled b s.bases r).1 is written in
-        subst Leaves (sym stand.0) (settles.0 ∙ ap (λ reply. old ++ text reply) (same_reply b s.bases r), subst (λ (h : List Inverse). StandFor keeping u h (settled b s.bases r).1) (sym leaves.2) stands)
+        let stands = stands_after keeping t u history s how inverse (settled b s.bases r).1 stand is written in
+        subst Leaves (sym stand.0) (settles.0 ∙ ap (λ reply. old ++ text reply) (same_reply b s.bases r), subst (λ (h : List Inverse). StandFor how keeping u h (settled b s.bases r).1) (sym leaves.2) stands)
 
-  undo_stands : UndoLeaves {E = AllocError} (Ok tt) keeping t u history next old new → (new ≡ old ++ text (undone s.tree s.bases).0) × StandFor keeping u next (undone s.tree s.bases).1
+module _ (keeping : Keeping) (t u : Tree) (history next : List Inverse) (old new : List ℕ) (s : State) (stand : StandFor Possible keeping t history s) where
+  undo_stands : UndoLeaves {E = AllocError} (Ok tt) keeping t u history next old new → (new ≡ old ++ text (undone s.tree s.bases).0) × StandFor Possible keeping u next (undone s.tree s.bases).1
   undo_stands (inl leaves) =
-      let none = stands_undone_none keeping t s (subst (λ (h : List Inverse). StandFor keeping t h s) leaves.0 stand) in (
+      let none = stands_undone_none keeping t s (subst (λ (h : List Inverse). StandFor Possible keeping t h s) leaves.0 stand) in (
         leaves.3 ∙ ap (λ reply. old ++ text reply) (sym none.0),
-        subst (λ (h : List Inverse). StandFor keeping u h (undone s.tree s.bases).1) (sym leaves.1) (subst (λ (v : Tree). StandFor keeping v [] (undone s.tree s.bases).1) (sym leaves.2) none.1),
+        subst (λ (h : List Inverse). StandFor Possible keeping u h (undone s.tree s.bases).1) (sym leaves.1) (subst (λ (v : Tree). StandFor Possible keeping v [] (undone s.tree s.bases).1) (sym leaves.2) none.1),
       )
   undo_stands (inr leaves) =
       let inverse = leaves.0 in
       let is_made = leaves.1 in
-      let done = stands_undone keeping t u next inverse s (subst (λ (h : List Inverse). StandFor keeping t h s) leaves.2 stand) AllocError is_made leaves.3 in
+      let done = stands_undone keeping t u next inverse s (subst (λ (h : List Inverse). StandFor Possible keeping t h s) leaves.2 stand) AllocError is_made leaves.3 in
       (leaves.4 ∙ ap (λ reply. old ++ text reply) (sym done.0), done.1)
 
 pub histories_stand : HistoriesStand
-histories_stand keeping limit t u history next old new (get path) s kept leaves stand = read_stands keeping t u history next old new s stand (λ v. reply_of (at v path)) leaves
-histories_stand keeping limit t u history next old new (contains path k) s kept leaves stand = read_stands keeping t u history next old new s stand (λ v. contains_reply v path k) leaves
-histories_stand keeping limit t u history next old new (type_of path) s kept leaves stand = read_stands keeping t u history next old new s stand (λ v. type_reply v path) leaves
-histories_stand keeping limit t u history next old new (len path) s kept leaves stand = read_stands keeping t u history next old new s stand (λ v. len_reply v path) leaves
-histories_stand keeping limit t u history next old new (keys path) s kept leaves stand = read_stands keeping t u history next old new s stand (λ v. keys_reply v path) leaves
-histories_stand keeping limit t u history next old new (insert path k v) s kept leaves stand =
-    write_stands keeping t u history next old new s stand path _ _ (insert_undone path k v (fits_below path v limit)) (insertion_kept (fits_below path v limit) k v kept) (insertion_back k) (λ part found e. refl) leaves
-histories_stand keeping limit t u history next old new (remove path k) s kept leaves stand =
-    write_stands keeping t u history next old new s stand path _ _ (remove_undone path k) (removal_kept k) (removal_back (place_at (base t keeping) path k) k)
+histories_stand how keeping limit t u history next old new (get path) s kept may leaves stand = read_stands how keeping t u history next old new s stand (λ v. reply_of (at v path)) leaves
+histories_stand how keeping limit t u history next old new (contains path k) s kept may leaves stand = read_stands how keeping t u history next old new s stand (λ v. contains_reply v path k) leaves
+histories_stand how keeping limit t u history next old new (type_of path) s kept may leaves stand = read_stands how keeping t u history next old new s stand (λ v. type_reply v path) leaves
+histories_stand how keeping limit t u history next old new (len path) s kept may leaves stand = read_stands how keeping t u history next old new s stand (λ v. len_reply v path) leaves
+histories_stand how keeping limit t u history next old new (keys path) s kept may leaves stand = read_stands how keeping t u history next old new s stand (λ v. keys_reply v path) leaves
+histories_stand how keeping limit t u history next old new (insert path k v) s kept may leaves stand =
+    write_stands how keeping t u history next old new s stand path _ _ (insert_undone path k v (fits_below path v limit)) (insertion_kept (fits_below path v limit) k v kept) (insertion_back k) (λ part found e. refl) leaves
+histories_stand how keeping limit t u history next old new (remove path k) s kept may leaves stand =
+    write_stands how keeping t u history next old new s stand path _ _ (remove_undone path k) (removal_kept k) (removal_back (place_at (base t keeping) path k) k)
     (λ part found e. ap (λ o. removal_back (unwrap_or (option_map (λ p. place_in p k) o) 0) k found) e) leaves
-histories_stand keeping limit t u history next old new (push path v) s kept leaves stand =
-    write_stands keeping t u history next old new s stand path _ _ (push_undone path v (fits_below path v limit)) (pushing_kept (fits_below path v limit) v kept) (λ found. drop_item) (λ part found e. refl) leaves
-histories_stand keeping limit t u history next old new (pop path) s kept leaves stand =
-    write_stands keeping t u history next old new s stand path _ _ (pop_undone path) popping_kept popping_back (λ part found e. refl) leaves
-histories_stand keeping limit t u history next old new (set_at path v) s kept leaves stand =
-    write_stands keeping t u history next old new s stand path _ _ (set_undone path v (fits path v limit)) (setting_kept (fits path v limit) v kept) setting_back (λ part found e. refl) leaves
-histories_stand keeping limit t u history next old new undo s kept leaves stand = undo_stands keeping t u history next old new s stand leaves
-histories_stand keeping limit t u history next old new reload s kept leaves stand = read_stands keeping t u history next old new s stand (λ v. reload_reply (text v)) leaves
-histories_stand keeping limit t u history next old new reload_pp s kept leaves stand = read_stands keeping t u history next old new s stand (λ v. reload_reply (pretty v)) leaves
+histories_stand how keeping limit t u history next old new (push path v) s kept may leaves stand =
+    write_stands how keeping t u history next old new s stand path _ _ (push_undone path v (fits_below path v limit)) (pushing_kept (fits_below path v limit) v kept) (λ found. drop_item) (λ part found e. refl) leaves
+histories_stand how keeping limit t u history next old new (pop path) s kept may leaves stand =
+    write_stands how keeping t u history next old new s stand path _ _ (pop_undone path) popping_kept popping_back (λ part found e. refl) leaves
+histories_stand how keeping limit t u history next old new (set_at path v) s kept may leaves stand =
+    write_stands how keeping t u history next old new s stand path _ _ (set_undone path v (fits path v limit)) (setting_kept (fits path v limit) v kept) setting_back (λ part found e. refl) leaves
+histories_stand Possible keeping limit t u history next old new undo s kept may leaves stand = undo_stands keeping t u history next old new s stand leaves
+histories_stand Impossible keeping limit t u history next old new undo s kept may leaves stand = absurd cc
+histories_stand how keeping limit t u history next old new reload s kept may leaves stand = read_stands how keeping t u history next old new s stand (λ v. reload_reply (text v)) leaves
+histories_stand how keeping limit t u history next old new reload_pp s kept may leaves stand = read_stands how keeping t u history next old new s stand (λ v. reload_reply (pretty v)) leaves
 
 -- the value of a command repeats no key
 pub writes_kept : (c : Command) → WritesKept (command_view c)
@@ -230,7 +259,7 @@ writes_kept (Len path) = tt
 writes_kept (Keys path) = tt
 writes_kept (Remove path k) = tt
 writes_kept (Pop path) = tt
-writes_kept Undo = tt
+writes_kept UndoNewest = tt
 writes_kept Reload = tt
 writes_kept ReloadPp = tt
 
@@ -257,5 +286,32 @@ started : (keeping : Keeping) (t : Tree) → start (start t keeping) keeping ≡
 started from_start t = keeps_once t
 started from_write t = refl
 
-pub begun_stands : (job : Job) (t : Tree) (history : List Inverse) → history ≡ [] → StandFor job.keeping (start t job.keeping) history (begun job t)
-begun_stands job t history none = subst (λ (h : List Inverse). StandFor job.keeping (start t job.keeping) h (begun job t)) (sym none) (refl, started job.keeping t, tt, refl)
+brings_nothing : (how : Undo) (t : Tree) → BringsBack how [] t []
+brings_nothing Possible t = refl
+brings_nothing Impossible t = tt
+
+pub begun_stands : (how : Undo) (job : Job) (t : Tree) (history : List Inverse) → history ≡ [] → StandFor how job.keeping (start t job.keeping) history (begun job t)
+begun_stands how job t history none =
+    subst (λ (h : List Inverse). StandFor how job.keeping (start t job.keeping) h (begun job t)) (sym none) (refl, started job.keeping t, tt, brings_nothing how (start t job.keeping))
+
+-- ---- commands that may take a write back
+
+-- a command among others
+pub allowed_at : (how : Undo) (cs before behind : List Step) (c : Step) → cs ≡ before ++ c ∷ behind → all_may_run how cs ≡ true → may_run how c ≡ true
+allowed_at how cs before behind c is all = among before (subst (λ (ds : List Step). all_may_run how ds ≡ true) is all)
+  where
+    among : (ds : List Step) → all_may_run how (ds ++ c ∷ behind) ≡ true → may_run how c ≡ true
+    among [] h = (and_parts (may_run how c) (all_may_run how behind) h).0
+    among (d ∷ ds) h = among ds (and_parts (may_run how d) (all_may_run how (ds ++ c ∷ behind)) h).1
+
+-- those behind others
+pub allowed_behind : (how : Undo) (cs before behind : List Step) → cs ≡ before ++ behind → all_may_run how cs ≡ true → all_may_run how behind ≡ true
+allowed_behind how cs before behind is all = rest before (subst (λ (ds : List Step). all_may_run how ds ≡ true) is all)
+  where
+    rest : (ds : List Step) → all_may_run how (ds ++ behind) ≡ true → all_may_run how behind ≡ true
+    rest [] h = h
+    rest (d ∷ ds) h = rest ds (and_parts (may_run how d) (all_may_run how (ds ++ behind)) h).1
+
+pub all_allowed : (cs : List Step) → all_may_run Possible cs ≡ true
+all_allowed [] = refl
+all_allowed (c ∷ cs) = all_allowed cs

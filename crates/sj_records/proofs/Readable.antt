@@ -28,6 +28,7 @@ use Rattle.sj_scripts.specs.Script.{IsAccepted}
 use Rattle.sj_scripts.specs.inside.KeptValues.{is_kept}
 use Rattle.sj_documents.specs.declared.inverse.Inverse.{Inverse}
 use Rattle.sj_records.specs.inside.Reloads.{IsReadable, IsPrinted, Reloads}
+use Rattle.sj_documents.specs.declared.inverse.Undo.{Undo}
 use Rattle.sj_records.proofs.Accepted.{Good, Sound, accepted_sound}
 use Rattle.sj_records.proofs.Along.{after_within, start_within}
 use Rattle.sj_records.proofs.KeptAlong.{after_kept}
@@ -87,9 +88,9 @@ module _ (job : Job) (t : Tree) (ran : List Step) (sound : AllByRecursion Sound 
       kept_again job.keeping (after job (begun job t) ran).tree (λ e. (after_kept job (begun job t) ran sound (subst (λ (k : Keeping). IsKept (start t k)) (sym e) (keeps_once t), tt)).0)
 
 -- what stands before the next command of an accepted script, behind a reload
-pub reached_again : (job : Job) (t : Tree) (left : List Step) (history : List Inverse) (printed old new : List ℕ) (texts : List (List ℕ)) (r : Reloads job (begun job t) job.script left true history printed old new texts) → ∥ IsAccepted job.script ∥₁ → IsReadable job.limit t
+pub reached_again : (how : Undo) (job : Job) (t : Tree) (left : List Step) (history : List Inverse) (printed old new : List ℕ) (texts : List (List ℕ)) (r : Reloads how job (begun job t) job.script left true history printed old new texts) → ∥ IsAccepted job.script ∥₁ → IsReadable job.limit t
     → IsReadable job.limit (after job (begun job t) r.ran).tree × (start (after job (begun job t) r.ran).tree job.keeping ≡ (after job (begun job t) r.ran).tree)
-reached_again job t left history printed old new texts r accepted readable =
+reached_again how job t left history printed old new texts r accepted readable =
     let sound = front_sound job.script r.ran left r.parts (script_found job.script accepted) in
     (readable_after job t r.ran sound readable, started_again job t r.ran sound)
 

@@ -7,6 +7,7 @@ use Rattle.sj_scripts.specs.declared.script.Command.{Command}
 use Rattle.sj_scripts.specs.Command.{Step, get, contains, type_of, len, keys, insert, remove, push, pop, set_at, undo, reload, reload_pp}
 use Rattle.sj_documents.specs.Step.{Job, Keeping, State, step, replies, after}
 use Rattle.sj_documents.specs.declared.inverse.Inverse.{Inverse}
+use Rattle.sj_documents.specs.declared.inverse.Undo.{Undo}
 use Rattle.sj_records.specs.History.{StandFor, bare, Applied}
 use Rattle.sj_records.specs.Laws.{with_script}
 use Rattle.sj_tape.specs.Repeats.{Repetition}
@@ -40,21 +41,21 @@ same_step job script s reload = refl
 same_step job script s reload_pp = refl
 
 -- a command on a document that stands for the state
-pub step-on : (job : Job) (s : State) (keeping : Keeping) (u : Tree) (history : List Inverse) (old new : List ℕ) (c : Step) → keeping ≡ job.keeping → Applied keeping job.limit s c old new u history
-    → (new ≡ old ++ text (step job s c).0) × StandFor keeping u history (step job s c).1
-step-on job s keeping u history old new c same done =
+pub step-on : (how : Undo) (job : Job) (s : State) (keeping : Keeping) (u : Tree) (history : List Inverse) (old new : List ℕ) (c : Step) → keeping ≡ job.keeping → Applied how keeping job.limit s c old new u history
+    → (new ≡ old ++ text (step job s c).0) × StandFor how keeping u history (step job s c).1
+step-on how job s keeping u history old new c same done =
     let is : step (bare keeping job.limit) s c ≡ step job s c = ap (λ k. step (bare k job.limit) s c) same ∙ same_step job [] s c in
-    subst (λ (n : Tree × State). (new ≡ old ++ text n.0) × StandFor keeping u history n.1) is done
+    subst (λ (n : Tree × State). (new ≡ old ++ text n.0) × StandFor how keeping u history n.1) is done
 
 -- the tree of the state, in the place of the document's
-pub stands_again : (keeping other : Keeping) (t : Tree) (history : List Inverse) (s : State) → keeping ≡ other → StandFor keeping t history s → StandFor other s.tree history s
-stands_again keeping other t history s same stand =
-    subst (λ (k : Keeping). StandFor k s.tree history s) same (subst (λ (u : Tree). StandFor keeping u history s) (sym stand.0) stand)
+pub stands_again : (how : Undo) (keeping other : Keeping) (t : Tree) (history : List Inverse) (s : State) → keeping ≡ other → StandFor how keeping t history s → StandFor how other s.tree history s
+stands_again how keeping other t history s same stand =
+    subst (λ (k : Keeping). StandFor how k s.tree history s) same (subst (λ (u : Tree). StandFor how keeping u history s) (sym stand.0) stand)
 
 -- a document that was made for the state
-pub stands_begun : (keeping other : Keeping) (t u : Tree) (history : List Inverse) (s : State) → other ≡ keeping → u ≡ t → StandFor keeping t history s → StandFor other u history s
-stands_begun keeping other t u history s same is stand =
-    subst (λ (k : Keeping). StandFor k u history s) (sym same) (subst (λ (v : Tree). StandFor keeping v history s) (sym is) stand)
+pub stands_begun : (how : Undo) (keeping other : Keeping) (t u : Tree) (history : List Inverse) (s : State) → other ≡ keeping → u ≡ t → StandFor how keeping t history s → StandFor how other u history s
+stands_begun how keeping other t u history s same is stand =
+    subst (λ (k : Keeping). StandFor how k u history s) (sym same) (subst (λ (v : Tree). StandFor how keeping v history s) (sym is) stand)
 
 -- ---- a script, one command after the other
 
@@ -76,7 +77,7 @@ pub record Running (job : Job) (first : State) (cs left : List Step) (began is_f
   pub written : out ++ record_from job (after job first ran) left is_first ≡ before ++ record_from job first cs began
   pub read : reloads job first cs ≡ texts ++ reloads job (after job first ran) left
 
-module _ (job : Job) (first : State) (cs : List Step) (began : Bool) (before : List ℕ) where
+module _ (how : Undo) (job : Job) (first : State) (cs : List Step) (began : Bool) (before : List ℕ) where
   pub Running-begin : (r : Running job first cs cs began began before before []) × (after job first r.ran ≡ first)
   Running-begin = (record { ran = []; parts = refl; within = omega arith; written = refl; read = refl }, refl)
 
@@ -109,7 +110,7 @@ module _ (job : Job) (first : State) (cs : List Step) (began : Bool) (before : L
 
   -- up to a reload
   pub Running-stop : (left : List Step) (b : Bool) (history : List Inverse) (printed out : List ℕ) (r : Running job first cs left began b before out (printed ∷ [])) → b ≡ false → length left < length cs → IsPrinted (after job first r.ran).tree printed
-      → StandFor job.keeping (after job first r.ran).tree history (after job first r.ran) → Reloads job first cs left began history printed before out []
+      → StandFor how job.keeping (after job first r.ran).tree history (after job first r.ran) → Reloads how job first cs left began history printed before out []
   Running-stop left b history printed out r later fewer is_printed stands =
       record { ran = r.ran; parts = r.parts; fewer = fewer; is_printed = is_printed; stands = stands; written = ap (λ (b : Bool). out ++ record_from job (after job first r.ran) left b) (sym later) ∙ r.written; read = r.read }
 
@@ -126,10 +127,10 @@ module _ (job : Job) (first : State) (cs : List Step) (began : Bool) (before : L
       )
 
 -- the commands behind a reload, after those before it
-pub Runs-on : (job : Job) (s : State) (cs left : List Step) (b : Bool) (next : Option (List Command)) (history history2 : List Inverse) (printed printed2 old mid new : List ℕ) (texts texts2 : List (List ℕ)) (r : Reloads job s cs left b history printed old mid texts)
-    → Runs job (after job s r.ran) left false next history2 printed2 mid new texts2 → Runs job s cs b next history2 printed2 old new (texts ++ printed ∷ texts2)
-Runs-on job s cs left b None history history2 printed printed2 old mid new texts texts2 r done = (done.0 ∙ r.written, r.read ∙ ap (λ ts. texts ++ printed ∷ ts) done.1)
-Runs-on job s cs left b (Some next) history history2 printed printed2 old mid new texts texts2 r more =
+pub Runs-on : (how : Undo) (job : Job) (s : State) (cs left : List Step) (b : Bool) (next : Option (List Command)) (history history2 : List Inverse) (printed printed2 old mid new : List ℕ) (texts texts2 : List (List ℕ)) (r : Reloads how job s cs left b history printed old mid texts)
+    → Runs how job (after job s r.ran) left false next history2 printed2 mid new texts2 → Runs how job s cs b next history2 printed2 old new (texts ++ printed ∷ texts2)
+Runs-on how job s cs left b None history history2 printed printed2 old mid new texts texts2 r done = (done.0 ∙ r.written, r.read ∙ ap (λ ts. texts ++ printed ∷ ts) done.1)
+Runs-on how job s cs left b (Some next) history history2 printed printed2 old mid new texts texts2 r more =
     let reached = after_join job s r.ran more.ran in
     let first = r.fewer in
     let then = more.fewer in
@@ -138,7 +139,7 @@ Runs-on job s cs left b (Some next) history history2 printed printed2 old mid ne
       parts = r.parts ∙ ap (λ ls. r.ran ++ ls) more.parts ∙ sym (append_assoc r.ran more.ran (commands_view next));
       fewer = omega arith;
       is_printed = subst (λ (u : State). IsPrinted u.tree printed2) (sym reached) more.is_printed;
-      stands = subst (λ (u : State). StandFor job.keeping u.tree history2 u) (sym reached) more.stands;
+      stands = subst (λ (u : State). StandFor how job.keeping u.tree history2 u) (sym reached) more.stands;
       written = ap (λ (u : State). new ++ record_from job u (commands_view next) false) reached ∙ more.written ∙ r.written;
       read = r.read ∙ ap (λ ts. texts ++ printed ∷ ts) more.read ∙ sym (append_assoc texts (printed ∷ texts2) (printed2 ∷ reloads job (after job (after job s r.ran) more.ran) (commands_view next)))
           ∙ ap (λ (u : State). (texts ++ printed ∷ texts2) ++ printed2 ∷ reloads job u (commands_view next)) (sym reached);
@@ -149,9 +150,9 @@ abbrev pub left_len : Option (List Command) → ℕ
 left_len None = 0
 left_len (Some left) = suc (length (commands_view left))
 
-pub fewer_left : (job : Job) (s : State) (cs : List Step) (b : Bool) (next : Option (List Command)) (history : List Inverse) (printed old new : List ℕ) (texts : List (List ℕ)) → Runs job s cs b next history printed old new texts → left_len next ≤ length cs
-fewer_left job s cs b None history printed old new texts done = omega arith
-fewer_left job s cs b (Some next) history printed old new texts more = let fewer = more.fewer in omega arith
+pub fewer_left : (how : Undo) (job : Job) (s : State) (cs : List Step) (b : Bool) (next : Option (List Command)) (history : List Inverse) (printed old new : List ℕ) (texts : List (List ℕ)) → Runs how job s cs b next history printed old new texts → left_len next ≤ length cs
+fewer_left how job s cs b None history printed old new texts done = omega arith
+fewer_left how job s cs b (Some next) history printed old new texts more = let fewer = more.fewer in omega arith
 
 -- the record of a repeated key, piece by piece
 pub repeat_printed : (r : Repetition) (out opened path named key ended : List ℕ) → opened ≡ out ++ codes "{\"error\":\"RepeatedKey\",\"path\":[" → path ≡ opened ++ items_text (part_items r.0)

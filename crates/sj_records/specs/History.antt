@@ -1,5 +1,5 @@
 -- The history of a document: what takes its writes back, and the trees that come back then.
-use Rattle.std.specs.Prelude.{◌≡◌, ◌⊎◌, ℕ, Bool, false, List, [], ◌∷◌, ◌++◌, map, reverse, Option, Some, None, option_map, option_and_then, Result, Ok, Err}
+use Rattle.std.specs.Prelude.{◌≡◌, ◌⊎◌, ℕ, Bool, true, false, not, List, [], ◌∷◌, ◌++◌, map, reverse, Option, Some, None, option_map, option_and_then, Result, Ok, Err, ⊤}
 use Rattle.std.specs.List.{AllByRecursion}
 use Rattle.sj_base.specs.Tree.{Tree, boolean}
 use Rattle.sj_base.specs.Keep.{keep, IsKept}
@@ -11,6 +11,12 @@ use Rattle.sj_documents.specs.Inverses.{change_view, Settles, TakesBack}
 use Rattle.sj_scripts.specs.Script.{path_view}
 use Rattle.sj_documents.specs.Step.{Job, Keeping, runs_on_repeats, State, Rewrite, start, base, fits, fits_below, insertion, removal, pushing, popping, setting, step}
 use Rattle.sj_documents.specs.declared.inverse.Inverse.{Inverse}
+use Rattle.sj_documents.specs.declared.inverse.Undo.{Undo}
+use Rattle.sj_documents.specs.declared.inverse.Undo.TheVariants.{Possible, Impossible}
+
+abbrev pub is_undo : Step → Bool
+is_undo undo = true
+is_undo _ = false
 
 -- ---- what a command leaves of a document and its history, whose newest inverse stands last
 
@@ -19,10 +25,10 @@ added history None = history
 added history (Some inverse) = history ++ inverse ∷ []
 
 -- A write adds what it hands out.
-abbrev pub WriteLeaves : {E : Type 0} → Result Unit E → Keeping → Tree → Tree → List Inverse → List Inverse → List ℕ → List ℕ → List Part → Rewrite → (Option Tree → Change) → Type 0
-WriteLeaves {E} (Ok done) keeping t u history after old new path change inversion =
-    (inverse : Option Inverse) × Settles {E = E} (Ok inverse) old new keeping t u path change inversion × (after ≡ added history inverse)
-WriteLeaves (Err e) keeping t u history after old new path change inversion = Settles (Err e) old new keeping t u path change inversion
+abbrev pub WriteLeaves : {E : Type 0} → Undo → Result Unit E → Keeping → Tree → Tree → List Inverse → List Inverse → List ℕ → List ℕ → List Part → Rewrite → (Option Tree → Change) → Type 0
+WriteLeaves {E} how (Ok done) keeping t u history after old new path change inversion =
+    (inverse : Option Inverse) × Settles {E = E} how (Ok inverse) old new keeping t u path change inversion × (after ≡ added history inverse)
+WriteLeaves how (Err e) keeping t u history after old new path change inversion = Settles how (Err e) old new keeping t u path change inversion
 
 -- `undo` takes the newest inverse off, and replies whether its change was made; it replies `false` if there is none.
 abbrev pub UndoLeaves : {E : Type 0} → Result Unit E → Keeping → Tree → Tree → List Inverse → List Inverse → List ℕ → List ℕ → Type 0
@@ -45,18 +51,18 @@ ReadLeaves (Ok done) keeping limit t u history after old new c =
     (new ≡ old ++ text (step (bare keeping limit) (record { tree = t; bases = [] }) c).0) × (u ≡ t) × (after ≡ history)
 ReadLeaves (Err e) keeping limit t u history after old new c = (new ≡ old) × (u ≡ t)
 
-abbrev pub CommandLeaves : {E : Type 0} → Result Unit E → Keeping → ℕ → Tree → Tree → List Inverse → List Inverse → List ℕ → List ℕ → Step → Type 0
-CommandLeaves r keeping limit t u history after old new (insert path k v) =
-    WriteLeaves r keeping t u history after old new path (insertion (fits_below path v limit) k v) (insertion_back k)
-CommandLeaves r keeping limit t u history after old new (remove path k) =
-    WriteLeaves r keeping t u history after old new path (removal k) (removal_back (place_at (base t keeping) path k) k)
-CommandLeaves r keeping limit t u history after old new (push path v) =
-    WriteLeaves r keeping t u history after old new path (pushing (fits_below path v limit) v) (λ found. drop_item)
-CommandLeaves r keeping limit t u history after old new (pop path) = WriteLeaves r keeping t u history after old new path popping popping_back
-CommandLeaves r keeping limit t u history after old new (set_at path v) =
-    WriteLeaves r keeping t u history after old new path (setting (fits path v limit) v) setting_back
-CommandLeaves r keeping limit t u history after old new undo = UndoLeaves r keeping t u history after old new
-CommandLeaves r keeping limit t u history after old new c = ReadLeaves r keeping limit t u history after old new c
+abbrev pub CommandLeaves : {E : Type 0} → Undo → Result Unit E → Keeping → ℕ → Tree → Tree → List Inverse → List Inverse → List ℕ → List ℕ → Step → Type 0
+CommandLeaves how r keeping limit t u history after old new (insert path k v) =
+    WriteLeaves how r keeping t u history after old new path (insertion (fits_below path v limit) k v) (insertion_back k)
+CommandLeaves how r keeping limit t u history after old new (remove path k) =
+    WriteLeaves how r keeping t u history after old new path (removal k) (removal_back (place_at (base t keeping) path k) k)
+CommandLeaves how r keeping limit t u history after old new (push path v) =
+    WriteLeaves how r keeping t u history after old new path (pushing (fits_below path v limit) v) (λ found. drop_item)
+CommandLeaves how r keeping limit t u history after old new (pop path) = WriteLeaves how r keeping t u history after old new path popping popping_back
+CommandLeaves how r keeping limit t u history after old new (set_at path v) =
+    WriteLeaves how r keeping t u history after old new path (setting (fits path v limit) v) setting_back
+CommandLeaves how r keeping limit t u history after old new undo = UndoLeaves r keeping t u history after old new
+CommandLeaves how r keeping limit t u history after old new c = ReadLeaves r keeping limit t u history after old new c
 
 -- ---- the trees that a history brings back
 
@@ -72,13 +78,23 @@ bases_from (i ∷ is) t = option_and_then (λ b. option_map (λ bs. b ∷ bs) (b
 abbrev pub bases : List Inverse → Tree → Option (List Tree)
 bases history t = bases_from (reverse (map inverse_view history)) (keep t)
 
+-- A history brings back these bases. Where no write may be taken back, nothing is asked of it.
+abbrev pub BringsBack : Undo → List Inverse → Tree → List Tree → Type 0
+BringsBack Possible history t bs = bases history t ≡ Some bs
+BringsBack Impossible history t bs = ⊤
+
 -- The tree t of a document and its history stand for a state. The bases repeat no key, and nor does t, if the document keeps the
--- first member of each key from its start.
-abbrev pub StandFor : Keeping → Tree → List Inverse → State → Type 0
-StandFor keeping t history s = (s.tree ≡ t) × (start t keeping ≡ t) × AllByRecursion IsKept s.bases × (bases history t ≡ Some s.bases)
+-- first member of each key from its start. Where no write may be taken back, the history may be any.
+abbrev pub StandFor : Undo → Keeping → Tree → List Inverse → State → Type 0
+StandFor how keeping t history s = (s.tree ≡ t) × (start t keeping ≡ t) × AllByRecursion IsKept s.bases × BringsBack how history t s.bases
+
+-- whether a command may run: any where writes may be taken back, and elsewhere any but `undo`
+abbrev pub may_run : Undo → Step → Bool
+may_run Possible c = true
+may_run Impossible c = not (is_undo c)
 
 -- The reply to a command in the state s was appended, and the tree and the history stand for the state after it.
-abbrev pub Applied : Keeping → ℕ → State → Step → List ℕ → List ℕ → Tree → List Inverse → Type 0
-Applied keeping limit s c old new u history =
+abbrev pub Applied : Undo → Keeping → ℕ → State → Step → List ℕ → List ℕ → Tree → List Inverse → Type 0
+Applied how keeping limit s c old new u history =
     let n = step (bare keeping limit) s c in
-    (new ≡ old ++ text n.0) × StandFor keeping u history n.1
+    (new ≡ old ++ text n.0) × StandFor how keeping u history n.1

@@ -9,7 +9,7 @@ use Rattle.sj_base.specs.Spelling.{longest, Document}
 use Rattle.sj_base.specs.Text.{text}
 use Rattle.sj_base.specs.declared.error.Error.{Error}
 use Rattle.sj_parse.specs.Fault.{fault}
-use Rattle.sj_scripts.specs.Command.{Step, insert, remove, push, pop, set_at, undo, reload, reload_pp}
+use Rattle.sj_scripts.specs.Command.{Step, insert, remove, push, pop, set_at, reload, reload_pp}
 use Rattle.sj_documents.specs.Step.{Job, Keeping, from_start, from_write, RepeatRule, refuses_repeats, State, begun, reload_reply, replies, after, Rewrite, reply_of, insertion, removal, pushing, popping, setting, write_at}
 use Rattle.sj_documents.specs.Inverse.{Change, drop_item, place_in, back, insertion_back, removal_back, popping_back, setting_back}
 use Rattle.sj_base.specs.Path.{Part, at}
@@ -17,7 +17,8 @@ use Rattle.sj_tape.specs.Repeats.{Repetition, repeated}
 use Rattle.sj_records.specs.Record.{IsRecord, record_of, repeat_record, refused_repeat, fault_record}
 use Rattle.sj_scripts.specs.Script.{IsReadAs, IsAccepted}
 use Rattle.sj_documents.specs.declared.inverse.Inverse.{Inverse}
-use Rattle.sj_records.specs.History.{CommandLeaves, StandFor, Applied}
+use Rattle.sj_documents.specs.declared.inverse.Undo.{Undo}
+use Rattle.sj_records.specs.History.{is_undo, CommandLeaves, may_run, StandFor, Applied}
 
 -- exactly one x satisfies P
 abbrev pub ExactlyOne : {A : Type 0} → (A → Type 0) → Type 0
@@ -101,10 +102,6 @@ is_reload reload = true
 is_reload reload_pp = true
 is_reload _ = false
 
-abbrev pub is_undo : Step → Bool
-is_undo undo = true
-is_undo _ = false
-
 -- A second script without `undo` on the text that the first comes to, as a line, gives what it gives behind the first, by the same rule
 -- for repeated keys: the same replies and the same document, unless the first line is refused.
 abbrev pub ScriptsContinue : Type 0
@@ -163,7 +160,8 @@ WritesKept (set_at path v) = IsKept v
 WritesKept _ = ⊤
 
 -- Where a document and its history stand for a state, they do so for the state after a command too, and the reply is that of `step`.
+-- Where no write may be taken back, this holds of any command but `undo`.
 abbrev pub HistoriesStand : Type 0
 HistoriesStand =
-    (keeping : Keeping) (limit : ℕ) (t u : Tree) (history next : List Inverse) (old new : List ℕ) (c : Step) (s : State) → WritesKept c
-    → CommandLeaves {E = AllocError} (Ok tt) keeping limit t u history next old new c → StandFor keeping t history s → Applied keeping limit s c old new u next
+    (how : Undo) (keeping : Keeping) (limit : ℕ) (t u : Tree) (history next : List Inverse) (old new : List ℕ) (c : Step) (s : State) → WritesKept c → may_run how c ≡ true
+    → CommandLeaves {E = AllocError} how (Ok tt) keeping limit t u history next old new c → StandFor how keeping t history s → Applied how keeping limit s c old new u next

@@ -9,9 +9,10 @@ ghost use Rattle.sj_records.specs.Texts.{HasReadLines, HasReadStream};
 ghost use Rattle.sj_records.specs.inside.Progress.{HasNoLineFeed, LeavesLines, LeavesBytes, task_job};
 
 use crate::form::Form;
+use crate::job::{Task, undo_of};
 use crate::repeats::Repeats;
 use crate::run_error::RunError;
-use crate::task::{Scratch, Task, make_record};
+use crate::task::{Scratch, make_record};
 use sj_base::{Output, Sink, Source, WriteFault};
 use sj_parse::Buffers;
 use sj_scripts::Script;
@@ -333,6 +334,7 @@ pub fn run_within<R: Source, W: Sink>(
         depth: buffers.max_depth(),
         form,
         repeats,
+        undo: undo_of(script.commands()),
     };
     run_task(alloc, reader, writer, buffers, task, max_reads)
 }

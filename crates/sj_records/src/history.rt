@@ -9,15 +9,16 @@ ghost use Rattle.sj_records.specs.Laws.{is_reload};
 ghost use Rattle.sj_records.specs.inside.Adds.{Adds};
 
 use sj_base::{Scalar, StaticNode, put_text};
-use sj_documents::{Document, Inverse};
+use sj_documents::{Document, Inverse, Undo, WriteResult};
 use sj_scripts::Command;
 use std::alloc::AllocError;
 
 /// Runs a command that is no reload on a document, and appends its reply.
 ///
-/// `history` has what takes the document's writes back, the newest last. A write that isn't refused adds its inverse. `Undo`
-/// takes the newest off and makes its change; it replies `false` if there is none, or if the change can't be made. `depth` is the
-/// most levels that the document may nest after a write.
+/// `history` has what takes the document's writes back, the newest last. With [`Undo::Possible`] a write that isn't refused adds
+/// its inverse. With [`Undo::Impossible`] no write adds one, which takes less time and memory. `Command::Undo` takes the newest
+/// inverse off and makes its change, and replies `false` if there is none, or if the change can't be made. So after a write with
+/// `Undo::Impossible` it would take back an older one. `depth` is the most levels that the document may nest after a write.
 ///
 /// The law `histories_stand` says what `undo` brings back, for commands whose values repeat no key.
 ///
@@ -31,10 +32,11 @@ pub fn apply<T: Document>(
     history: &mut Vec<Inverse>,
     command: &Command,
     depth: usize,
+    undo: Undo,
     out: &mut Vec<u8>,
 ) -> Result<(), AllocError>
     requires { is_reload (command_view command.now) ≡ false }
-    ensures { CommandLeaves result T.keeping depth (T.tree document.old) (T.tree document.new) history.old.items history.new.items
+    ensures { CommandLeaves undo result T.keeping depth (T.tree document.old) (T.tree document.new) history.old.items history.new.items
         out.old.items out.new.items (command_view command.now) }
 {
     let start = out.len();
@@ -44,12 +46,12 @@ pub fn apply<T: Document>(
         Command::TypeOf(path) => return document.type_of(path, out),
         Command::Len(path) => return document.len(path, out),
         Command::Keys(path) => return document.keys(path, out),
-        Command::Insert(path, key, value) => document.insert(path, key, value, depth, out),
-        Command::Remove(path, key) => document.remove(path, key, out),
-        Command::Push(path, value) => document.push(path, value, depth, out),
-        Command::Pop(path) => document.pop(path, out),
-        Command::SetAt(path, value) => document.set_at(path, value, depth, out),
-        Command::Undo => return undo(document, history, out),
+        Command::Insert(path, key, value) => document.insert(path, key, value, depth, undo, out),
+        Command::Remove(path, key) => document.remove(path, key, undo, out),
+        Command::Push(path, value) => document.push(path, value, depth, undo, out),
+        Command::Pop(path) => document.pop(path, undo, out),
+        Command::SetAt(path, value) => document.set_at(path, value, depth, undo, out),
+        Command::Undo => return take_back(document, history, out),
         Command::Reload | Command::ReloadPp => unreachable!(),
     };
     add(history, written, start, out)
@@ -59,7 +61,7 @@ pub fn apply<T: Document>(
 /// the inverse.
 fn add(
     history: &mut Vec<Inverse>,
-    written: Result<Option<Inverse>, AllocError>,
+    written: WriteResult,
     start: usize,
     out: &mut Vec<u8>,
 ) -> Result<(), AllocError>
@@ -75,7 +77,7 @@ fn add(
 }
 
 /// Takes back the newest write, and appends the reply.
-fn undo<T: Document>(
+fn take_back<T: Document>(
     document: &mut T,
     history: &mut Vec<Inverse>,
     out: &mut Vec<u8>,

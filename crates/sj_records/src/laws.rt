@@ -62,7 +62,8 @@ pub fn inverse_undoes()
 {}
 
 /// A document and its history that stand for a state stand for the state after a command that [`apply`](crate::apply) runs, and
-/// the reply is that of the state. The value that a command writes has to repeat no key, as none in a script does.
+/// the reply is that of the state. The value that a command writes has to repeat no key, as none in a script does. With
+/// [`Undo::Impossible`](crate::Undo::Impossible) this holds of any command but `Undo`, and nothing is asked of the history.
 pub fn histories_stand()
     ensures { HistoriesStand }
 {}

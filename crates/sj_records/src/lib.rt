@@ -8,6 +8,7 @@
 mod engine;
 mod form;
 mod history;
+mod job;
 pub mod laws;
 mod refused_line;
 mod repeats;
@@ -20,5 +21,5 @@ pub use form::Form;
 pub use history::apply;
 pub use repeats::Repeats;
 pub use run_error::RunError;
-pub use sj_documents::{Change, Document, Inverse, LazyDocument};
+pub use sj_documents::{Change, Document, Inverse, LazyDocument, Undo, WriteResult};
 pub use sj_scripts::{Command, CommandFault, PathPart, Script, ScriptFault, ScriptValue};

@@ -7,7 +7,7 @@ ghost use Rattle.sj_base.specs.Keep.{keep};
 ghost use Rattle.sj_base.specs.Text.{text as text_of};
 ghost use Rattle.sj_parse.specs.Answers.{IsTapeOf, buffer_limit};
 ghost use Rattle.sj_parse.specs.Fault.{fault};
-ghost use Rattle.sj_records.specs.History.{StandFor, Applied};
+ghost use Rattle.sj_records.specs.History.{may_run, StandFor, Applied};
 ghost use Rattle.sj_records.specs.Record.{IsRecord, tree_record, outcome, refused_repeat};
 ghost use Rattle.sj_records.specs.Texts.{if_read, reread, reloads, rereads, HasRead, HasReadLines};
 ghost use Rattle.sj_owned.specs.Views.{value_tree};
@@ -18,10 +18,12 @@ ghost use Rattle.sj_tape.specs.Views.{tape_nodes, nodes_tree};
 ghost use Rattle.sj_scripts.specs.inside.ReadErrors.{IfRefused};
 ghost use Rattle.sj_records.specs.Job.{repeats_of};
 ghost use Rattle.sj_records.specs.inside.Progress.{task_job};
+ghost use Rattle.sj_records.specs.inside.Undoing.{all_may_run};
 ghost use Rattle.sj_records.specs.inside.Reloads.{IsReadable, IsPrinted, Runs};
 
 use crate::form::Form;
 use crate::history::{apply, put_bool};
+use crate::job::Task;
 use crate::refused_line::{put_fault_record, put_repeat_record};
 use crate::repeats::Repeats;
 use crate::separator::put_separator;
@@ -32,21 +34,11 @@ use sj_object::MakeKey;
 use sj_owned::{MakeLiteral, Value, build_tape, build_value};
 use sj_parse::laws::printed_texts;
 use sj_parse::{Buffers, fill_tape};
-use sj_scripts::{Command, MemoryOr, Script};
+use sj_scripts::{Command, MemoryOr};
 use sj_tape::{Repeat, Tape};
 use std::alloc::{AllocError, Global};
 use std::borrow::CowStr;
 use std::mem;
-
-/// What is done to each line.
-#[derive(Clone, Copy)]
-pub(crate) struct Task<'s> {
-    pub(crate) script: &'s Script,
-    /// The most levels that a document may nest.
-    pub(crate) depth: usize,
-    pub(crate) form: Form,
-    pub(crate) repeats: Repeats,
-}
 
 /// Room that is kept from one line to the next.
 #[derive(Drop)]
@@ -65,7 +57,7 @@ pub(crate) struct Room {
     pub(crate) printed: Vec<u8>,
     /// Room for the one after it.
     pub(crate) next: Vec<u8>,
-    /// What takes the writes of the line back, the newest last.
+    /// What takes the writes of the line back, the newest last. Empty if the script has no `undo`.
     pub(crate) history: Vec<Inverse>,
 }
 
@@ -255,10 +247,11 @@ fn run_on_text<'s>(
     out: &mut Vec<u8>,
 ) -> Result<Option<&'s [Command]>, AllocError>
     requires limit { buffer_limit buffers.old ≡ task.depth }
+    requires allowed { all_may_run task.undo (commands_view commands.now) ≡ true }
     requires readable { (t : Tree) × IsReadable task.depth t × IsPrinted t room.old.printed.items }
     ensures runs { IfOk result (λ left. (s : State) → IsReadable task.entry.depth s.tree → IsPrinted s.tree room.old.printed.items
-        → StandFor (task_job task.entry).keeping s.tree room.old.history.items s
-        → Runs (task_job task.entry) s (commands_view commands.now) false (option_copied left) room.new.history.items room.new.printed.items out.old.items out.new.items []) }
+        → StandFor task.entry.undo (task_job task.entry).keeping s.tree room.old.history.items s
+        → Runs task.entry.undo (task_job task.entry) s (commands_view commands.now) false (option_copied left) room.new.history.items room.new.printed.items out.old.items out.new.items []) }
     ensures texts { OnOk result (HasRead buffers.old buffers.new (room.old.printed.items ∷ [])) }
     ensures limit { buffer_limit buffers.new ≡ buffer_limit buffers.old }
 {
@@ -295,10 +288,11 @@ fn run_on_tape<'s>(
     text: &mut Vec<u8>,
     out: &mut Vec<u8>,
 ) -> Result<Option<&'s [Command]>, AllocError>
-    requires { tape_nodes tape.old ≢ [] }
+    requires not_empty { tape_nodes tape.old ≢ [] }
+    requires allowed { all_may_run task.undo (commands_view commands.now) ≡ true }
     ensures { IfOk result (λ left. (s : State)
-        → StandFor (task_job task.entry).keeping (start (nodes_tree (tape_nodes tape.old)) (task_job task.entry).keeping) history.old.items s
-        → Runs (task_job task.entry) s (commands_view commands.now) is_first (option_copied left) history.new.items text.new.items out.old.items out.new.items []) }
+        → StandFor task.entry.undo (task_job task.entry).keeping (start (nodes_tree (tape_nodes tape.old)) (task_job task.entry).keeping) history.old.items s
+        → Runs task.entry.undo (task_job task.entry) s (commands_view commands.now) is_first (option_copied left) history.new.items text.new.items out.old.items out.new.items []) }
 {
     let alloc = *out.allocator();
     match task.form {
@@ -327,15 +321,16 @@ fn run_commands<'s, T: Document + Drop>(
     text: &mut Vec<u8>,
     out: &mut Vec<u8>,
 ) -> Result<Option<&'s [Command]>, AllocError>
-    requires { T.keeping ≡ (task_job task).keeping }
-    ensures { IfOk result (λ left. (s : State) → StandFor T.keeping (T.tree document) history.old.items s
-        → Runs (task_job task.entry) s (commands_view commands.now) is_first (option_copied left) history.new.items text.new.items out.old.items out.new.items []) }
+    requires keeping { T.keeping ≡ (task_job task).keeping }
+    requires allowed { all_may_run task.undo (commands_view commands.now) ≡ true }
+    ensures { IfOk result (λ left. (s : State) → StandFor task.entry.undo T.keeping (T.tree document) history.old.items s
+        → Runs task.entry.undo (task_job task.entry) s (commands_view commands.now) is_first (option_copied left) history.new.items text.new.items out.old.items out.new.items []) }
 {
     let mut left = commands;
     let mut is_next_first = is_first;
     while let Some((command, behind)) = left.split_first() {
         put_separator(is_next_first, out)?;
-        let is_read_again = run_command(&mut document, history, command, task.depth, text, out)?;
+        let is_read_again = run_command(&mut document, task, command, history, text, out)?;
         left = behind;
         is_next_first = false;
         if is_read_again {
@@ -351,14 +346,14 @@ fn run_commands<'s, T: Document + Drop>(
 /// Runs one command, and appends its reply. Returns `true` for a reload whose text can be read. The text is in `text` then.
 fn run_command<T: Document>(
     document: &mut T,
-    history: &mut Vec<Inverse>,
+    task: Task<'_>,
     command: &Command,
-    depth: usize,
+    history: &mut Vec<Inverse>,
     text: &mut Vec<u8>,
     out: &mut Vec<u8>,
 ) -> Result<bool, AllocError>
-    ensures applied { OnOk result ((s : State) → StandFor T.keeping (T.tree document.old) history.old.items s
-        → Applied T.keeping depth s (command_view command.now) out.old.items out.new.items (T.tree document.new) history.new.items) }
+    ensures applied { OnOk result ((s : State) → may_run task.entry.undo (command_view command.now) ≡ true → StandFor task.entry.undo T.keeping (T.tree document.old) history.old.items s
+        → Applied task.entry.undo T.keeping task.entry.depth s (command_view command.now) out.old.items out.new.items (T.tree document.new) history.new.items) }
     ensures printed { IfOk result (λ is_readable. is_readable ≡ true → IsPrinted (T.tree document.new) text.new.items) }
     ensures reread { IfOk result (λ is_readable. (s : State) → s.tree ≡ T.tree document.old
         → reread s (command_view command.now) ≡ if_read is_readable text.new.items) }
@@ -375,7 +370,7 @@ fn run_command<T: Document>(
             put_reload(text, out)
         }
         _ => {
-            apply(document, history, command, depth, out)?;
+            apply(document, history, command, task.depth, task.undo, out)?;
             Ok(false)
         }
     }

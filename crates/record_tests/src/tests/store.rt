@@ -2,7 +2,7 @@
 
 use super::{LIMIT, expect_at, expect_eq, script_of};
 use sj_owned::{OwnedValue, to_owned_value};
-use sj_records::{Command, Document, Inverse, Script, apply};
+use sj_records::{Command, Document, Inverse, Script, Undo, apply};
 use std::alloc::{AllocError, Global};
 use std::process::Abort;
 
@@ -16,11 +16,12 @@ struct Store {
 impl Store {
     // Runs the script, and appends the reply to each command and a line feed. Reloads are passed over.
     fn run(&mut self, script: &Script, out: &mut Vec<u8>) -> Result<(), AllocError> {
+        let Store { document, history } = self;
         for command in script.commands() {
             match command {
                 Command::Reload | Command::ReloadPp => {}
                 _ => {
-                    apply(&mut self.document, &mut self.history, command, LIMIT, out)?;
+                    apply(document, history, command, LIMIT, Undo::Possible, out)?;
                     out.push(b'\n')?;
                 }
             }

@@ -1,8 +1,8 @@
 //! Worked rows of scripts that read and write, in each form.
 use super::runs::Row;
-use super::{FORMS, LIMIT, expect_eq, expect_that, script_of};
+use super::{FORMS, LIMIT, expect_eq, script_of};
 use sj_owned::to_owned_value;
-use sj_records::{Command, Document, Form};
+use sj_records::{Command, Document, Form, Undo};
 use std::alloc::{AllocError, Global};
 use std::process::Abort;
 
@@ -243,17 +243,17 @@ fn forty_equal_hashes_twice(rt: HostRuntime) {
     Row::new(script, &line, &whole).check(&rt, alloc, &[Form::Lazy]);
 }
 
-// A write call on a document appends its reply and hands out an inverse.
-fn expect_write(rt: &impl Abort, alloc: Global, command: &Command) {
+// A write call on a document appends its reply, and hands out an inverse if that is asked for.
+fn expect_write(rt: &impl Abort, alloc: Global, command: &Command, undo: Undo) {
     let Command::Insert(path, key, value) = command else {
         panic!(rt; "another command");
     };
     let mut text = *br#"{"a":{"k":"old"}}"#;
     let mut document = to_owned_value(alloc, &mut text).expect(rt, "a document");
     let mut out = b"> ".to_vec(alloc).expect(rt, "memory");
-    let inverse = Document::insert(&mut document, path, key, value, LIMIT, &mut out);
+    let inverse = Document::insert(&mut document, path, key, value, LIMIT, undo, &mut out);
     let has_inverse = inverse.expect(rt, "memory").is_some();
-    expect_that(rt, "an inverse", has_inverse);
+    expect_eq(rt, has_inverse, undo == Undo::Possible);
     expect_eq(rt, out.as_slice(), br#"> ["old"]"#.as_slice());
 }
 
@@ -262,5 +262,6 @@ fn write_call(rt: HostRuntime) {
     let alloc = rt.alloc();
     let script = script_of(alloc, r#"[["insert",["a"],"k",["new"]]]"#).expect(&rt, "a script");
     assert_eq!(rt; script.len(), 1);
-    expect_write(&rt, alloc, script.command(0));
+    expect_write(&rt, alloc, script.command(0), Undo::Possible);
+    expect_write(&rt, alloc, script.command(0), Undo::Impossible);
 }

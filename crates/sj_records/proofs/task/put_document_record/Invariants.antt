@@ -14,7 +14,7 @@ use Rattle.sj_records.proofs.task.put_document_record.Given as goal
 abbrev pub invariant-loop-left : goal.invariant-loop-left
 invariant-loop-left l =
     let job = task_job l.task in
-    (texts : List (List ℕ)) × Runs job (begun job (nodes_tree (tape_nodes l.fn.tape))) job.script true (option_copied l.left) l.room.history.items l.room.printed.items (l.fn.out.items ++ codes "{\"replies\":[") l.out.items texts
+    (texts : List (List ℕ)) × Runs l.task.undo job (begun job (nodes_tree (tape_nodes l.fn.tape))) job.script true (option_copied l.left) l.room.history.items l.room.printed.items (l.fn.out.items ++ codes "{\"replies\":[") l.out.items texts
     × HasRead l.fn.buffers l.buffers texts
     × (buffer_limit l.buffers ≡ buffer_limit l.fn.buffers)
 

@@ -29,7 +29,7 @@ returns-clause-runs c = λ s readable printed stands.
     let spells = printed_spells c.printing_reads_back.ensures.compact c.printing_reads_back.ensures.indented s.tree bytes readable.0 printed in
     let is = printed_document s.tree limit bytes nodes spells found in
     let begins : s.tree ≡ start (nodes_tree nodes) job.keeping = sym stands.1 ∙ ap (λ (t : Tree). start t job.keeping) (sym is) in
-    let runs = c.in_ok-left.ensures s (subst (λ (t : Tree). StandFor job.keeping t c.args.room.now.history.items s) begins stands) in
+    let runs = c.in_ok-left.ensures s (subst (λ (t : Tree). StandFor c.args.task.undo job.keeping t c.args.room.now.history.items s) begins stands) in
     rw c.swap.ensures.x_after runs
 
 pub returns-clause-texts : goal.returns-clause-texts

@@ -1,7 +1,7 @@
 use Rattle.std.proofs.Common.{◌≡◌, [], sym, ◌∙◌, arith}
 use Rattle.std.proofs.lemmas.List.{append-nil, nil_from_length}
 use Rattle.sj_records.proofs.Histories.{undo_done, undo_none, undo_refused}
-use Rattle.sj_records.proofs.history.undo.Goals as goal
+use Rattle.sj_records.proofs.history.take_back.Goals as goal
 
 pub returns-in_default : goal.returns-in_default
 returns-in_default g c =
