@@ -2,7 +2,7 @@
 use Rattle.std.proofs.Common.{◌≡◌, ℕ, Bool, true, false, List, [], ◌∷◌, ◌++◌, Option, Some, None, Result, Ok, Err, refl, sym, ap, subst, ◌∙◌, inl, inr}
 use Rattle.std.specs.Prelude.{◌⊎◌, map, reverse, is_some, option_map, option_and_then, IsErr}
 use Rattle.std.specs.Option.{unwrap_or}
-use Rattle.std.specs.List.{AllByRecursion}
+use Rattle.std.specs.List.{AllByRecursion, list_all}
 use Rattle.std.proofs.lemmas.Bool.{and_parts}
 use Rattle.std.proofs.lemmas.List.{reverse-append}
 use Rattle.std.proofs.lemmas.Option.{none-some, same_Some}
@@ -29,7 +29,6 @@ use Rattle.sj_documents.proofs.KeptChanges.{StaysKept, settled_kept, insertion_k
 use Rattle.sj_scripts.proofs.KeptTrees.{kept-found}
 use Rattle.sj_documents.proofs.MadeChanges.{same_found}
 use Rattle.sj_records.specs.History.{added, WriteLeaves, UndoLeaves, inverse_view, bases_from, bases, BringsBack, StandFor, may_run}
-use Rattle.sj_records.specs.inside.Undoing.{all_may_run}
 use Rattle.sj_records.specs.Laws.{Undoes, WritesKept, HistoriesStand}
 use Rattle.sj_records.proofs.Inverses.{insert_undone, remove_undone, push_undone, pop_undone, set_undone}
 
@@ -151,7 +150,7 @@ module _ (keeping : Keeping) (t u : Tree) (history : List Inverse) (s : State) w
 -- ---- taking back
 
 -- nothing is left to take back
-pub stands_undone_none : (keeping : Keeping) (t : Tree) (s : State) → StandFor Possible keeping t [] s → ((undone s.tree s.bases).0 ≡ boolean false) × StandFor Possible keeping t [] (undone s.tree s.bases).1
+stands_undone_none : (keeping : Keeping) (t : Tree) (s : State) → StandFor Possible keeping t [] s → ((undone s.tree s.bases).0 ≡ boolean false) × StandFor Possible keeping t [] (undone s.tree s.bases).1
 stands_undone_none keeping t s stand =
     let none : [] ≡ s.bases = same_Some [] s.bases stand.3 in (
       ap (λ bs. (undone s.tree bs).0) (sym none),
@@ -168,7 +167,7 @@ mapped None f y e = absurd (none-some y e)
 mapped (Some x) f y e = (x, refl, same_Some (f x) y e)
 
 module _ (keeping : Keeping) (t u : Tree) (history : List Inverse) (inverse : Inverse) (s : State) (stand : StandFor Possible keeping t (history ++ inverse ∷ []) s) where
-  pub stands_undone : (E : Type 0) (is_made : Bool) → TakesBack {E = E} (Ok is_made) keeping t u (path_view inverse.path.items) (change_view inverse.change)
+  stands_undone : (E : Type 0) (is_made : Bool) → TakesBack {E = E} (Ok is_made) keeping t u (path_view inverse.path.items) (change_view inverse.change)
       → ((undone s.tree s.bases).0 ≡ boolean is_made) × StandFor Possible keeping u history (undone s.tree s.bases).1
   stands_undone E is_made takes =
       let i = inverse_view inverse in
@@ -296,22 +295,18 @@ begun_stands how job t history none =
 
 -- ---- commands that may take a write back
 
--- a command among others
-pub allowed_at : (how : Undo) (cs before behind : List Step) (c : Step) → cs ≡ before ++ c ∷ behind → all_may_run how cs ≡ true → may_run how c ≡ true
-allowed_at how cs before behind c is all = among before (subst (λ (ds : List Step). all_may_run how ds ≡ true) is all)
-  where
-    among : (ds : List Step) → all_may_run how (ds ++ c ∷ behind) ≡ true → may_run how c ≡ true
-    among [] h = (and_parts (may_run how c) (all_may_run how behind) h).0
-    among (d ∷ ds) h = among ds (and_parts (may_run how d) (all_may_run how (ds ++ c ∷ behind)) h).1
-
 -- those behind others
-pub allowed_behind : (how : Undo) (cs before behind : List Step) → cs ≡ before ++ behind → all_may_run how cs ≡ true → all_may_run how behind ≡ true
-allowed_behind how cs before behind is all = rest before (subst (λ (ds : List Step). all_may_run how ds ≡ true) is all)
+pub allowed_behind : (how : Undo) (cs before behind : List Step) → cs ≡ before ++ behind → list_all (may_run how) cs ≡ true → list_all (may_run how) behind ≡ true
+allowed_behind how cs before behind is all = rest before (subst (λ (ds : List Step). list_all (may_run how) ds ≡ true) is all)
   where
-    rest : (ds : List Step) → all_may_run how (ds ++ behind) ≡ true → all_may_run how behind ≡ true
+    rest : (ds : List Step) → list_all (may_run how) (ds ++ behind) ≡ true → list_all (may_run how) behind ≡ true
     rest [] h = h
-    rest (d ∷ ds) h = rest ds (and_parts (may_run how d) (all_may_run how (ds ++ behind)) h).1
+    rest (d ∷ ds) h = rest ds (and_parts (may_run how d) (list_all (may_run how) (ds ++ behind)) h).1
 
-pub all_allowed : (cs : List Step) → all_may_run Possible cs ≡ true
+-- a command among others
+pub allowed_at : (how : Undo) (cs before behind : List Step) (c : Step) → cs ≡ before ++ c ∷ behind → list_all (may_run how) cs ≡ true → may_run how c ≡ true
+allowed_at how cs before behind c is all = (and_parts (may_run how c) (list_all (may_run how) behind) (allowed_behind how cs before (c ∷ behind) is all)).0
+
+pub all_allowed : (cs : List Step) → list_all (may_run Possible) cs ≡ true
 all_allowed [] = refl
 all_allowed (c ∷ cs) = all_allowed cs

@@ -3,4 +3,3 @@ pub mod Progress
 pub mod Reloads
 pub mod Separator
 pub mod Adds
-pub mod Undoing

@@ -1,6 +1,7 @@
 //! What is done to each line of a stream.
 ghost use Rattle.std.specs.Prelude.{◌≡◌, true};
-ghost use Rattle.sj_records.specs.inside.Undoing.{all_may_run};
+ghost use Rattle.std.specs.List.{list_all};
+ghost use Rattle.sj_records.specs.History.{may_run};
 ghost use Rattle.sj_scripts.specs.Script.{commands_view};
 ghost use Rattle.sj_scripts.specs.Steps.{steps_of};
 
@@ -19,12 +20,12 @@ pub(crate) struct Task<'s> {
     pub(crate) repeats: Repeats,
     /// Whether a command may take a write back.
     pub(crate) undo: Undo,
-    ghost allowed: { all_may_run undo (steps_of script.now) ≡ true },
+    ghost allowed: { list_all (may_run undo) (steps_of script.now) ≡ true },
 }
 
 /// Returns `Undo::Possible` if one of the commands is `Undo`, and else `Undo::Impossible`.
 pub(crate) fn undo_of(commands: &[Command]) -> Undo
-    ensures { all_may_run result (commands_view commands.now) ≡ true }
+    ensures { list_all (may_run result) (commands_view commands.now) ≡ true }
 {
     for command in commands {
         if matches!(command, Command::Undo) {

@@ -1,5 +1,6 @@
 //! The record of one line, in bytes.
 ghost use Rattle.std.specs.Prelude.{◌≡◌, ◌≢◌, ℕ, nat_le, true, false, List, ◌∷◌, [], ◌++◌, length, Some, option_map, OnOk, IfOk, IfErr};
+ghost use Rattle.std.specs.List.{list_all};
 ghost use Rattle.std.specs.Option.{option_copied};
 ghost use Rattle.sj_base.specs.Spelling.{longest};
 ghost use Rattle.sj_base.specs.Tree.{Tree};
@@ -18,7 +19,6 @@ ghost use Rattle.sj_tape.specs.Views.{tape_nodes, nodes_tree};
 ghost use Rattle.sj_scripts.specs.inside.ReadErrors.{IfRefused};
 ghost use Rattle.sj_records.specs.Job.{repeats_of};
 ghost use Rattle.sj_records.specs.inside.Progress.{task_job};
-ghost use Rattle.sj_records.specs.inside.Undoing.{all_may_run};
 ghost use Rattle.sj_records.specs.inside.Reloads.{IsReadable, IsPrinted, Runs};
 
 use crate::form::Form;
@@ -247,7 +247,7 @@ fn run_on_text<'s>(
     out: &mut Vec<u8>,
 ) -> Result<Option<&'s [Command]>, AllocError>
     requires limit { buffer_limit buffers.old ≡ task.depth }
-    requires allowed { all_may_run task.undo (commands_view commands.now) ≡ true }
+    requires allowed { list_all (may_run task.undo) (commands_view commands.now) ≡ true }
     requires readable { (t : Tree) × IsReadable task.depth t × IsPrinted t room.old.printed.items }
     ensures runs { IfOk result (λ left. (s : State) → IsReadable task.entry.depth s.tree → IsPrinted s.tree room.old.printed.items
         → StandFor task.entry.undo (task_job task.entry).keeping s.tree room.old.history.items s
@@ -289,7 +289,7 @@ fn run_on_tape<'s>(
     out: &mut Vec<u8>,
 ) -> Result<Option<&'s [Command]>, AllocError>
     requires not_empty { tape_nodes tape.old ≢ [] }
-    requires allowed { all_may_run task.undo (commands_view commands.now) ≡ true }
+    requires allowed { list_all (may_run task.undo) (commands_view commands.now) ≡ true }
     ensures { IfOk result (λ left. (s : State)
         → StandFor task.entry.undo (task_job task.entry).keeping (start (nodes_tree (tape_nodes tape.old)) (task_job task.entry).keeping) history.old.items s
         → Runs task.entry.undo (task_job task.entry) s (commands_view commands.now) is_first (option_copied left) history.new.items text.new.items out.old.items out.new.items []) }
@@ -322,7 +322,7 @@ fn run_commands<'s, T: Document + Drop>(
     out: &mut Vec<u8>,
 ) -> Result<Option<&'s [Command]>, AllocError>
     requires keeping { T.keeping ≡ (task_job task).keeping }
-    requires allowed { all_may_run task.undo (commands_view commands.now) ≡ true }
+    requires allowed { list_all (may_run task.undo) (commands_view commands.now) ≡ true }
     ensures { IfOk result (λ left. (s : State) → StandFor task.entry.undo T.keeping (T.tree document) history.old.items s
         → Runs task.entry.undo (task_job task.entry) s (commands_view commands.now) is_first (option_copied left) history.new.items text.new.items out.old.items out.new.items []) }
 {

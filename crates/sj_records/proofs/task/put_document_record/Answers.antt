@@ -1,4 +1,5 @@
 use Rattle.std.proofs.Common.{ℕ, List, [], ◌∷◌, ◌++◌, true, false, refl, sym, ap, subst, ◌∙◌, arith}
+use Rattle.std.specs.List.{list_all}
 use Rattle.std.specs.Option.{option_copied}
 use Rattle.sj_tape.specs.Views.{tape_nodes, nodes_tree}
 use Rattle.sj_scripts.specs.Command.{Step}
@@ -6,7 +7,7 @@ use Rattle.sj_scripts.specs.Script.{commands_view}
 use Rattle.sj_documents.specs.Step.{begun, after}
 use Rattle.sj_records.specs.inside.Progress.{task_job}
 use Rattle.sj_records.specs.inside.Reloads.{Runs}
-use Rattle.sj_records.specs.inside.Undoing.{all_may_run}
+use Rattle.sj_records.specs.History.{may_run}
 use Rattle.sj_records.specs.Texts.{HasRead}
 use Rattle.sj_records.proofs.Histories.{begun_stands, allowed_behind}
 use Rattle.sj_records.proofs.Readable.{reached_again}
@@ -23,7 +24,7 @@ loop-left-init c =
     ([], subst (λ (bs : List ℕ). Runs c.args.task.undo job (begun job t) job.script true (option_copied c.in_ok-left.left) c.run_on_tape.new.history.items c.run_on_tape.new.text.items bs c.run_on_tape.new.out.items []) c.in_ok-extend_from_slice.ensures.items scripted, HasRead-nothing c.args.buffers.now, refl)
 
 pub run_on_tape-requires-clause-allowed : goal.run_on_tape-requires-clause-allowed
-run_on_tape-requires-clause-allowed c = ap (all_may_run c.args.task.undo) c.commands-commands.ensures.commands ∙ c.args.task.allowed
+run_on_tape-requires-clause-allowed c = ap (list_all (may_run c.args.task.undo)) c.commands-commands.ensures.commands ∙ c.args.task.allowed
 
 pub run_on_text-requires-clause-allowed : goal.run_on_text-requires-clause-allowed
 run_on_text-requires-clause-allowed c =
