@@ -73,8 +73,8 @@ fn split_digits(bytes: &[u8]) -> (&[u8], &[u8])
     (bytes, &[])
 }
 
-/// Returns `true` if these bytes, which have to be digits, are those of a whole number: `0` alone, or any that begin with another
-/// digit.
+/// Returns `true` if these bytes are those of a whole number: `0` alone, or any digits that begin with another one. They have to
+/// be digits ([`u8::is_ascii_digit`]).
 #[inline(always)]
 pub fn is_whole(digits: &[u8]) -> bool
     requires { all_ascii_digits digits.now ≡ true }

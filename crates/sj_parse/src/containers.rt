@@ -38,7 +38,7 @@ impl Frame {
     }
 }
 
-/// Counts the value that was read in the container that holds it.
+/// Counts one more item or member of the innermost open container, and returns what may come next.
 #[inline(always)]
 pub(crate) fn after_value(stack: &mut Vec<Frame>) -> State
     requires { (ws : List Waiting) × (stack.old.items ≡ waiting_stack ws) × (length (waiting_entries ws) < 2 ^ 64) }

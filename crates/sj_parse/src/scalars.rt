@@ -33,8 +33,8 @@ fn body_len(bytes: &[u8]) -> usize
     len
 }
 
-/// The length of the body that begins the bytes, and a number of its first bytes that are no backslashes: all of them if
-/// the body has none.
+/// The length of the body that begins the bytes, and the length of a front of it that has no backslash. Both are equal if the
+/// body has none.
 #[inline(always)]
 fn find_body(bytes: &[u8]) -> (usize, usize)
     ensures body { take result.0 bytes.now ≡ string_body bytes.now }

@@ -2,8 +2,8 @@
 ghost use Rattle.std.specs.Prelude.{◌≡◌, ℕ, ◌+◌, ◌^◌, ◌<◌, ◌≤◌, ◌++◌, List, length, vec_len, vec_capacity, All};
 ghost use Rattle.sj_scan.specs.inside.Masks.{set_places, IsPrefix};
 
-// Appends the place of each bit. The first eight need no test, which most blocks have no more of, and the vector is cut
-// after those that the mask has.
+// Appends the place of each bit. Eight are appended at a time, since most blocks have no more than eight, and then the vector
+// is truncated to the places that the mask has.
 #[inline(always)]
 pub(crate) fn push_places(out: &mut Vec<u32>, base: u32, mask: u64)
     requires room { vec_len out.old + 64 ≤ vec_capacity out.old }

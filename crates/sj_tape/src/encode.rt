@@ -136,7 +136,8 @@ impl Value<'_, '_> {
 
     /// Writes the compact text of the value to `writer`. Port of `value_trait::Writable::write`.
     ///
-    /// The recursion is as deep as the value nests.
+    /// Each bracket, quote and run of text is a write of its own, so a file or a pipe wants a buffer in between. The recursion is
+    /// as deep as the value nests.
     ///
     /// # Errors
     ///
@@ -150,7 +151,8 @@ impl Value<'_, '_> {
     /// Writes the text of the value to `writer`, with each item and member on a line of its own, indented by two spaces a
     /// level. Port of `value_trait::Writable::write_pp`.
     ///
-    /// The recursion is as deep as the value nests.
+    /// Each bracket, quote and run of text is a write of its own, so a file or a pipe wants a buffer in between. The recursion is
+    /// as deep as the value nests.
     ///
     /// # Errors
     ///

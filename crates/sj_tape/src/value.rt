@@ -302,8 +302,8 @@ impl<'t, 'i> Value<'t, 'i> {
         }
     }
 
-    /// Returns a view of the value whose nodes begin at this index of [`Value::nodes`]. The key of a member is a string
-    /// here. To test the condition, compare the index with the length of the nodes.
+    /// Returns a view of the value whose nodes begin at this index of [`Value::nodes`]. The index has to be below the number of
+    /// these nodes. The key of a member is a string here.
     pub fn value_at(&self, index: usize) -> Value<'t, 'i>
         requires { index < length (value_nodes self.now) }
         ensures nodes { (rest : List Node) × (drop index (value_nodes self.now) ≡ value_nodes result ++ rest) }
