@@ -1,5 +1,5 @@
 -- What a call answers that reads a text, and what it leaves in its buffers.
-use Rattle.std.specs.Prelude.{◌≡◌, ℕ, List, [], ◌⊎◌, Option, Some, None, Result, Ok, Err, vec_capacity}
+use Rattle.std.specs.Prelude.{◌≡◌, ℕ, List, [], ◌⊎◌, ◌≤◌, Option, Some, None, Result, Ok, Err, length, min, vec_capacity}
 use Rattle.sj_base.specs.Tree.{Tree}
 use Rattle.sj_base.specs.Spelling.{Document}
 use Rattle.sj_base.specs.declared.error.Error.{Error}
@@ -48,6 +48,16 @@ buffer_limit b = b.max_depth
 -- the number of positions for which there is room
 abbrev pub buffer_room : Buffers → ℕ
 buffer_room b = vec_capacity b.positions
+
+-- the number of open containers for which there is room
+abbrev pub buffer_levels : Buffers → ℕ
+buffer_levels b = vec_capacity b.stack
+
+-- Reading these bytes into a tape with room for so many nodes takes no memory.
+abbrev pub HasRoomFor : List ℕ → Buffers → ℕ → Type 0
+HasRoomFor bytes b nodes =
+    let count = length (positions bytes) in
+    (length bytes ≤ buffer_room b) × (count ≤ nodes) × (min (buffer_limit b) count ≤ buffer_levels b)
 
 -- none after a fault of the scan
 abbrev pub positions_behind : List ℕ → Option ScanFault → List ℕ

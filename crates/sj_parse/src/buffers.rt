@@ -1,6 +1,6 @@
 //! The room that reading works in, kept from one text to the next.
 ghost use Rattle.std.specs.Prelude.{◌≡◌, ◌/◌, ◌≤◌, [], ◌∷◌, ◌++◌, IfOk};
-ghost use Rattle.sj_parse.specs.Answers.{buffer_texts, buffer_positions, buffer_limit, buffer_room};
+ghost use Rattle.sj_parse.specs.Answers.{buffer_texts, buffer_positions, buffer_limit, buffer_room, buffer_levels};
 
 use crate::containers::Frame;
 use sj_base::{DEFAULT_MAX_DEPTH, Trace};
@@ -87,6 +87,7 @@ impl Buffers {
         ensures texts { buffer_texts self.new ≡ buffer_texts self.old }
         ensures positions { buffer_positions self.new ≡ [] }
         ensures limit { buffer_limit self.new ≡ buffer_limit self.old }
+        ensures room { (buffer_room self.new ≡ 0) × (buffer_levels self.new ≡ 0) }
     {
         let alloc = self.allocator();
         self.positions = Vec::new(alloc);
@@ -99,6 +100,7 @@ impl Buffers {
         ensures positions { buffer_positions self.new ≡ buffer_positions self.old }
         ensures limit { buffer_limit self.new ≡ buffer_limit self.old }
         ensures room { buffer_room self.new ≡ buffer_room self.old }
+        ensures levels { buffer_levels self.new ≡ buffer_levels self.old }
     {
         self.texts = self.texts.then(len);
     }

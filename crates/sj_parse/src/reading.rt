@@ -3,14 +3,14 @@
 //! A call tests the length of the input, and in the padded form the padding, and then scans it: these faults are about
 //! the whole text, and stand at index 0 without a character. Then it reserves all the room that the descent over the
 //! tokens needs. The faults of the descent name a byte, and the first one is the answer.
-ghost use Rattle.std.specs.Prelude.{◌≡◌, ◌≢◌, ℕ, ◌+◌, ◌<◌, ◌≤◌, ◌⊎◌, [], ◌∷◌, ◌++◌, None, Err, IfErr, IfOk, OnOk, OnErr, length, take, min, vec_capacity};
+ghost use Rattle.std.specs.Prelude.{◌≡◌, ◌≢◌, ℕ, ◌+◌, ◌<◌, ◌≤◌, ◌⊎◌, [], ◌∷◌, ◌++◌, None, Err, IfErr, IfOk, IsOk, OnOk, OnErr, length, take, min, vec_capacity};
 ghost use Rattle.sj_base.specs.Spelling.{longest};
 ghost use Rattle.sj_base.specs.declared.TheConstants.{DEFAULT_MAX_DEPTH};
 ghost use Rattle.sj_scan.specs.Positions.{positions};
 ghost use Rattle.sj_scan.specs.Scan.{scan_fault};
-ghost use Rattle.sj_tape.specs.Views.{tape_nodes};
+ghost use Rattle.sj_tape.specs.Views.{tape_nodes, tape_room};
 ghost use Rattle.sj_parse.specs.Fault.{generic, scan_kind, fault, padding, padded_fault};
-ghost use Rattle.sj_parse.specs.Answers.{Answers, IsErrorOf, Leaves, buffer_texts, buffer_positions, buffer_limit, buffer_room};
+ghost use Rattle.sj_parse.specs.Answers.{Answers, IsErrorOf, Leaves, HasRoomFor, buffer_texts, buffer_positions, buffer_limit, buffer_room, buffer_levels};
 
 use crate::Result;
 use crate::buffers::Buffers;
@@ -72,6 +72,7 @@ pub fn to_tape_with_buffers<'de>(
     ensures limit { buffer_limit buffers.new ≡ buffer_limit buffers.old }
     ensures room { buffer_room buffers.old ≤ buffer_room buffers.new }
     ensures bound { IfOk result (λ tape. length (tape_nodes tape) ≤ length (buffer_positions buffers.new)) }
+    ensures levels { buffer_levels buffers.old ≤ buffer_levels buffers.new }
 {
     let mut tape = Tape::empty(alloc);
     fill_tape(s, buffers, &mut tape)?;
@@ -100,6 +101,9 @@ pub fn fill_tape<'de>(s: &'de mut [u8], buffers: &mut Buffers, tape: &mut Tape<'
     ensures limit { buffer_limit buffers.new ≡ buffer_limit buffers.old }
     ensures room { buffer_room buffers.old ≤ buffer_room buffers.new }
     ensures bound { OnOk result (length (tape_nodes tape.new) ≤ length (buffer_positions buffers.new)) }
+    ensures levels { buffer_levels buffers.old ≤ buffer_levels buffers.new }
+    ensures tape_room { tape_room tape.old ≤ tape_room tape.new }
+    ensures enough { HasRoomFor s.entry.now buffers.old (tape_room tape.old) → IfErr result (λ e. e ≢ generic ErrorType.OutOfMemory) }
 {
     fill_tape_by(&mut BlockScan, s, buffers, tape)
 }
@@ -126,6 +130,9 @@ pub fn fill_tape_by<'de, S: Stage1>(
     ensures limit { buffer_limit buffers.new ≡ buffer_limit buffers.old }
     ensures room { buffer_room buffers.old ≤ buffer_room buffers.new }
     ensures bound { OnOk result (length (tape_nodes tape.new) ≤ length (buffer_positions buffers.new)) }
+    ensures levels { buffer_levels buffers.old ≤ buffer_levels buffers.new }
+    ensures tape_room { tape_room tape.old ≤ tape_room tape.new }
+    ensures enough { HasRoomFor s.entry.now buffers.old (tape_room tape.old) → IfErr result (λ e. e ≢ generic ErrorType.OutOfMemory) }
 {
     let len = s.len();
     let mut nodes = take_room(buffers.allocator(), tape);
@@ -168,6 +175,9 @@ pub fn fill_tape_padded<'de>(
     ensures limit { buffer_limit buffers.new ≡ buffer_limit buffers.old }
     ensures room { buffer_room buffers.old ≤ buffer_room buffers.new }
     ensures bound { OnOk result (length (tape_nodes tape.new) ≤ length (buffer_positions buffers.new)) }
+    ensures levels { buffer_levels buffers.old ≤ buffer_levels buffers.new }
+    ensures tape_room { tape_room tape.old ≤ tape_room tape.new }
+    ensures enough { HasRoomFor (take len s.entry.now) buffers.old (tape_room tape.old) → IfErr result (λ e. e ≢ generic ErrorType.OutOfMemory) }
 {
     if let Err(error) = test_padding(s, len) {
         buffers.note(len);
@@ -182,6 +192,7 @@ pub fn fill_tape_padded<'de>(
 fn take_room<'de>(alloc: Global, tape: &mut Tape<'de>) -> Vec<Node<'de>>
     ensures nodes { result.items ≡ [] }
     ensures tape { tape_nodes tape.new ≡ [] }
+    ensures room { vec_capacity result ≡ tape_room tape.old }
 {
     let mut nodes = mem::replace(tape, Tape::empty(alloc)).into_nodes();
     nodes.clear();
@@ -205,6 +216,9 @@ fn read_nodes<'de, S: Stage1>(
     ensures limit { buffer_limit buffers.new ≡ buffer_limit buffers.old }
     ensures room { buffer_room buffers.old ≤ buffer_room buffers.new }
     ensures bound { OnOk result (length nodes.new.items ≤ length (buffer_positions buffers.new)) }
+    ensures levels { buffer_levels buffers.old ≤ buffer_levels buffers.new }
+    ensures grows { vec_capacity nodes.old ≤ vec_capacity nodes.new }
+    ensures enough { HasRoomFor s.entry.now buffers.old (vec_capacity nodes.old) → IfErr result (λ e. e ≢ generic ErrorType.OutOfMemory) }
 {
     let Buffers {
         positions,
@@ -226,6 +240,7 @@ fn scan<S: Stage1>(scanner: &mut S, text: &[u8], places: &mut Vec<u32>) -> Resul
     ensures scanned { length text.now ≤ longest → Leaves text.now result places.new.items }
     ensures not_scanned { longest < length text.now → places.new.items ≡ places.old.items }
     ensures capacity { vec_capacity places.old ≤ vec_capacity places.new }
+    ensures enough { length text.now ≤ vec_capacity places.old → IfErr result (λ e. e ≢ generic ErrorType.OutOfMemory) }
 {
     test_len(text.len())?;
     scanner.scan(text, places).map_err(scan_error)
@@ -243,6 +258,8 @@ fn make_room(
     ensures nodes { OnOk result (count ≤ vec_capacity nodes.new) }
     ensures stack { OnOk result (min limit count ≤ vec_capacity stack.new) }
     ensures err { IfErr result (λ e. e ≡ generic ErrorType.OutOfMemory) }
+    ensures grows { (vec_capacity nodes.old ≤ vec_capacity nodes.new) × (vec_capacity stack.old ≤ vec_capacity stack.new) }
+    ensures enough { count ≤ vec_capacity nodes.old → min limit count ≤ vec_capacity stack.old → IsOk result }
 {
     stack.clear();
     nodes.reserve(count)?;

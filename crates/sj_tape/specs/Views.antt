@@ -1,5 +1,6 @@
 -- What tapes, views and their iterators stand for.
-use Rattle.std.specs.Prelude.{ℕ, List, [], ◌∷◌, Option, Result, option_map, map}
+use Rattle.std.specs.Prelude.{ℕ, List, [], ◌∷◌, Option, Result, option_map, map, Vec, vec_capacity}
+use Rattle.std.specs.declared.alloc.Global.{Global}
 use Rattle.sj_reads.specs.Views.{ok_map}
 use Rattle.sj_base.specs.Tree.{Tree, Items, Members}
 use Rattle.sj_base.specs.declared.static_node.ValueType.{ValueType}
@@ -20,6 +21,14 @@ use Rattle.sj_tape.specs.declared.value.Value.{Value}
 
 abbrev pub tape_nodes : Tape → List Node
 tape_nodes t = t.nodes.items
+
+-- the vector of its nodes
+abbrev pub tape_vector : Tape → Vec Node Global
+tape_vector t = t.nodes
+
+-- the number of nodes for which there is room
+abbrev pub tape_room : Tape → ℕ
+tape_room t = vec_capacity (tape_vector t)
 
 -- none if the tape is empty
 abbrev pub tape_tree : Tape → Option Tree

@@ -20,14 +20,16 @@ pub struct Tape<'i> {
 }
 
 impl<'i> Tape<'i> {
-    ghost use Rattle.sj_tape.specs.Views.{tape_nodes, tape_tree, value_nodes, value_tree};
+    ghost use Rattle.sj_tape.specs.Views.{tape_nodes, tape_vector, tape_tree, value_nodes, value_tree};
 
     /// Creates a tape from nodes, or returns `None` if they aren't the preorder of one document.
     ///
-    /// Each `len` and each `count` is checked. Takes no memory, and recurses once for each level of nesting.
+    /// Each `len` and each `count` is checked. The tape keeps the vector. Takes no memory, and recurses once for each level of
+    /// nesting.
     pub fn new(nodes: Vec<Node<'i>>) -> Option<Tape<'i>>
         ensures accepts { IsSome result ↔ ((t : Tree) × (entries nodes.entry.items ≡ listing t)) }
         ensures nodes { IfSome result (λ tape. tape_nodes tape ≡ nodes.entry.items) }
+        ensures vector { IfSome result (λ tape. tape_vector tape ≡ nodes.entry) }
         ensures not_empty { IfSome result (λ tape. tape_nodes tape ≢ []) }
         ensures tree { (t : Tree) → entries nodes.entry.items ≡ listing t
             → IfSome result (λ tape. tape_tree tape ≡ Some t) }
@@ -42,10 +44,11 @@ impl<'i> Tape<'i> {
 
     /// Creates a tape from nodes that are already known to be the preorder of one valid document, or from no node.
     ///
-    /// Checks nothing and takes no memory. For nodes of another origin use [`Tape::new`].
+    /// The tape keeps the vector. Checks nothing and takes no memory. For nodes of another origin use [`Tape::new`].
     pub fn from_listing(nodes: Vec<Node<'i>>) -> Tape<'i>
         requires { (nodes.items ≡ []) ⊎ IsPreorder (entries nodes.items) }
         ensures nodes { tape_nodes result ≡ nodes.entry.items }
+        ensures vector { tape_vector result ≡ nodes.entry }
         ensures tree { (t : Tree) → entries nodes.entry.items ≡ listing t → tape_tree result ≡ Some t }
     {
         Tape { nodes }
@@ -86,9 +89,10 @@ impl<'i> Tape<'i> {
         &self.nodes
     }
 
-    /// Returns the vector of the nodes in preorder. Takes no memory.
+    /// Returns the tape's own vector of the nodes in preorder, with its room. Takes no memory.
     pub fn into_nodes(self) -> Vec<Node<'i>>
         ensures nodes { result.items ≡ tape_nodes self.entry }
+        ensures vector { result ≡ tape_vector self.entry }
         ensures tree { entries result.items ≡ option_listing (tape_tree self.entry) }
     {
         self.nodes
