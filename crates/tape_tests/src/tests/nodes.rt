@@ -1,5 +1,4 @@
-//! Of `sj_tape`: which worked lists of nodes are a document, that a tape keeps its vector, the worked indented text, and
-//! sinks that refuse.
+//! Of `sj_tape`: which worked lists of nodes are a document, the worked indented text, and sinks that refuse.
 ghost use Rattle.std.specs.Prelude.{◌≡◌, ◌≢◌, []};
 ghost use Rattle.sj_tape.specs.Views.{tape_nodes};
 
@@ -100,17 +99,6 @@ fn views_of_nodes(rt: HostRuntime) {
 fn document_null(rt: HostRuntime) {
     let tape = Tape::null(rt.alloc()).expect(&rt, "memory");
     expect_that(&rt, "null", tape.as_value().is_null());
-}
-
-#[test]
-fn nodes_keep_their_vector(rt: HostRuntime) {
-    let mut nodes = Vec::with_capacity(rt.alloc(), 100).expect(&rt, "memory");
-    nodes
-        .push(Node::Static(StaticNode::Null))
-        .expect(&rt, "memory");
-    let nodes = Tape::new(nodes).expect(&rt, "a tape").into_nodes();
-    expect_eq(&rt, nodes.len(), 1);
-    expect_that(&rt, "the room of before", nodes.capacity() >= 100);
 }
 
 #[test]

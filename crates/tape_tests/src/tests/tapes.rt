@@ -1,5 +1,5 @@
-//! Of `sj_parse` and `sj_tape`: worked reads of tapes, that a tape's room is used again, tapes that are printed into one
-//! buffer, and that there is memory for what is asked.
+//! Of `sj_parse` and `sj_tape`: worked reads of tapes, tapes that are printed into one buffer, and that there is memory for
+//! what is asked.
 use super::{expect_at, expect_bytes, expect_eq, expect_that, is_there};
 use sj_base::{Error, ErrorType, TextBuffer, TryTypeError, ValueType};
 use sj_parse::{
@@ -165,25 +165,6 @@ fn filled_tape(rt: HostRuntime) {
     expect_document(&rt, rt.alloc(), &tape, "[1]");
     fill_tape_by(&mut PlainScan, &mut second, &mut buffers, &mut tape).expect(&rt, "a tape");
     expect_document(&rt, rt.alloc(), &tape, "[2]");
-}
-
-#[test]
-fn room_of_a_tape_is_used_again(rt: HostRuntime) {
-    let mut first = *b"[1,2]";
-    let mut second = *b"[3";
-    let mut third = *br#""a"#;
-    let mut fourth = *br#"{"a":4}"#;
-    let mut buffers = Buffers::new(rt.alloc(), 10).expect(&rt, "memory");
-    let nodes = Vec::with_capacity(rt.alloc(), 100).expect(&rt, "memory");
-    let mut tape = Tape::from_listing(nodes);
-    fill_tape(&mut first, &mut buffers, &mut tape).expect(&rt, "a tape");
-    let fault = fill_tape(&mut second, &mut buffers, &mut tape);
-    expect_that(&rt, "a fault", fault.is_err());
-    let fault = fill_tape(&mut third, &mut buffers, &mut tape);
-    expect_that(&rt, "a fault", fault.is_err());
-    let fault = fill_tape_padded(&mut fourth, 7, &mut buffers, &mut tape);
-    expect_that(&rt, "a fault", fault.is_err());
-    expect_eq(&rt, tape.into_nodes().capacity(), 100);
 }
 
 // Two hundred bytes of brackets.
