@@ -9,7 +9,8 @@
 # lines but the last one in the end. A run that does without the request has to end with status 0 and to leave all records.
 #
 # `tests`: those of the tests below that look at what stands after a refusal run with each of their requests refused. They may fail
-# for the want of memory, but not by an assertion.
+# for the want of memory, but not by an assertion. At least one of the refusals has to be one that the test looks for: it says
+# `no memory` then.
 #
 # Without a word it does both. It needs gcc, glibc and Python 3. The program and the tests are made by `rt run` and `rt test`, which
 # prove them first. Settings are taken from the environment:
@@ -35,7 +36,7 @@ make_it() { # make_it CRATE COMMAND..: once in a run
 }
 
 fail() { # fail WHAT
-    echo "$of, request $number${rest:+ and all behind it}: $1" >&2
+    echo "$of${number:+, request $number}${rest:+ and all behind it}: $1" >&2
     exit 1
 }
 

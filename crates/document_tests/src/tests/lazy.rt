@@ -253,6 +253,15 @@ fn expect_of_call(rt: &impl Abort, call: Lending, text: &str, found: bool, expec
     assert_eq!(rt; found, expected, "{call:?} on {text}");
 }
 
+// Fails where a call lacked memory, once all else has been looked at.
+fn expect_made_call(is_made: bool) -> Result<(), Fail> {
+    if is_made {
+        Ok(())
+    } else {
+        Err(Fail::new("no memory"))
+    }
+}
+
 // Makes one of these calls on the tape of a text, which leaves the document of another one.
 fn expect_upgraded(
     rt: &impl Abort,
@@ -261,11 +270,12 @@ fn expect_upgraded(
     value: &mut Value<'_, '_, '_>,
     text: &str,
     left: &str,
-) -> Result<(), AllocError> {
+) -> Result<(), Fail> {
     let is_made = call.is_made(value, alloc);
     expect_of_call(rt, call, text, value.is_value(), is_made);
     expect_of_call(rt, call, text, value.is_tape(), !is_made);
-    try_expect_text(rt, alloc, value, if is_made { left } else { text })
+    try_expect_text(rt, alloc, value, if is_made { left } else { text })?;
+    expect_made_call(is_made)
 }
 
 // Makes each of them.
@@ -355,11 +365,12 @@ fn expect_copied(
     alloc: Global,
     call: Lending,
     value: &mut Value<'_, '_, '_>,
-) -> Result<(), AllocError> {
+) -> Result<(), Fail> {
     let is_made = call.is_made(value, alloc);
     let is_owned = matches!(value, Value::Value(Held::Owned(_)));
     expect_of_call(rt, call, "a borrowed document", is_owned, is_made);
-    try_expect_text(rt, alloc, value, r#"{"a":[1,2],"s":"x"}"#)
+    try_expect_text(rt, alloc, value, r#"{"a":[1,2],"s":"x"}"#)?;
+    expect_made_call(is_made)
 }
 
 // The same for each call.
@@ -479,14 +490,18 @@ fn keeps_the_first<T: ValueGetScalar + Drop>(document: T) -> bool {
     document.get_u8("a") == Some(1)
 }
 
-// Whether the value becomes a document of its own with the first member. Where that lacks memory, it comes back as it was.
+// Makes the value a document of its own with the first member, or returns `false` where that lacks memory and the value comes back
+// as it was.
 fn becomes_document(
     rt: &impl Abort,
     alloc: Global,
     value: Value<'_, '_, '_>,
 ) -> Result<bool, AllocError> {
     match value.into_value(alloc) {
-        Ok(document) => Ok(keeps_the_first(document)),
+        Ok(document) => {
+            expect_that(rt, "the first member", keeps_the_first(document));
+            Ok(true)
+        }
         Err(value) => expect_left(rt, alloc, &value),
     }
 }
@@ -497,11 +512,7 @@ fn value_of_a_tape(rt: HostRuntime) -> Result<(), Fail> {
     let alloc = rt.alloc();
     let mut text = bytes(alloc, r#"{"a":1,"a":2}"#)?;
     let tape = to_tape(alloc, &mut text)?;
-    if becomes_document(&rt, alloc, lazy(&tape)?)? {
-        Ok(())
-    } else {
-        Err("no memory, or another member".into())
-    }
+    expect_made_call(becomes_document(&rt, alloc, lazy(&tape)?)?)
 }
 
 #[test]

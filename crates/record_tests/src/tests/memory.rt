@@ -48,7 +48,7 @@ fn check(
     let keep = Repeats::Keep;
     let ended = run_by(alloc, input, &mut output, &script, LIMIT, form, keep);
     expect_first(rt, ended, &output, records.as_bytes());
-    ended.ok().ok_or("memory")?;
+    ended.ok().ok_or("no memory")?;
     Ok(())
 }
 

@@ -193,7 +193,7 @@ fn second_text_of_a_kind(rt: HostRuntime) -> Result<(), Fail> {
         let mut out = Vec::new(rt.alloc());
         tape.as_value().encode(&mut out)?;
         expect_eq(&rt, out.as_slice(), b"[1]".as_slice());
-        return Ok(());
+        return Err(Fail::new("no memory"));
     }
     let second = fill_tape(&mut second, &mut buffers, &mut tape);
     expect_eq(&rt, second, Ok(()));
