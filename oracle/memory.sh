@@ -92,7 +92,7 @@ END
 refuse_to_tests() {
     rest=''
     while read -r crate test; do
-        of="$crate, $test"
+        of="$crate, $test" number='' found=0
         tests=$top/crates/$crate/out/${crate}_tests
         make_it "$crate" rt test
         REFUSE_MADE="$work/made" LD_PRELOAD="$work/refuse.so" "$tests" "$test" > "$work/out" 2>&1 || fail "$(cat "$work/out")"
@@ -100,9 +100,12 @@ refuse_to_tests() {
         for ((number = 1; number <= made; number++)); do
             if ! REFUSE=$number LD_PRELOAD="$work/refuse.so" "$tests" "$test" > "$work/out" 2>&1; then
                 grep -q 'the test failed: its result gives status 1' "$work/out" || fail "$(cat "$work/out")"
+                if grep -q 'no memory' "$work/out"; then found=$((found + 1)); fi
             fi
         done
-        echo "$of: each of $made requests refused"
+        number=''
+        [ "$found" -gt 0 ] || fail 'none of its requests is one that it looks for'
+        echo "$of: each of $made requests refused, $found of them where it looks for it"
     done << 'END'
 tape_tests tests::objects::refused_pairs
 tape_tests tests::tapes::second_text_of_a_kind
