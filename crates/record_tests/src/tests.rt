@@ -303,12 +303,9 @@ fn display_texts(rt: HostRuntime) {
         fault: CommandFault::NoName,
     };
     for (fault, text) in &[
-        (
-            ScriptFault::Json(Error::generic(ErrorType::Eof)),
-            "Eof at character 0",
-        ),
+        (ScriptFault::Json(Error::generic(ErrorType::Eof)), "Json"),
         (ScriptFault::NotAnArray, "NotAnArray"),
-        (no_name, "command 0: NoName"),
+        (no_name, "Command"),
         (ScriptFault::Memory, "Memory"),
     ] {
         expect_display(&rt, rt.alloc(), fault, text);

@@ -1,8 +1,8 @@
 //! The type of lazy values, and how new ones are made.
-ghost use Rattle.std.specs.Prelude.{◌≡◌, [], Some, IfSome, IfOk, true, false, option_map};
+ghost use Rattle.std.specs.Prelude.{◌≡◌, ◌≤◌, [], Some, IfSome, IfOk, true, false, option_map, vec_capacity};
 ghost use Rattle.std.specs.Option.{option_copied};
 ghost use Rattle.sj_base.specs.Tree.{null};
-ghost use Rattle.sj_owned.specs.Views.{items_inside, members_inside};
+ghost use Rattle.sj_owned.specs.Views.{array_inside, items_inside, members_inside};
 ghost use Rattle.sj_tape.specs.Views.{value_tree, value_nodes};
 
 use crate::held::Held;
@@ -106,7 +106,8 @@ impl<'b, 't, 'i> Value<'b, 't, 'i> {
     ///
     /// `AllocError` if there is no memory for that room.
     pub fn array_with_capacity(alloc: Global, capacity: usize) -> Result<Self, AllocError>
-        ensures { IfOk result (OwnsSuch (λ d. items_inside d ≡ Some [])) }
+        ensures empty { IfOk result (OwnsSuch (λ d. items_inside d ≡ Some [])) }
+        ensures room { IfOk result (OwnsSuch (λ d. IfSome (array_inside d) (λ vs. capacity ≤ vec_capacity vs))) }
     {
         Ok(Value::owned(BorrowedValue::array_with_capacity(alloc, capacity)?))
     }

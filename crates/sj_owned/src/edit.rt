@@ -1,5 +1,5 @@
 //! Edits of a document, with the names of the traits of `value_trait`.
-ghost use Rattle.std.specs.Prelude.{◌≡◌, [], ◌∷◌, ◌++◌, Some, IsSome, IsNone, IsOk, is_ok, if◌then◌else◌, IfOk, IfErr, OnOk, OnErr, option_map, ok_or};
+ghost use Rattle.std.specs.Prelude.{◌≡◌, ◌<◌, [], ◌∷◌, ◌++◌, Some, IsSome, IfSome, IsNone, IsOk, is_ok, if◌then◌else◌, IfOk, IfErr, OnOk, OnErr, option_map, ok_or, vec_len, vec_capacity};
 ghost use Rattle.sj_object.specs.Pairs.{value_at, put_key, drop_key};
 
 use crate::literal::Literal;
@@ -8,7 +8,7 @@ use sj_base::AccessError;
 use sj_object::{Object, ObjectKey};
 
 impl<K: ObjectKey, D: Literal> Value<K, D> {
-    ghost use Rattle.sj_owned.specs.Views.{value_tree, items_inside, members_inside};
+    ghost use Rattle.sj_owned.specs.Views.{value_tree, array_inside, items_inside, members_inside};
     ghost use Rattle.sj_owned.specs.Parts.{member_of};
     ghost use Rattle.sj_owned.specs.Edits.{with_member, without_member, with_item, without_last, refusal, last_of, before_last};
 
@@ -74,8 +74,8 @@ impl<K: ObjectKey, D: Literal> Value<K, D> {
     ///
     /// # Errors
     ///
-    /// `NotAnArray` if the value isn't an array. Otherwise `Memory` if there is no memory for one more item. The document is
-    /// unchanged, and the value is dropped.
+    /// `NotAnArray` if the value isn't an array. Otherwise `Memory` if there is no memory for one more item, for which the array
+    /// has no room. The document is unchanged, and the value is dropped.
     pub fn push(&mut self, value: Value<K, D>) -> Result<(), AccessError>
     where
         K: Drop,
@@ -87,6 +87,7 @@ impl<K: ObjectKey, D: Literal> Value<K, D> {
         ensures err { IfErr result (λ e. e ≡ refusal AccessError.NotAnArray (items_inside self.old)) }
         ensures unchanged { OnErr result (value_tree K.text D.literal self.new ≡ value_tree K.text D.literal self.old) }
         ensures other { IsNone (items_inside self.old) → self.new ≡ self.old }
+        ensures room { IfSome (array_inside self.old) (λ vs. vec_len vs < vec_capacity vs → IsOk result) }
     {
         match self {
             Value::Array(items) => match items.push(value) {

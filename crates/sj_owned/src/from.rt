@@ -1,6 +1,7 @@
 //! Documents made of other values. The conversions that `From` stands for need no memory.
-ghost use Rattle.std.specs.Prelude.{◌≡◌, List, IfOk, OnOk, MatchOption, string_bytes, map as map_entries};
+ghost use Rattle.std.specs.Prelude.{◌≡◌, List, [], IfOk, OnOk, MatchOption, string_bytes, map as map_entries};
 ghost use Rattle.std.specs.Cmp.Lexicographic.{slice_cmp};
+ghost use Rattle.std.specs.List.{AllZip};
 ghost use Rattle.std.specs.List.Sorted.{IsPermutation, IsSortedByKey};
 ghost use Rattle.std.specs.Ordering.{nat_cmp};
 ghost use Rattle.std.specs.Iterator.{Drains, IsFiniteIterable};
@@ -225,6 +226,22 @@ fn sort_pairs<K: ObjectKey, V>(pairs: &mut [(K, V)])
     pairs.sort_unstable_by(|a, b| a.0.as_text().cmp(b.0.as_text()));
 }
 
+// Appends what the values are converted to, to an empty vector. For lack of memory they are dropped.
+fn convert_into<T: Drop, S: Into<T> + Drop, I: IntoIterator<Item = S>>(
+    mut items: Vec<T>,
+    values: I,
+) -> Result<Vec<T>, AllocError>
+    requires empty { items.items ≡ [] }
+    requires finite { IsFiniteIterable I.into_iter_gives I.IntoIter.can_next I.IntoIter.remaining values }
+    ensures { IfOk result (λ all. (it : I.IntoIter) × (xs : List S) × I.into_iter_gives values it
+        × Drains I.IntoIter.next_gives it xs × AllZip S.Into.converts xs all.items) }
+{
+    for value in values {
+        items.push(value.into())?;
+    }
+    Ok(items)
+}
+
 // Inserts a member. For lack of memory it is dropped.
 fn insert<K: ObjectKey + Drop, V: Drop>(
     members: &mut Object<K, V>,
@@ -264,7 +281,8 @@ impl<K: ObjectKey + Drop, D: Literal + Drop> Value<K, D> {
     ) -> Result<Self, AllocError>
         ensures { IfOk result (IsArrayOf S.Into.converts list.items) }
     {
-        Value::from_values(alloc, list)
+        let items = Vec::with_capacity(alloc, list.len())?;
+        Ok(Value::Array(convert_into(items, list)?))
     }
 
     /// Creates an array of what the given values are converted to, in their order. The iterator has to end, as those of a
@@ -281,11 +299,7 @@ impl<K: ObjectKey + Drop, D: Literal + Drop> Value<K, D> {
         ensures { IfOk result (λ v. (it : I.IntoIter) × (xs : List S) × I.into_iter_gives values it
             × Drains I.IntoIter.next_gives it xs × IsArrayOf S.Into.converts xs v) }
     {
-        let mut items = Vec::new(alloc);
-        for value in values {
-            items.push(value.into())?;
-        }
-        Ok(Value::Array(items))
+        Ok(Value::Array(convert_into(Vec::new(alloc), values)?))
     }
 
     /// Creates an object of the given pairs, with each value converted. The iterator has to end. Of pairs with equal keys the

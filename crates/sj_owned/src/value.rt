@@ -1,5 +1,5 @@
 //! The type of documents, and how new ones are made.
-ghost use Rattle.std.specs.Prelude.{◌≡◌, [], Some, IfOk, is_some};
+ghost use Rattle.std.specs.Prelude.{◌≡◌, ◌≤◌, [], Some, IfOk, IfSome, is_some, vec_capacity};
 
 use crate::literal::Literal;
 use sj_base::{StaticNode, ValueType};
@@ -24,7 +24,7 @@ pub enum Value<K: ObjectKey, D> {
 }
 
 impl<K: ObjectKey, D: Literal> Value<K, D> {
-    ghost use Rattle.sj_owned.specs.Views.{value_kind, items_inside, members_inside};
+    ghost use Rattle.sj_owned.specs.Views.{value_kind, array_inside, items_inside, members_inside};
 
     /// Creates a null.
     pub fn null() -> Self
@@ -53,7 +53,8 @@ impl<K: ObjectKey, D: Literal> Value<K, D> {
     ///
     /// `AllocError` if there is no memory for that room.
     pub fn array_with_capacity(alloc: Global, capacity: usize) -> Result<Self, AllocError>
-        ensures { IfOk result (λ v. items_inside v ≡ Some []) }
+        ensures empty { IfOk result (λ v. items_inside v ≡ Some []) }
+        ensures room { IfOk result (λ v. IfSome (array_inside v) (λ vs. capacity ≤ vec_capacity vs)) }
     {
         Ok(Value::Array(Vec::with_capacity(alloc, capacity)?))
     }

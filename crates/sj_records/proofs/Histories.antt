@@ -28,7 +28,7 @@ use Rattle.sj_documents.proofs.Changes.{same_ok}
 use Rattle.sj_documents.proofs.KeptChanges.{StaysKept, settled_kept, insertion_kept, removal_kept, pushing_kept, popping_kept, setting_kept}
 use Rattle.sj_scripts.proofs.KeptTrees.{kept-found}
 use Rattle.sj_documents.proofs.MadeChanges.{same_found}
-use Rattle.sj_records.specs.History.{added, WriteLeaves, UndoLeaves, inverse_view, bases_from, bases, BringsBack, StandFor, may_run}
+use Rattle.sj_records.specs.History.{added, WriteLeaves, UndoLeaves, inverse_view, bases_from, bases, BringsBack, StandFor, is_undo, may_run, undo_for}
 use Rattle.sj_records.specs.Laws.{Undoes, WritesKept, HistoriesStand}
 use Rattle.sj_records.proofs.Inverses.{insert_undone, remove_undone, push_undone, pop_undone, set_undone}
 
@@ -307,6 +307,21 @@ allowed_behind how cs before behind is all = rest before (subst (λ (ds : List S
 pub allowed_at : (how : Undo) (cs before behind : List Step) (c : Step) → cs ≡ before ++ c ∷ behind → list_all (may_run how) cs ≡ true → may_run how c ≡ true
 allowed_at how cs before behind c is all = (and_parts (may_run how c) (list_all (may_run how) behind) (allowed_behind how cs before (c ∷ behind) is all)).0
 
-pub all_allowed : (cs : List Step) → list_all (may_run Possible) cs ≡ true
+all_allowed : (cs : List Step) → list_all (may_run Possible) cs ≡ true
 all_allowed [] = refl
 all_allowed (c ∷ cs) = all_allowed cs
+
+none_is_undo : (cs : List Step) → list_any is_undo cs ≡ false → list_all (may_run Impossible) cs ≡ true
+none_is_undo [] none = refl
+none_is_undo (c ∷ cs) none = at (is_undo c) none
+  where
+    at : (b : Bool) → (b || list_any is_undo cs) ≡ false → (not b && list_all (may_run Impossible) cs) ≡ true
+    at false none = none_is_undo cs none
+    at true none = absurd cc
+
+pub needed_allows : (cs : List Step) → list_all (may_run (undo_for cs)) cs ≡ true
+needed_allows cs = by_case (list_any is_undo cs) refl
+  where
+    by_case : (b : Bool) → list_any is_undo cs ≡ b → list_all (may_run (if b then Possible else Impossible)) cs ≡ true
+    by_case true some = all_allowed cs
+    by_case false none = none_is_undo cs none

@@ -1,6 +1,6 @@
 -- The history of a document: what takes its writes back, and the trees that come back then.
 use Rattle.std.specs.Prelude.{◌≡◌, ◌⊎◌, ℕ, Bool, true, false, not, List, [], ◌∷◌, ◌++◌, map, reverse, Option, Some, None, option_map, option_and_then, Result, Ok, Err, ⊤}
-use Rattle.std.specs.List.{AllByRecursion}
+use Rattle.std.specs.List.{AllByRecursion, list_any}
 use Rattle.sj_base.specs.Tree.{Tree, boolean}
 use Rattle.sj_base.specs.Keep.{keep, IsKept}
 use Rattle.sj_base.specs.Path.{Part}
@@ -92,6 +92,10 @@ StandFor how keeping t history s = (s.tree ≡ t) × (start t keeping ≡ t) × 
 abbrev pub may_run : Undo → Step → Bool
 may_run Possible c = true
 may_run Impossible c = not (is_undo c)
+
+-- `Possible` if one of the commands is `undo`, and else `Impossible`
+abbrev pub undo_for : List Step → Undo
+undo_for cs = if list_any is_undo cs then Possible else Impossible
 
 -- The reply to a command in the state s was appended, and the tree and the history stand for the state after it.
 abbrev pub Applied : Undo → Keeping → ℕ → State → Step → List ℕ → List ℕ → Tree → List Inverse → Type 0

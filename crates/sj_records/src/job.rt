@@ -1,7 +1,6 @@
 //! What is done to each line of a stream.
-ghost use Rattle.std.specs.Prelude.{◌≡◌, true};
-ghost use Rattle.std.specs.List.{list_all};
-ghost use Rattle.sj_records.specs.History.{may_run};
+ghost use Rattle.std.specs.Prelude.{◌≡◌};
+ghost use Rattle.sj_records.specs.History.{undo_for};
 ghost use Rattle.sj_scripts.specs.Script.{commands_view};
 ghost use Rattle.sj_scripts.specs.Steps.{steps_of};
 
@@ -20,12 +19,12 @@ pub(crate) struct Task<'s> {
     pub(crate) repeats: Repeats,
     /// Whether a command may take a write back.
     pub(crate) undo: Undo,
-    ghost allowed: { list_all (may_run undo) (steps_of script.now) ≡ true },
+    ghost needed: { undo ≡ undo_for (steps_of script.now) },
 }
 
 /// Returns `Undo::Possible` if one of the commands is `Undo`, and else `Undo::Impossible`.
 pub(crate) fn undo_of(commands: &[Command]) -> Undo
-    ensures { list_all (may_run result) (commands_view commands.now) ≡ true }
+    ensures { result ≡ undo_for (commands_view commands.now) }
 {
     for command in commands {
         if matches!(command, Command::Undo) {

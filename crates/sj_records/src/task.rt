@@ -1,5 +1,5 @@
 //! The record of one line, in bytes.
-ghost use Rattle.std.specs.Prelude.{◌≡◌, ◌≢◌, ℕ, nat_le, true, false, List, ◌∷◌, [], ◌++◌, length, Some, option_map, OnOk, IfOk, IfErr};
+ghost use Rattle.std.specs.Prelude.{◌≡◌, ◌≢◌, ◌≤◌, ◌^◌, ℕ, nat_le, true, false, List, ◌∷◌, [], ◌++◌, length, vec_capacity, Some, option_map, OnOk, IfOk, IfErr};
 ghost use Rattle.std.specs.List.{list_all};
 ghost use Rattle.std.specs.Option.{option_copied};
 ghost use Rattle.sj_base.specs.Spelling.{longest};
@@ -92,10 +92,24 @@ pub(crate) fn make_record<'de>(
 {
     let Scratch { room, out } = scratch;
     room.history.clear();
+    release_long(&mut room.printed);
+    release_long(&mut room.next);
     out.clear();
     put_record(buffers, room, tape, out, line, task)?;
     out.push(b'\n')?;
     Ok(())
+}
+
+/// The most bytes of the text of a reload whose room is kept for the next line.
+const KEPT_TEXT: usize = 1 << 24;
+
+/// Gives back the room of a text that is longer than what is kept. An indented text may be a thousand times as long as its line.
+fn release_long(text: &mut Vec<u8>)
+    ensures { vec_capacity text.new ≤ 2 ^ 24 }
+{
+    if text.capacity() > KEPT_TEXT {
+        *text = Vec::new(*text.allocator());
+    }
 }
 
 fn put_record<'de>(

@@ -77,13 +77,13 @@ pub enum CommandFault {
 #[derive(Clone, Copy, Debug, PartialEq, Eq, thiserror::Error)]
 pub enum ScriptFault {
     /// The bytes are not a JSON document of at most 1024 levels and `u32::MAX` bytes.
-    #[error("{0}")]
+    #[error("Json")]
     Json(Error),
     /// The document is not an array.
     #[error("NotAnArray")]
     NotAnArray,
     /// The command at index `place`, from 0, is refused.
-    #[error("command {place}: {fault}")]
+    #[error("Command")]
     Command { place: usize, fault: CommandFault },
     /// An allocation failed.
     #[error("Memory")]

@@ -1,6 +1,8 @@
 use Rattle.std.proofs.Common.{ℕ, List, [], ◌∷◌, ◌++◌, true, false, refl, sym, ap, subst, ◌∙◌, arith}
 use Rattle.std.specs.List.{list_all}
 use Rattle.std.specs.Option.{option_copied}
+use Rattle.sj_documents.specs.declared.inverse.Undo.{Undo}
+use Rattle.sj_records.specs.declared.job.Task.{Task}
 use Rattle.sj_tape.specs.Views.{tape_nodes, nodes_tree}
 use Rattle.sj_scripts.specs.Command.{Step}
 use Rattle.sj_scripts.specs.Script.{commands_view}
@@ -9,7 +11,7 @@ use Rattle.sj_records.specs.inside.Progress.{task_job}
 use Rattle.sj_records.specs.inside.Reloads.{Runs}
 use Rattle.sj_records.specs.History.{may_run}
 use Rattle.sj_records.specs.Texts.{HasRead}
-use Rattle.sj_records.proofs.Histories.{begun_stands, allowed_behind}
+use Rattle.sj_records.proofs.Histories.{begun_stands, allowed_behind, needed_allows}
 use Rattle.sj_records.proofs.Readable.{reached_again}
 use Rattle.sj_records.proofs.RecordText.{record_begun, Runs-on, left_len, fewer_left}
 use Rattle.sj_records.proofs.Texts.{HasRead-nothing, HasRead-then}
@@ -23,13 +25,16 @@ loop-left-init c =
     let scripted = subst (λ (cs : List Step). Runs c.args.task.undo job (begun job t) cs true (option_copied c.in_ok-left.left) c.run_on_tape.new.history.items c.run_on_tape.new.text.items c.extend_from_slice.new.self.items c.run_on_tape.new.out.items []) c.commands-commands.ensures.commands runs in
     ([], subst (λ (bs : List ℕ). Runs c.args.task.undo job (begun job t) job.script true (option_copied c.in_ok-left.left) c.run_on_tape.new.history.items c.run_on_tape.new.text.items bs c.run_on_tape.new.out.items []) c.in_ok-extend_from_slice.ensures.items scripted, HasRead-nothing c.args.buffers.now, refl)
 
+all_may_run : (task : Task) → list_all (may_run task.undo) (task_job task).script ≡ true
+all_may_run task = subst (λ (how : Undo). list_all (may_run how) (task_job task).script ≡ true) (sym task.needed) (needed_allows (task_job task).script)
+
 pub run_on_tape-requires-clause-allowed : goal.run_on_tape-requires-clause-allowed
-run_on_tape-requires-clause-allowed c = ap (list_all (may_run c.args.task.undo)) c.commands-commands.ensures.commands ∙ c.args.task.allowed
+run_on_tape-requires-clause-allowed c = ap (list_all (may_run c.args.task.undo)) c.commands-commands.ensures.commands ∙ all_may_run c.args.task
 
 pub run_on_text-requires-clause-allowed : goal.run_on_text-requires-clause-allowed
 run_on_text-requires-clause-allowed c =
     let r = rw c.in-Some.is at c.loop-left.invariant.1 in
-    allowed_behind c.args.task.undo (task_job c.args.task).script r.ran (commands_view c.in-Some.commands.now) r.parts c.args.task.allowed
+    allowed_behind c.args.task.undo (task_job c.args.task).script r.ran (commands_view c.in-Some.commands.now) r.parts (all_may_run c.args.task)
 
 pub run_on_text-requires-clause-readable : goal.run_on_text-requires-clause-readable
 run_on_text-requires-clause-readable c =

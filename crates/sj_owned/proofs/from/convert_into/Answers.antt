@@ -1,19 +1,13 @@
-use Rattle.std.proofs.Common.{[], ◌∷◌, ◌++◌, subst, sym}
-use Rattle.std.specs.List.{AllZip}
 use Rattle.std.proofs.lemmas.Result.{IfOk-from_err}
-use Rattle.sj_owned.proofs.Layers.{items_inside-Array}
 use Rattle.sj_owned.proofs.Made.{zip_more}
-use Rattle.sj_owned.proofs.value.Value.from_values.Goals as goal
+use Rattle.sj_owned.proofs.from.convert_into.Goals as goal
 
 pub loop-value-preserved : goal.loop-value-preserved
 loop-value-preserved g c =
-    let converts = g.S.Into.converts in
-    let xs = c.loop-value.yielded in
-    subst (λ vs. AllZip converts (xs ++ c.in-Some.value ∷ []) vs) (sym c.in_ok-push.ensures.items)
-    (zip_more converts xs c.loop-value.items.items c.in-Some.value c.into.result c.loop-value.invariant c.into.ensures)
+    rw c.in_ok-push.ensures.items (zip_more g.S.Into.converts c.loop-value.yielded c.loop-value.items.items c.in-Some.value c.into.result c.loop-value.invariant c.into.ensures)
 
 pub loop-value-init : goal.loop-value-init
-loop-value-init g c = rw c.new-items.ensures.items tt
+loop-value-init g c = rw c.requires.empty tt
 
 pub next-requires : goal.next-requires
 next-requires g c = c.loop-value.iterator.0
@@ -27,7 +21,7 @@ returns g c = (
   c.loop-value.yielded,
   c.into_iter-value-iterator.ensures.into_iter_gives,
   (c.next.new.self, (c.loop-value.value-iterator, c.loop-value.yielded_by, c.in-None.ensures.steps)),
-  (c.loop-value.items.items, c.loop-value.invariant, items_inside-Array g.K.ObjectKey.text g.D.Literal.literal c.loop-value.items),
+  c.loop-value.invariant,
 )
 
 pub loop-value-smaller : goal.loop-value-smaller
