@@ -1,5 +1,9 @@
 //! Lazy values as text to be shown.
+ghost use Rattle.std.specs.Prelude.{Some};
+ghost use Rattle.std.specs.Fmt.{WritesOnOk};
+ghost use Rattle.sj_base.specs.Text.{text as text_of};
 ghost use Rattle.sj_lazy.specs.Views.{lazy_tree};
+ghost use Rattle.sj_tape.specs.Views.{value_tree};
 ghost use Rattle.sj_owned.specs.Display.{shown};
 
 use crate::compare::document_of;
@@ -13,7 +17,7 @@ use std::fmt;
 ///
 /// The recursion is as deep as the value nests.
 impl fmt::Display for Value<'_, '_, '_> {
-    ghost output = { λ v. shown (lazy_tree v) };
+    ghost output = { λ v. Some (shown (lazy_tree v)) };
 
     fn fmt<W: fmt::Write>(&self, f: &mut fmt::Formatter<W>) -> fmt::Result {
         match self {
@@ -26,7 +30,9 @@ impl fmt::Display for Value<'_, '_, '_> {
     }
 }
 
-fn show<W: fmt::Write>(view: &TapeValue<'_, '_>, f: &mut fmt::Formatter<W>) -> fmt::Result {
+fn show<W: fmt::Write>(view: &TapeValue<'_, '_>, f: &mut fmt::Formatter<W>) -> fmt::Result
+    ensures { WritesOnOk W.write_str_gives f.old result (text_of (value_tree view.now)) f.new }
+{
     match view.print(&mut FormatterOutput { formatter: f }) {
         Ok(()) => Ok(()),
         Err(_) => Err(fmt::Error),

@@ -1,10 +1,16 @@
 -- The text by which a document is shown.
-use Rattle.std.specs.Prelude.{ℕ, List, Option, Some, option_map}
-use Rattle.sj_base.specs.Containers.{scalar_in}
+use Rattle.std.specs.Prelude.{◌≡◌, ℕ, List}
+use Rattle.std.specs.Fmt.{IsPlainFormatter, HasWritten}
 use Rattle.sj_base.specs.Text.{text}
 use Rattle.sj_base.specs.Tree.{Tree, string}
+use Rattle.sj_owned.specs.declared.display.FormatterOutput.{FormatterOutput}
 
--- a string itself, and the text of any other scalar. Nothing is said of lists and objects
-abbrev pub shown : Tree → Option (List ℕ)
-shown (string s) = Some s
-shown t = option_map text (scalar_in t)
+-- a string itself, and the compact text of any other tree
+abbrev pub shown : Tree → List ℕ
+shown (string s) = s
+shown t = text t
+
+-- Bytes are appended to a formatter. One that formats as `{}` does has written them, and no other bytes.
+abbrev pub Shows : {W : Type 0} → (W → List ℕ → W → Type 0) → FormatterOutput W → FormatterOutput W → List ℕ → Type 0
+Shows took s t bytes =
+    (t.formatter.ghost_name ≡ s.formatter.ghost_name) × (IsPlainFormatter s.formatter.now → HasWritten took s.formatter.now bytes t.formatter.now)

@@ -88,15 +88,19 @@ equal_as_maps = refl
 repeats_dropped : kept_alike repeats members ≡ true
 repeats_dropped = refl
 
-string_shown_as_it_is : shown (string (codes "a\"b")) ≡ Some (codes "a\"b")
+string_shown_as_it_is : shown (string (codes "a\"b")) ≡ codes "a\"b"
 string_shown_as_it_is = refl
 
-literal_shown : shown (decimal (codes "1.50")) ≡ Some (codes "1.50")
+literal_shown : shown (decimal (codes "1.50")) ≡ codes "1.50"
 literal_shown = refl
 
-integer_shown : shown (integer (negsuc 4)) ≡ Some (codes "-5")
+integer_shown : shown (integer (negsuc 4)) ≡ codes "-5"
 unfolding digits
 integer_shown = refl
+
+object_shown : shown members ≡ codes "{\"a\":1,\"b\":2}"
+unfolding digits
+object_shown = refl
 
 tree_of_integer : tree_step text text (Value-F.Static (I64 (negsuc 4))) ≡ integer (negsuc 4)
 tree_of_integer = refl

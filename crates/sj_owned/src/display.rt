@@ -1,8 +1,10 @@
 //! Documents as text to be shown.
-ghost use Rattle.std.specs.Prelude.{⊤};
-ghost use Rattle.sj_owned.specs.Display.{shown};
+ghost use Rattle.std.specs.Prelude.{⊤, Some};
+ghost use Rattle.std.specs.Fmt.{WritesOnOk};
+ghost use Rattle.sj_base.specs.Text.{text as text_of};
+ghost use Rattle.sj_owned.specs.Display.{shown, Shows};
 ghost use Rattle.sj_owned.specs.Views.{value_tree};
-ghost use Rattle.sj_owned.specs.inside.Shown.{any_continue};
+ghost use Rattle.sj_owned.specs.inside.Shown.{shows_continue};
 
 use crate::encode::{Refuses, print_value};
 use crate::literal::Literal;
@@ -23,11 +25,11 @@ pub struct FormatterOutput<'f, W: fmt::Write> {
 impl<W: fmt::Write> Output for FormatterOutput<'_, W> {
     type Fault = AllocError;
 
-    ghost appends = { λ old new bytes. ⊤ };
+    ghost appends = { Shows W.write_str_gives };
 
     ghost begins = { λ old new bytes. ⊤ };
 
-    ghost laws = { any_continue };
+    ghost laws = { shows_continue W.write_str_gives };
 
     fn put(&mut self, bytes: &[u8]) -> Result<(), AllocError> {
         let Ok(text) = str::from_utf8(bytes) else {
@@ -49,7 +51,7 @@ impl<W: fmt::Write> Refuses for FormatterOutput<'_, W> {
 ///
 /// The recursion is as deep as the value nests.
 impl<K: ObjectKey, D: Literal> fmt::Display for Value<K, D> {
-    ghost output = { λ v. shown (value_tree K.text D.literal v) };
+    ghost output = { λ v. Some (shown (value_tree K.text D.literal v)) };
 
     fn fmt<W: fmt::Write>(&self, f: &mut fmt::Formatter<W>) -> fmt::Result {
         match self {
@@ -64,7 +66,9 @@ impl<K: ObjectKey, D: Literal> fmt::Display for Value<K, D> {
 fn show<K: ObjectKey, D: Literal, W: fmt::Write>(
     value: &Value<K, D>,
     f: &mut fmt::Formatter<W>,
-) -> fmt::Result {
+) -> fmt::Result
+    ensures { WritesOnOk W.write_str_gives f.old result (text_of (value_tree K.text D.literal value.now)) f.new }
+{
     match print_value(
         value,
         Layout::Compact,
