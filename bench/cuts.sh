@@ -19,7 +19,10 @@ fi
 differ=0
 for file in "$folder"/*.json "$folder"/*.jsonl; do
     if [ ! -e "$file" ]; then continue; fi
-    read -r count < <("$top/crates/read_bench/out/read_bench" compare "$file" 0)
+    if ! read -r count < <("$top/crates/read_bench/out/read_bench" compare "$file" 0); then
+        echo "read_bench compare $file fails" >&2
+        exit 1
+    fi
     echo "$(basename "$file"): the scans differ at $count cuts"
     if [ "$count" != 0 ]; then differ=1; fi
 done

@@ -90,7 +90,10 @@ declare -A file_of len_of least refused
 measure() { # measure PROGRAM KIND NAME
     local key="$1 $2 $3" time count
     choose "$1" "$2" "${file_of[$3]}"
-    read -r _ time count < <("${command[@]}")
+    if ! read -r _ time count < <("${command[@]}"); then
+        echo "$1 $2 $3 fails" >&2
+        exit 1
+    fi
     if [ -z "${least[$key]:-}" ] || [ "$time" -lt "${least[$key]}" ]; then least[$key]=$time; fi
     refused[$key]=$count
 }

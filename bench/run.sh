@@ -20,6 +20,11 @@
 #     WORK=FOLDER       where programs, streams and outputs stay; if not set, they are removed at the end
 set -eu
 shopt -s nullglob
+# It sorts the members of records that differ.
+if ! command -v jq > /dev/null; then
+    echo "jq is needed to compare what the programs write" >&2
+    exit 1
+fi
 # Simdjson's kernel for AVX2, also where it would choose one for AVX-512.
 export SIMDJSON_FORCE_IMPLEMENTATION=${SIMDJSON_FORCE_IMPLEMENTATION:-haswell}
 TIMEFORMAT='%R %U %S'
