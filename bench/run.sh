@@ -20,7 +20,7 @@
 #     WORK=FOLDER       where programs, streams and outputs stay; if not set, they are removed at the end
 set -eu
 shopt -s nullglob
-# It sorts the members of records that differ.
+# jq sorts the members of records that differ.
 if ! command -v jq > /dev/null; then
     echo "jq is needed to compare what the programs write" >&2
     exit 1

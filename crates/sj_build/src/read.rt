@@ -5,7 +5,7 @@ ghost use Rattle.sj_base.specs.Spelling.{longest};
 ghost use Rattle.sj_base.specs.declared.TheConstants.{DEFAULT_MAX_DEPTH};
 ghost use Rattle.sj_tape.specs.Views.{nodes_tree, tape_nodes};
 ghost use Rattle.sj_parse.specs.Fault.{generic};
-ghost use Rattle.sj_parse.specs.Answers.{Leaves, buffer_texts, buffer_positions, buffer_limit, buffer_room};
+ghost use Rattle.sj_parse.specs.Answers.{Leaves, buffer_texts, buffer_positions, buffer_limit, buffer_room, buffer_levels};
 ghost use Rattle.sj_build.specs.Reading.{AnswersKept};
 
 use crate::build::build_tape;
@@ -54,6 +54,7 @@ pub fn deserialize_with_buffers<'de, V: BuildValue<'de, K> + Drop, K: MakeKey<'d
     ensures texts { buffer_texts buffers.new ≡ buffer_texts buffers.old ++ length s.entry.now ∷ [] }
     ensures limit { buffer_limit buffers.new ≡ buffer_limit buffers.old }
     ensures room { buffer_room buffers.old ≤ buffer_room buffers.new }
+    ensures levels { buffer_levels buffers.old ≤ buffer_levels buffers.new }
 {
     let tape = to_tape_with_buffers(alloc, s, buffers)?;
     build_document(alloc, tape)

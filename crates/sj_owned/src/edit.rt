@@ -1,5 +1,5 @@
 //! Edits of a document, with the names of the traits of `value_trait`.
-ghost use Rattle.std.specs.Prelude.{◌≡◌, ◌<◌, [], ◌∷◌, ◌++◌, Some, IsSome, IfSome, IsNone, IsOk, is_ok, if◌then◌else◌, IfOk, IfErr, OnOk, OnErr, option_map, ok_or, vec_len, vec_capacity};
+ghost use Rattle.std.specs.Prelude.{◌≡◌, ◌<◌, ◌≤◌, [], ◌∷◌, ◌++◌, Some, IsSome, IfSome, IsNone, IsOk, is_ok, if◌then◌else◌, IfOk, IfErr, OnOk, OnErr, option_map, ok_or, vec_len, vec_capacity};
 ghost use Rattle.sj_object.specs.Pairs.{value_at, put_key, drop_key};
 
 use crate::literal::Literal;
@@ -74,8 +74,8 @@ impl<K: ObjectKey, D: Literal> Value<K, D> {
     ///
     /// # Errors
     ///
-    /// `NotAnArray` if the value isn't an array. Otherwise `Memory` if there is no memory for one more item, for which the array
-    /// has no room. The document is unchanged, and the value is dropped.
+    /// `NotAnArray` if the value isn't an array. Otherwise `Memory` if the array has no room for one more item, and there is no
+    /// memory for it. The document is unchanged, and the value is dropped.
     pub fn push(&mut self, value: Value<K, D>) -> Result<(), AccessError>
     where
         K: Drop,
@@ -88,6 +88,7 @@ impl<K: ObjectKey, D: Literal> Value<K, D> {
         ensures unchanged { OnErr result (value_tree K.text D.literal self.new ≡ value_tree K.text D.literal self.old) }
         ensures other { IsNone (items_inside self.old) → self.new ≡ self.old }
         ensures room { IfSome (array_inside self.old) (λ vs. vec_len vs < vec_capacity vs → IsOk result) }
+        ensures grows { IfSome (array_inside self.old) (λ vs. IfSome (array_inside self.new) (λ ws. vec_capacity vs ≤ vec_capacity ws)) }
     {
         match self {
             Value::Array(items) => match items.push(value) {

@@ -53,7 +53,7 @@ buffer_room b = vec_capacity b.positions
 abbrev pub buffer_levels : Buffers → ℕ
 buffer_levels b = vec_capacity b.stack
 
--- Reading these bytes into a tape with room for so many nodes takes no memory.
+-- Room enough to read these bytes into a tape with room for so many nodes. A text that the scan refuses needs less.
 abbrev pub HasRoomFor : List ℕ → Buffers → ℕ → Type 0
 HasRoomFor bytes b nodes =
     let count = length (positions bytes) in

@@ -1,5 +1,5 @@
 //! The room that reading works in, kept from one text to the next.
-ghost use Rattle.std.specs.Prelude.{◌≡◌, ◌/◌, ◌≤◌, [], ◌∷◌, ◌++◌, IfOk};
+ghost use Rattle.std.specs.Prelude.{◌≡◌, ◌/◌, ◌≤◌, [], ◌∷◌, ◌++◌, IfOk, min};
 ghost use Rattle.sj_parse.specs.Answers.{buffer_texts, buffer_positions, buffer_limit, buffer_room, buffer_levels};
 
 use crate::containers::Frame;
@@ -12,7 +12,7 @@ const BYTES_PER_POSITION: usize = 128;
 /// Room that one text after another is read in, and the limit of depth under which they are read. Port of
 /// `simd_json::Buffers`.
 ///
-/// Buffers can be used again after any error. Reading never shrinks their room for positions. Contracts list the lengths of
+/// Buffers can be used again after any error. Reading never shrinks their room. Contracts list the lengths of
 /// the texts that this crate's calls read with them, refused texts included; the list takes no room at run time.
 #[derive(Debug, Drop)]
 pub struct Buffers {
@@ -26,8 +26,9 @@ pub struct Buffers {
 impl Buffers {
     /// Creates buffers with the limit [`DEFAULT_MAX_DEPTH`], in levels. Port of `simd_json::Buffers::new`.
     ///
-    /// `input_len` is the expected length of a text in bytes. Room for one position in 128 bytes is reserved at once.
-    /// Reading a text reserves room for as many positions as it has bytes.
+    /// `input_len` is the expected length of a text in bytes. Room for one position in 128 bytes is reserved at once, and for
+    /// as many open containers, but for no more than the limit. Reading a text reserves room for as many positions as it has
+    /// bytes.
     ///
     /// # Errors
     ///
@@ -37,6 +38,7 @@ impl Buffers {
         ensures positions { IfOk result (λ buffers. buffer_positions buffers ≡ []) }
         ensures limit { IfOk result (λ buffers. buffer_limit buffers ≡ DEFAULT_MAX_DEPTH) }
         ensures room { IfOk result (λ buffers. input_len / 128 ≤ buffer_room buffers) }
+        ensures levels { IfOk result (λ buffers. min (input_len / 128) DEFAULT_MAX_DEPTH ≤ buffer_levels buffers) }
     {
         Buffers::with_max_depth(alloc, input_len, DEFAULT_MAX_DEPTH)
     }
@@ -58,6 +60,7 @@ impl Buffers {
         ensures positions { IfOk result (λ buffers. buffer_positions buffers ≡ []) }
         ensures limit { IfOk result (λ buffers. buffer_limit buffers ≡ max_depth) }
         ensures room { IfOk result (λ buffers. input_len / 128 ≤ buffer_room buffers) }
+        ensures levels { IfOk result (λ buffers. min (input_len / 128) max_depth ≤ buffer_levels buffers) }
     {
         let count = input_len / BYTES_PER_POSITION;
         Ok(Buffers {

@@ -8,7 +8,7 @@ ghost use Rattle.sj_tape.specs.Listing.{listing};
 ghost use Rattle.sj_tape.specs.Nodes.{entries};
 ghost use Rattle.sj_tape.specs.Views.{tape_nodes, value_nodes, value_tree};
 ghost use Rattle.sj_parse.specs.Fault.{generic, fault};
-ghost use Rattle.sj_parse.specs.Answers.{Answers, Leaves, buffer_texts, buffer_positions, buffer_limit, buffer_room, deserializer_nodes, deserializer_next};
+ghost use Rattle.sj_parse.specs.Answers.{Answers, Leaves, buffer_texts, buffer_positions, buffer_limit, buffer_room, buffer_levels, deserializer_nodes, deserializer_next};
 
 use crate::Result;
 use crate::buffers::Buffers;
@@ -60,6 +60,7 @@ impl<'de> Deserializer<'de> {
         ensures texts { buffer_texts buffers.new ≡ buffer_texts buffers.old ++ length s.entry.now ∷ [] }
         ensures limit { buffer_limit buffers.new ≡ buffer_limit buffers.old }
         ensures room { buffer_room buffers.old ≤ buffer_room buffers.new }
+        ensures levels { buffer_levels buffers.old ≤ buffer_levels buffers.new }
         ensures bound { IfOk result (λ d. length (deserializer_nodes d) ≤ length (buffer_positions buffers.new)) }
     {
         Ok(Deserializer::from_tape(to_tape_with_buffers(alloc, s, buffers)?))

@@ -82,7 +82,8 @@ pub fn to_tape_with_buffers<'de>(
 /// Reads a text into the given tape, in place of what it holds, by the buffers and under their limit. Port of
 /// `simd_json::fill_tape`.
 ///
-/// The room of the tape is used again. While the tape holds nodes of an input, that input can't be written to; [`Tape::reset`]
+/// The room of the tape is used again. `OutOfMemory` doesn't come where the buffers have room for a position for each byte, and
+/// for an open container for each position or level, whichever are fewer, and the tape for a node for each position. While the tape holds nodes of an input, that input can't be written to; [`Tape::reset`]
 /// lets it go, and the room with it.
 ///
 /// # Errors

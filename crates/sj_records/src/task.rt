@@ -100,10 +100,10 @@ pub(crate) fn make_record<'de>(
     Ok(())
 }
 
-/// The most bytes of the text of a reload whose room is kept for the next line.
+/// The most room, in bytes, that the text of a reload keeps for the next line.
 const KEPT_TEXT: usize = 1 << 24;
 
-/// Gives back the room of a text that is longer than what is kept. An indented text may be a thousand times as long as its line.
+/// Gives back room that is more than what is kept. An indented text may be a thousand times as long as its line.
 fn release_long(text: &mut Vec<u8>)
     ensures { vec_capacity text.new ≤ 2 ^ 24 }
 {

@@ -6,7 +6,7 @@ ghost use Rattle.sj_base.specs.Spelling.{longest};
 ghost use Rattle.sj_base.specs.declared.TheConstants.{DEFAULT_MAX_DEPTH};
 ghost use Rattle.sj_base.specs.declared.error.ErrorType.TheVariants.{InputTooLarge};
 ghost use Rattle.sj_parse.specs.Fault.{generic};
-ghost use Rattle.sj_parse.specs.Answers.{Leaves, buffer_texts, buffer_positions, buffer_limit, buffer_room};
+ghost use Rattle.sj_parse.specs.Answers.{Leaves, buffer_texts, buffer_positions, buffer_limit, buffer_room, buffer_levels};
 ghost use Rattle.sj_build.specs.Reading.{AnswersKept};
 ghost use Rattle.sj_owned.specs.Views.{value_tree};
 
@@ -59,6 +59,7 @@ pub fn to_value_with_buffers<'v>(
     ensures texts { buffer_texts buffers.new ≡ buffer_texts buffers.old ++ length s.entry.now ∷ [] }
     ensures limit { buffer_limit buffers.new ≡ buffer_limit buffers.old }
     ensures room { buffer_room buffers.old ≤ buffer_room buffers.new }
+    ensures levels { buffer_levels buffers.old ≤ buffer_levels buffers.new }
 {
     deserialize_with_buffers::<Value<'v>, CowStr<'v>>(alloc, s, buffers)
 }
