@@ -1,8 +1,8 @@
 -- Commands on a document whose writes can be taken back.
 use Rattle.std.proofs.Common.{◌≡◌, ℕ, Bool, true, false, List, [], ◌∷◌, ◌++◌, Option, Some, None, Result, Ok, Err, refl, sym, ap, subst, ◌∙◌, inl, inr}
-use Rattle.std.specs.Prelude.{◌⊎◌, map, reverse, is_some, option_map, option_and_then, IsErr}
+use Rattle.std.specs.Prelude.{◌⊎◌, ◌||◌, ◌&&◌, if◌then◌else◌, not, map, reverse, is_some, option_map, option_and_then, IsErr}
 use Rattle.std.specs.Option.{unwrap_or}
-use Rattle.std.specs.List.{AllByRecursion, list_all}
+use Rattle.std.specs.List.{AllByRecursion, list_all, list_any}
 use Rattle.std.proofs.lemmas.Bool.{and_parts}
 use Rattle.std.proofs.lemmas.List.{reverse-append}
 use Rattle.std.proofs.lemmas.Option.{none-some, same_Some}
@@ -313,11 +313,12 @@ all_allowed (c ∷ cs) = all_allowed cs
 
 none_is_undo : (cs : List Step) → list_any is_undo cs ≡ false → list_all (may_run Impossible) cs ≡ true
 none_is_undo [] none = refl
-none_is_undo (c ∷ cs) none = at (is_undo c) none
+none_is_undo (c ∷ cs) none = at (is_undo c) none (none_is_undo cs)
   where
-    at : (b : Bool) → (b || list_any is_undo cs) ≡ false → (not b && list_all (may_run Impossible) cs) ≡ true
-    at false none = none_is_undo cs none
-    at true none = absurd cc
+    at : (b : Bool) → (b || list_any is_undo cs) ≡ false → (list_any is_undo cs ≡ false → list_all (may_run Impossible) cs ≡ true)
+        → (not b && list_all (may_run Impossible) cs) ≡ true
+    at false none rest = rest none
+    at true none rest = absurd cc
 
 pub needed_allows : (cs : List Step) → list_all (may_run (undo_for cs)) cs ≡ true
 needed_allows cs = by_case (list_any is_undo cs) refl

@@ -1,5 +1,5 @@
 -- The history of a document: what takes its writes back, and the trees that come back then.
-use Rattle.std.specs.Prelude.{◌≡◌, ◌⊎◌, ℕ, Bool, true, false, not, List, [], ◌∷◌, ◌++◌, map, reverse, Option, Some, None, option_map, option_and_then, Result, Ok, Err, ⊤}
+use Rattle.std.specs.Prelude.{◌≡◌, ◌⊎◌, ℕ, Bool, true, false, not, if◌then◌else◌, List, [], ◌∷◌, ◌++◌, map, reverse, Option, Some, None, option_map, option_and_then, Result, Ok, Err, ⊤}
 use Rattle.std.specs.List.{AllByRecursion, list_any}
 use Rattle.sj_base.specs.Tree.{Tree, boolean}
 use Rattle.sj_base.specs.Keep.{keep, IsKept}
