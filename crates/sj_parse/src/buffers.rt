@@ -12,8 +12,8 @@ const BYTES_PER_POSITION: usize = 128;
 /// Room that one text after another is read in, and the limit of depth under which they are read. Port of
 /// `simd_json::Buffers`.
 ///
-/// Buffers can be used again after any error. Reading never shrinks their room. Contracts list the lengths of
-/// the texts that this crate's calls read with them, refused texts included; the list takes no room at run time.
+/// Buffers can be used again after any error. Reading never shrinks their room. Contracts list the lengths of the texts that
+/// this crate's calls read with them, refused texts included; the list takes no room at run time.
 #[derive(Debug, Drop)]
 pub struct Buffers {
     pub(crate) positions: Vec<u32>,

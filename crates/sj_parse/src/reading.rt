@@ -82,9 +82,12 @@ pub fn to_tape_with_buffers<'de>(
 /// Reads a text into the given tape, in place of what it holds, by the buffers and under their limit. Port of
 /// `simd_json::fill_tape`.
 ///
-/// The room of the tape is used again. `OutOfMemory` doesn't come where the buffers have room for a position for each byte, and
-/// for an open container for each position or level, whichever are fewer, and the tape for a node for each position. While the tape holds nodes of an input, that input can't be written to; [`Tape::reset`]
+/// The room of the tape is used again. While the tape holds nodes of an input, that input can't be written to; [`Tape::reset`]
 /// lets it go, and the room with it.
+///
+/// With enough room `OutOfMemory` doesn't come: in the buffers for as many positions as the text has bytes, and for as many
+/// open containers as it has positions or as there are levels, whichever are fewer, and in the tape for as many nodes as the
+/// text has positions.
 ///
 /// # Errors
 ///
