@@ -5,6 +5,4 @@ pub mod NumberNode
 pub mod Trees
 pub mod Machine
 pub mod Step
-pub mod Tail
-pub mod Underway
 pub mod Blocks

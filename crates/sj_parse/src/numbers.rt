@@ -7,58 +7,32 @@ ghost use Rattle.sj_parse.specs.inside.NumberNode.{IsNumberNode, HasShape};
 
 use crate::atoms::ends_word;
 use crate::digits::value_of;
-use crate::search::{digits_len, word_len};
+use crate::search::digits_len;
 use sj_base::{Decimal, StaticNode, is_whole, split_minus};
 use sj_tape::Node;
 
-/// What is known of a number.
+/// What is known of a word.
 #[derive(Clone, Copy)]
 pub(crate) enum Shape {
     /// It is a whole number with a minus or without one, and may be out of range.
     Whole,
     /// It is a decimal literal.
     Decimal,
+    /// It is no integer.
+    Other,
 }
 
-/// Returns the node of a number. An integer in range is an `I64` if it has a minus, and else a `U64`.
+/// Returns the node of a number, or `None` for any other text. An integer in range is an `I64` if it has a
+/// minus, and else a `U64`.
 #[inline(always)]
-pub(crate) fn number<'a>(text: &'a [u8], shape: Shape) -> Node<'a>
+pub(crate) fn number<'a>(text: &'a [u8], shape: Shape) -> Option<Node<'a>>
     requires { HasShape text.now shape }
-    ensures { IsNumberNode text.now result }
+    ensures { MatchOption result (is_number text.now ≡ false) (IsNumberNode text.now) }
 {
     match shape {
-        Shape::Whole => integer(text),
-        Shape::Decimal => Node::Decimal(Decimal::from_bytes_unchecked(text)),
-    }
-}
-
-/// The length of the word that the bytes begin with, and its shape, or `None` if it is no number.
-#[inline(always)]
-pub(crate) fn find_number(bytes: &[u8]) -> Option<(usize, Shape)>
-    ensures within { IfSome result (λ p. p.0 ≤ length bytes.now) }
-    ensures word { IfSome result (λ p. take p.0 bytes.now ≡ word bytes.now) }
-    ensures shape { IfSome result (λ p. HasShape (word bytes.now) p.1) }
-    ensures none { IfNone result (is_number (word bytes.now) ≡ false) }
-{
-    match plain_number(bytes) {
-        Some(found) => Some(found),
-        None => find_decimal(bytes),
-    }
-}
-
-/// As [`find_number`], for a word that is no integer.
-#[cold]
-#[inline(never)]
-fn find_decimal(bytes: &[u8]) -> Option<(usize, Shape)>
-    ensures within { IfSome result (λ p. p.0 ≤ length bytes.now) }
-    ensures word { IfSome result (λ p. take p.0 bytes.now ≡ word bytes.now) }
-    ensures shape { IfSome result (λ p. HasShape (word bytes.now) p.1) }
-    ensures none { IfNone result (is_decimal (word bytes.now) ≡ false) }
-{
-    let len = word_len(bytes);
-    match Decimal::from_bytes(&bytes[..len]) {
-        Some(_) => Some((len, Shape::Decimal)),
-        None => None,
+        Shape::Whole => Some(integer(text)),
+        Shape::Decimal => Some(Node::Decimal(Decimal::from_bytes_unchecked(text))),
+        Shape::Other => decimal(text),
     }
 }
 
@@ -95,7 +69,7 @@ pub(crate) fn plain_number(bytes: &[u8]) -> Option<(usize, Shape)>
     ensures within { IfSome result (λ p. p.0 ≤ length bytes.now) }
     ensures word { IfSome result (λ p. take p.0 bytes.now ≡ word bytes.now) }
     ensures shape { IfSome result (λ p. HasShape (word bytes.now) p.1) }
-    ensures none { IfNone result (is_integer (word bytes.now) ≡ false) }
+    ensures none { IfNone result (HasShape (word bytes.now) Shape.Other) }
 {
     let (_, magnitude) = split_minus(bytes);
     let whole = digits_len(magnitude);
@@ -131,4 +105,11 @@ fn whole(digits: &[u8]) -> Option<u64>
     } else {
         fast_float::parse_u64(digits).ok()
     }
+}
+
+fn decimal<'a>(text: &'a [u8]) -> Option<Node<'a>>
+    ensures { MatchOption result (is_decimal text.now ≡ false)
+        (λ n. (is_decimal text.now ≡ true) × IsNumberNode text.now n) }
+{
+    Some(Node::Decimal(Decimal::from_bytes(text)?))
 }

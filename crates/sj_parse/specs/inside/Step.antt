@@ -1,5 +1,5 @@
 -- What one step of stage two answers, for the token that it reads.
-use Rattle.std.specs.Prelude.{◌≡◌, ◌≢◌, ℕ, ◌+◌, ◌<◌, ◌≤◌, ◌==◌, if◌then◌else◌, true, false, List, [], ◌∷◌, ◌++◌, ◌⊎◌, length, slice_index, Result, Ok, Err, None, suc}
+use Rattle.std.specs.Prelude.{◌≡◌, ◌≢◌, ℕ, ◌+◌, ◌<◌, ◌≤◌, ◌==◌, if◌then◌else◌, Bool, true, false, List, [], ◌∷◌, ◌++◌, ◌⊎◌, length, drop, slice_index, Result, Ok, Err, None, suc}
 use Rattle.sj_parse.specs.declared.descent_fault.DescentKind.{DescentKind}
 use Rattle.sj_parse.specs.declared.descent_fault.DescentKind.TheVariants.{InternalError, Syntax, ExpectedArrayContent, ExpectedObjectContent, ExpectedObjectKey, ExpectedObjectColon, ExpectedArrayComma, ExpectedMapComma, TrailingData}
 use Rattle.sj_tape.specs.Listing.{Entry, listing}
@@ -33,6 +33,17 @@ unexpected_kind Key = ExpectedObjectKey
 unexpected_kind Colon = ExpectedObjectColon
 unexpected_kind MemberEnd = ExpectedMapComma
 unexpected_kind End = TrailingData
+
+-- Nothing more may come.
+abbrev pub is_end : State → Bool
+is_end Value = false
+is_end FirstItem = false
+is_end ItemEnd = false
+is_end FirstMember = false
+is_end Key = false
+is_end Colon = false
+is_end MemberEnd = false
+is_end End = true
 
 -- what the first byte of a token is there
 abbrev pub role_of : State → ℕ → Role
@@ -100,6 +111,10 @@ pub record IsScalarNode (t : Token) (n : Node) : Type 0 where
 -- how far a token reaches into the bytes, at the least
 abbrev pub reach : Token → ℕ
 reach t = if t.byte == 0x22 then suc (length t.text) else (if is_number t.text then length t.text else 0)
+
+-- What is left of the input behind a token that begins at `skip`. It may still hold the token.
+abbrev pub IsBehind : ℕ → Token → List ℕ → List ℕ → Type 0
+IsBehind skip t old new = (k : ℕ) × (new ≡ drop k old) × (k ≤ skip + reach t)
 
 -- The stop is at the token's first byte, or at a backslash behind it, within these bytes.
 abbrev pub StopsAt : ℕ → ℕ → List ℕ → Stop → Type 0
