@@ -18,6 +18,7 @@ pub mod ValueSteps
 pub mod StepCases
 pub mod Ahead
 pub mod Between
+pub mod Underway
 pub mod Counts
 pub mod Descents
 mod Walk

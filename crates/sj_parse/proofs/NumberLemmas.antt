@@ -1,5 +1,5 @@
 -- The tests on numbers hold of what the grammar calls a number.
-use Rattle.std.specs.Prelude.{◌≡◌, ℕ, ℤ, ◌<◌, ◌≤◌, ◌^◌, ◌⊎◌, true, false, not, ◌||◌, List, [], ◌∷◌, ◌++◌}
+use Rattle.std.specs.Prelude.{◌≡◌, ℕ, ℤ, ◌<◌, ◌≤◌, ◌^◌, ◌⊎◌, Bool, true, false, not, ◌||◌, List, [], ◌∷◌, ◌++◌}
 use Rattle.std.specs.List.{AllByRecursion, list_all}
 use Rattle.std.specs.Char.{is_ascii_digit, IsAsciiDigit}
 use Rattle.std.specs.Str.{all_ascii_digits}
@@ -11,7 +11,10 @@ use Rattle.sj_base.specs.Number.{minus, signed, IsInRange, SpellsInteger}
 use Rattle.sj_base.specs.Spelling.{SpellsValue}
 use Rattle.sj_base.proofs.NumberBytes.{IsInNumber, integer_parts, no_decimal, integer_bytes, decimal_bytes, number_first, whole_digits}
 use Rattle.sj_base.specs.NumberTests.{is_negative, magnitude, front_digits, behind_digits, is_whole, is_decimal, is_kept_by, is_in_range, is_integer, integer_value, is_number}
+use Rattle.sj_parse.specs.inside.NumberNode.{HasShape}
 use Rattle.sj_parse.specs.inside.Trees.{number_tree}
+use Rattle.sj_parse.specs.declared.numbers.Shape.{Shape}
+use Rattle.sj_parse.specs.declared.numbers.Shape.TheVariants.{Whole, Decimal as DecimalLiteral}
 use Rattle.sj_parse.specs.inside.WordBytes.{is_word_byte}
 use Rattle.sj_base.proofs.Literals.{digits-append, out_of_range, IsInRange-from_is_in_range, is_in_range-from_IsInRange, to_test, all_digits-from_AllDigits, IsWhole-from_is_whole, is_whole-from_IsWhole, sign_parts, sign_of, IsDecimal-from_is_decimal, is_decimal-from_IsDecimal}
 
@@ -139,3 +142,12 @@ number_opens text e = elim (or_cases (is_integer text) (is_decimal text) e) [
 
 pub is_word-number : (text : List ℕ) → is_number text ≡ true → (list_all is_word_byte text ≡ true) × First text
 is_word-number text e = (all_word_bytes text (number_bytes text e), number_opens text e)
+
+-- what has the shape of a number is one
+pub shape-number : (text : List ℕ) (s : Shape) → HasShape text s → is_number text ≡ true
+shape-number text Whole h = at (is_integer text) refl
+  where
+    at : (b : Bool) → is_integer text ≡ b → (b || is_decimal text) ≡ true
+    at true is = refl
+    at false is = large_decimal text h is
+shape-number text DecimalLiteral h = rw (is_integer-decimal text h, h) refl

@@ -118,7 +118,7 @@ number_trees t is =
     rw (ne_eqb t.byte 0x22 (λ e. omega arith), ne_eqb t.byte 0x74 (λ e. omega arith), ne_eqb t.byte 0x66 (λ e. omega arith), ne_eqb t.byte 0x6e (λ e. omega arith)) refl
 
 -- the node says that the text is a number, and lists its tree
-pub node_number : (text : List ℕ) (n : Node) → IsNumberNode text n → is_number text ≡ true
+node_number : (text : List ℕ) (n : Node) → IsNumberNode text n → is_number text ≡ true
 node_number text (Static (I64 n)) h = ap (λ (b : Bool). b || is_decimal text) h.1
 node_number text (Static (U64 n)) h = ap (λ (b : Bool). b || is_decimal text) h.1
 node_number text (Decimal d) h = ap (λ (b : Bool). is_integer text || b) h.1 ∙ or_true (is_integer text)

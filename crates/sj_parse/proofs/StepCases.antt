@@ -1,5 +1,6 @@
 -- What a token does, by where the code is and by its first byte.
-use Rattle.std.proofs.Common.{◌≡◌, ◌≢◌, inl, inr, ℕ, ◌<◌, Bool, true, false, List, [], ◌∷◌, ◌++◌, length, Some, None, Result, Ok, Err, refl, sym, ap, ◌∙◌, append_assoc}
+use Rattle.std.proofs.lemmas.Grind.{common_steps}
+use Rattle.std.proofs.Common.{arith, ◌≡◌, ◌≢◌, inl, inr, ℕ, ◌<◌, Bool, true, false, List, [], ◌∷◌, ◌++◌, length, Some, None, Result, Ok, Err, refl, sym, ap, ◌∙◌, append_assoc}
 use Rattle.std.specs.Prelude.{◌==◌, not, ◌||◌, if◌then◌else◌, slice_index}
 use Rattle.std.proofs.lemmas.Bool.{eqb-true}
 use Rattle.sj_base.specs.Tree.{Tree, list, object, Items, no_items, Members, no_members}
@@ -11,6 +12,7 @@ use Rattle.sj_parse.specs.declared.stage_two.State.TheVariants.{Value, FirstItem
 use Rattle.sj_parse.specs.declared.stage_two.Role.{Role}
 use Rattle.sj_parse.specs.declared.stage_two.Role.TheVariants as role
 use Rattle.sj_parse.specs.Token.{Token}
+use Rattle.sj_parse.specs.Escapes.{stop}
 use Rattle.sj_parse.specs.Descent.{scalar_stop}
 use Rattle.sj_parse.specs.Nodes.{makes_node}
 use Rattle.sj_parse.specs.inside.Trees.{Reading, decoded}
@@ -228,6 +230,10 @@ module _ (limit place skip : ℕ) (before bs : List ℕ) (within : skip < length
       go (member_end ms ws) r e f = absurd (no_value_three (first == 0x7d) (first == 0x2c) (role.Separator Key) r (λ x. absurd cc))
       go (ended u) r e f = absurd cc
 
+  -- nothing else may come
+  pub step_unexpected : s ≢ End → role_of s first ≡ role.Unexpected → (last : ℕ) (ts : List Token) → reading_from limit c token last ts ≡ Err (stop (unexpected_kind s) place)
+  step_unexpected other is last ts = grind (arith, common_steps)
+
 -- only a quote begins a key
 pub key_byte : (s : State) (b : ℕ) → role_of s b ≡ role.Key → b ≡ 0x22
 key_byte Value b is = absurd cc
@@ -243,6 +249,6 @@ pub key_makes_node : (t : Token) → t.byte ≡ 0x22 → makes_node t ≡ true
 key_makes_node t is = ap (λ (b : ℕ). not (b == 0x5d || b == 0x7d || b == 0x3a || b == 0x2c)) is
 
 -- where the document reads alike before the token
-pub steps_as : {R : Type 0} (limit place : ℕ) (now other : ℕ → List Token → Reading Tree) (r : Result (State × R) Stop) (es : List Entry) (st : List Frame) → ((last : ℕ) (ts : List Token) → now last ts ≡ other last ts) → Steps (λ p. p.0) limit place other r es st → Steps (λ p. p.0) limit place now r es st
-steps_as limit place now other (Ok p) es st same h = (h.0, h.1, λ last ts. same last ts ∙ h.2 last ts)
+pub steps_as : (limit place : ℕ) (now other : ℕ → List Token → Reading Tree) (r : Result State Stop) (es : List Entry) (st : List Frame) → ((last : ℕ) (ts : List Token) → now last ts ≡ other last ts) → Steps limit place other r es st → Steps limit place now r es st
+steps_as limit place now other (Ok s) es st same h = (h.0, h.1, λ last ts. same last ts ∙ h.2 last ts)
 steps_as limit place now other (Err s) es st same h = λ last ts. same last ts ∙ h last ts

@@ -1,14 +1,16 @@
 -- What the code reads of a value is a case of the descent.
-use Rattle.std.proofs.Common.{◌≡◌, ◌⊎◌, inl, inr, ℕ, suc, ◌+◌, ◌<◌, ◌≤◌, ◌-◌, Bool, true, false, List, length, drop, take, length-drop, Some, None, Err, refl, sym, ap, ◌∙◌, arith, subst}
+use Rattle.std.proofs.Common.{◌≡◌, ◌⊎◌, inl, inr, ℕ, suc, ◌+◌, ◌<◌, ◌≤◌, ◌-◌, Bool, true, false, List, length, drop, take, length-drop, Some, None, Result, Ok, Err, refl, sym, ap, ◌∙◌, arith, subst}
 use Rattle.std.specs.Prelude.{◌||◌, not, ◌==◌, if◌then◌else◌, slice_index}
 use Rattle.std.proofs.Math.Seq.{take-length}
 use Rattle.std.proofs.lemmas.Bool.{eq-eqb, ne_eqb}
 use Rattle.sj_parse.specs.declared.descent_fault.DescentKind.{DescentKind}
 use Rattle.sj_parse.specs.declared.descent_fault.DescentKind.TheVariants.{Syntax, InvalidNumber}
-use Rattle.sj_tape.specs.Listing.{string_entry}
+use Rattle.sj_tape.specs.Listing.{Entry, string_entry}
 use Rattle.sj_tape.specs.Nodes.{node_entry}
 use Rattle.sj_tape.specs.declared.node.Node.{Node}
 use Rattle.sj_parse.specs.declared.descent_fault.Stop.{Stop}
+use Rattle.sj_parse.specs.declared.containers.Frame.{Frame}
+use Rattle.sj_parse.specs.declared.stage_two.State.{State}
 use Rattle.sj_parse.specs.Token.{Token, word}
 use Rattle.sj_parse.specs.Escapes.{stop, bad_escape}
 use Rattle.sj_base.specs.NumberTests.{is_number, is_negative}
@@ -17,9 +19,9 @@ use Rattle.sj_parse.specs.Nodes.{makes_node, HasCarrier}
 use Rattle.sj_parse.specs.inside.Trees.{decoded, token_tree}
 use Rattle.sj_parse.specs.inside.NumberNode.{IsNumberNode}
 use Rattle.sj_parse.specs.inside.Machine.{Waiting, first_item, first_member, after_value, reading}
-use Rattle.sj_parse.specs.inside.Step.{string_body, token_of, value_from, IsScalarNode, reach}
+use Rattle.sj_parse.specs.inside.Step.{string_body, token_of, value_from, IsScalarNode, reach, Opens, Steps}
 use Rattle.sj_parse.proofs.Machine.{value-list, value-deep_list, value-object, value-deep_object, value-scalar, value-bad_scalar, value-none, resume-after_value}
-use Rattle.sj_parse.proofs.ScalarTokens.{token_byte, string_text, word_text, string_node, string_fault, BeginsNumber, number_range, number_no_operator, number_no_quote, number_node-is, number_fault, first_of_word, node_number}
+use Rattle.sj_parse.proofs.ScalarTokens.{token_byte, string_text, word_text, string_node, string_fault, BeginsNumber, number_range, number_no_operator, number_no_quote, number_node-is, number_fault, first_of_word}
 
 module _ (place skip : ℕ) (before bs : List ℕ) (within : skip < length bs) where
   abbrev pub the_token : Token
@@ -88,28 +90,37 @@ module _ (place skip : ℕ) (before bs : List ℕ) (within : skip < length bs) w
   pub word_fault : (text : List ℕ) → BeginsNumber first → text ≡ word (drop skip bs) → is_number text ≡ false → scalar_stop the_token ≡ Some (stop InvalidNumber place)
   word_fault text is reads none = number_fault the_token (begins_number is) (ap is_number (number_text is ∙ sym reads) ∙ none)
 
-  pub word_reach : (text : List ℕ) (n : Node) → BeginsNumber first → text ≡ word (drop skip bs) → IsNumberNode text n → skip + length (word (drop skip bs)) ≤ skip + reach the_token
-  word_reach text n is reads node =
-      let number : is_number (the_token).text ≡ true = ap is_number (number_text is ∙ sym reads) ∙ node_number text n node in
+  pub word_reach : BeginsNumber first → is_number (word (drop skip bs)) ≡ true → skip + length (word (drop skip bs)) ≤ skip + reach the_token
+  word_reach is number =
+      let whole : is_number (the_token).text ≡ true = ap is_number (number_text is) ∙ number in
       let length_is : reach the_token ≡ length (the_token).text =
       ap (λ (b : Bool). if b then suc (length (the_token).text) else (if is_number (the_token).text then length (the_token).text else 0)) (same_test 0x22 false (number_no_quote first is))
-      ∙ ap (λ (b : Bool). if b then length (the_token).text else 0) number in
+      ∙ ap (λ (b : Bool). if b then length (the_token).text else 0) whole in
       let long : length (the_token).text ≡ length (word (drop skip bs)) = ap length (number_text is) in omega arith
 
   -- ---- the cases of a value
 
   module _ (limit : ℕ) (kind : DescentKind) (ws : List Waiting) where
-    pub array_opens : (first == 0x5b) ≡ true → length ws < limit → (last : ℕ) (ts : List Token) → value_from limit kind ws the_token last ts ≡ reading limit (first_item ws) place ts
+    array_opens : (first == 0x5b) ≡ true → length ws < limit → (last : ℕ) (ts : List Token) → value_from limit kind ws the_token last ts ≡ reading limit (first_item ws) place ts
     array_opens is room last ts = value-list limit kind ws last the_token ts room (same_test 0x5b true is)
 
-    pub array_deep : (s : Stop) → s ≡ stop Syntax place → (first == 0x5b) ≡ true → limit ≤ length ws → (last : ℕ) (ts : List Token) → value_from limit kind ws the_token last ts ≡ Err s
+    array_deep : (s : Stop) → s ≡ stop Syntax place → (first == 0x5b) ≡ true → limit ≤ length ws → (last : ℕ) (ts : List Token) → value_from limit kind ws the_token last ts ≡ Err s
     array_deep s at is full last ts = value-deep_list limit kind ws last the_token ts full (same_test 0x5b true is) ∙ ap Err (sym at)
 
-    pub object_opens : (first == 0x5b) ≡ false → (first == 0x7b) ≡ true → length ws < limit → (last : ℕ) (ts : List Token) → value_from limit kind ws the_token last ts ≡ reading limit (first_member ws) place ts
+    object_opens : (first == 0x5b) ≡ false → (first == 0x7b) ≡ true → length ws < limit → (last : ℕ) (ts : List Token) → value_from limit kind ws the_token last ts ≡ reading limit (first_member ws) place ts
     object_opens no_list is room last ts = value-object limit kind ws last the_token ts room (same_test 0x5b false no_list) (same_test 0x7b true is)
 
-    pub object_deep : (s : Stop) → s ≡ stop Syntax place → (first == 0x5b) ≡ false → (first == 0x7b) ≡ true → limit ≤ length ws → (last : ℕ) (ts : List Token) → value_from limit kind ws the_token last ts ≡ Err s
+    object_deep : (s : Stop) → s ≡ stop Syntax place → (first == 0x5b) ≡ false → (first == 0x7b) ≡ true → limit ≤ length ws → (last : ℕ) (ts : List Token) → value_from limit kind ws the_token last ts ≡ Err s
     object_deep s at no_list is full last ts = value-deep_object limit kind ws last the_token ts full (same_test 0x5b false no_list) (same_test 0x7b true is) ∙ ap Err (sym at)
+
+    -- a container is opened, or it is beyond the limit
+    pub array_step : (r : Result State Stop) (es : List Entry) (st : List Frame) → (first == 0x5b) ≡ true → Opens limit ws place (first_item ws) r es st → Steps limit place (value_from limit kind ws the_token) r es st
+    array_step (Ok s) es st is o = (first_item ws, o.0, array_opens is o.1)
+    array_step (Err s) es st is o = array_deep s o.0 is o.1
+
+    pub object_step : (r : Result State Stop) (es : List Entry) (st : List Frame) → (first == 0x5b) ≡ false → (first == 0x7b) ≡ true → Opens limit ws place (first_member ws) r es st → Steps limit place (value_from limit kind ws the_token) r es st
+    object_step (Ok s) es st no_list is o = (first_member ws, o.0, object_opens no_list is o.1)
+    object_step (Err s) es st no_list is o = object_deep s o.0 no_list is o.1
 
     pub scalar_reads : (n : Node) → (first == 0x5b) ≡ false → (first == 0x7b) ≡ false → begins_scalar first ≡ true → IsScalarNode the_token n → (last : ℕ) (ts : List Token) → value_from limit kind ws the_token last ts ≡ reading limit (after_value ws (token_tree the_token)) place ts
     scalar_reads n no_list no_object is node last ts =

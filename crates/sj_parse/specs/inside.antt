@@ -5,4 +5,6 @@ pub mod NumberNode
 pub mod Trees
 pub mod Machine
 pub mod Step
+pub mod Tail
+pub mod Underway
 pub mod Blocks

@@ -21,6 +21,7 @@ mod scalars;
 mod search;
 mod stage_two;
 mod strings;
+mod tail;
 
 pub use atoms::{is_valid_false_atom, is_valid_null_atom, is_valid_true_atom};
 pub use buffers::Buffers;

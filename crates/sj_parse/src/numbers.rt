@@ -7,32 +7,58 @@ ghost use Rattle.sj_parse.specs.inside.NumberNode.{IsNumberNode, HasShape};
 
 use crate::atoms::ends_word;
 use crate::digits::value_of;
-use crate::search::digits_len;
+use crate::search::{digits_len, word_len};
 use sj_base::{Decimal, StaticNode, is_whole, split_minus};
 use sj_tape::Node;
 
-/// What is known of a word.
+/// What is known of a number.
 #[derive(Clone, Copy)]
 pub(crate) enum Shape {
     /// It is a whole number with a minus or without one, and may be out of range.
     Whole,
     /// It is a decimal literal.
     Decimal,
-    /// It is no integer.
-    Other,
 }
 
-/// Returns the node of a number, or `None` for any other text. An integer in range is an `I64` if it has a
-/// minus, and else a `U64`.
+/// Returns the node of a number. An integer in range is an `I64` if it has a minus, and else a `U64`.
 #[inline(always)]
-pub(crate) fn number<'a>(text: &'a [u8], shape: Shape) -> Option<Node<'a>>
+pub(crate) fn number<'a>(text: &'a [u8], shape: Shape) -> Node<'a>
     requires { HasShape text.now shape }
-    ensures { MatchOption result (is_number text.now ≡ false) (IsNumberNode text.now) }
+    ensures { IsNumberNode text.now result }
 {
     match shape {
-        Shape::Whole => Some(integer(text)),
-        Shape::Decimal => Some(Node::Decimal(Decimal::from_bytes_unchecked(text))),
-        Shape::Other => decimal(text),
+        Shape::Whole => integer(text),
+        Shape::Decimal => Node::Decimal(Decimal::from_bytes_unchecked(text)),
+    }
+}
+
+/// The length of the word that the bytes begin with, and its shape, or `None` if it is no number.
+#[inline(always)]
+pub(crate) fn find_number(bytes: &[u8]) -> Option<(usize, Shape)>
+    ensures within { IfSome result (λ p. p.0 ≤ length bytes.now) }
+    ensures word { IfSome result (λ p. take p.0 bytes.now ≡ word bytes.now) }
+    ensures shape { IfSome result (λ p. HasShape (word bytes.now) p.1) }
+    ensures none { IfNone result (is_number (word bytes.now) ≡ false) }
+{
+    match plain_number(bytes) {
+        Some(found) => Some(found),
+        None => find_decimal(bytes),
+    }
+}
+
+/// As [`find_number`], for what [`plain_number`] leaves: numbers with an exponent, and words that are no number.
+#[cold]
+#[inline(never)]
+fn find_decimal(bytes: &[u8]) -> Option<(usize, Shape)>
+    ensures within { IfSome result (λ p. p.0 ≤ length bytes.now) }
+    ensures word { IfSome result (λ p. take p.0 bytes.now ≡ word bytes.now) }
+    ensures shape { IfSome result (λ p. HasShape (word bytes.now) p.1) }
+    ensures none { IfNone result (is_decimal (word bytes.now) ≡ false) }
+{
+    let len = word_len(bytes);
+    match Decimal::from_bytes(&bytes[..len]) {
+        Some(_) => Some((len, Shape::Decimal)),
+        None => None,
     }
 }
 
@@ -65,11 +91,11 @@ fn in_range(text: &[u8]) -> Option<StaticNode>
 
 /// The length of the number that the bytes begin with, and its shape, if it stands as a whole word and has no exponent.
 #[inline(always)]
-pub(crate) fn plain_number(bytes: &[u8]) -> Option<(usize, Shape)>
+fn plain_number(bytes: &[u8]) -> Option<(usize, Shape)>
     ensures within { IfSome result (λ p. p.0 ≤ length bytes.now) }
     ensures word { IfSome result (λ p. take p.0 bytes.now ≡ word bytes.now) }
     ensures shape { IfSome result (λ p. HasShape (word bytes.now) p.1) }
-    ensures none { IfNone result (HasShape (word bytes.now) Shape.Other) }
+    ensures none { IfNone result (is_integer (word bytes.now) ≡ false) }
 {
     let (_, magnitude) = split_minus(bytes);
     let whole = digits_len(magnitude);
@@ -99,17 +125,10 @@ fn whole(digits: &[u8]) -> Option<u64>
     requires { is_whole digits.now ≡ true }
     ensures { SomeIff result (digits_value 10 digits.now < 2 ^ 64) (digits_value 10 digits.now) }
 {
-    // The largest of them has 20 digits.
+    // The largest in range has 20 digits.
     if digits.len() < 20 {
         Some(value_of(digits))
     } else {
         fast_float::parse_u64(digits).ok()
     }
-}
-
-fn decimal<'a>(text: &'a [u8]) -> Option<Node<'a>>
-    ensures { MatchOption result (is_decimal text.now ≡ false)
-        (λ n. (is_decimal text.now ≡ true) × IsNumberNode text.now n) }
-{
-    Some(Node::Decimal(Decimal::from_bytes(text)?))
 }

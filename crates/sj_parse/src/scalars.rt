@@ -1,14 +1,15 @@
-//! Strings, numbers and literals, read where they stand in the input.
-ghost use Rattle.std.specs.Prelude.{◌≡◌, ◌≢◌, ℕ, ◌+◌, ◌<◌, ◌≤◌, ◌^◌, None, Some, MatchResult, IfErr, IfOk, length, take, drop, slice_index, IsUtf8};
+//! Strings and numbers, read where they stand in the input.
+ghost use Rattle.std.specs.Prelude.{◌≡◌, ◌≢◌, ℕ, ◌+◌, ◌<◌, ◌≤◌, ◌^◌, true, false, None, Some, MatchResult, IfErr, IfOk, length, take, drop, slice_index, IsUtf8};
+ghost use Rattle.sj_base.specs.NumberTests.{is_number};
 ghost use Rattle.sj_parse.specs.Token.{word};
-ghost use Rattle.sj_parse.specs.Escapes.{bad_escape};
+ghost use Rattle.sj_parse.specs.Escapes.{bad_escape, stop};
 ghost use Rattle.sj_parse.specs.inside.NumberNode.{HasShape};
 ghost use Rattle.sj_parse.specs.inside.Trees.{decoded};
 ghost use Rattle.sj_parse.specs.inside.Step.{string_body, StopsAt};
 
-use crate::descent_fault::Stop;
-use crate::numbers::{Shape, plain_number};
-use crate::search::{plain_len, word_len};
+use crate::descent_fault::{DescentKind, Stop};
+use crate::numbers::{Shape, find_number};
+use crate::search::plain_len;
 use crate::strings::decode;
 
 /// The length of the body that begins the bytes: up to its closing quote, or the end.
@@ -49,52 +50,57 @@ fn find_body(bytes: &[u8]) -> (usize, usize)
     (plain + body_len(&bytes[plain..]), plain)
 }
 
-/// The text of the string whose opening quote stands at `skip`, and the input from the closing quote on.
+/// The text of the string whose opening quote stands at `skip`, and the bytes from `cut` on, which is behind the string. `place` is
+/// where `skip` is in the whole text.
 #[inline(always)]
-pub(crate) fn take_string<'i>(
+pub(crate) fn split_string<'i>(
     place: usize,
     skip: usize,
+    cut: usize,
     rest: &'i mut [u8],
 ) -> Result<(&'i str, &'i mut [u8]), Stop>
     requires within { skip < length rest.old }
     requires body { IsUtf8 (string_body (drop (skip + 1) rest.old)) }
     requires fits { place + length rest.old < 2 ^ 64 }
+    requires cut { (skip + 1 + length (string_body (drop (skip + 1) rest.old)) ≤ cut) × (cut ≤ length rest.old) }
     ensures text { MatchResult result
         (λ p. (bad_escape (place + 1) (string_body (drop (skip + 1) rest.entry.now)) ≡ None) × (p.0.now ≡ decoded (string_body (drop (skip + 1) rest.entry.now))))
         (λ s. bad_escape (place + 1) (string_body (drop (skip + 1) rest.entry.now)) ≡ Some s) }
     ensures stops { IfErr result (StopsAt place skip rest.entry.now) }
-    ensures rest { IfOk result (λ p. p.1.now ≡ drop (skip + 1 + length (string_body (drop (skip + 1) rest.entry.now))) rest.entry.now) }
+    ensures rest { IfOk result (λ p. p.1.now ≡ drop cut rest.entry.now) }
 {
-    let (_, from_body) = rest.split_at_mut(skip + 1);
-    let (len, plain) = find_body(from_body);
-    let (body, behind) = from_body.split_at_mut(len);
+    let (len, plain) = find_body(&rest[skip + 1..]);
+    let (token, behind) = rest.split_at_mut(cut);
+    let (_, from_body) = token.split_at_mut(skip + 1);
+    let (body, _) = from_body.split_at_mut(len);
     let text = decode(place + 1, plain, body)?;
     Ok((text, behind))
 }
 
-/// The length of the word that begins the bytes, and its shape.
+/// The number that begins at `skip`, its shape, and the bytes from `cut` on, which is behind the number. `place` is where `skip` is
+/// in the whole text.
 #[inline(always)]
-fn find_word(bytes: &[u8]) -> (usize, Shape)
-    ensures within { result.0 ≤ length bytes.now }
-    ensures word { take result.0 bytes.now ≡ word bytes.now }
-    ensures shape { HasShape (word bytes.now) result.1 }
+pub(crate) fn split_number<'i>(
+    place: usize,
+    skip: usize,
+    cut: usize,
+    rest: &'i mut [u8],
+) -> Result<(&'i [u8], Shape, &'i mut [u8]), Stop>
+    requires within { skip ≤ length rest.old }
+    requires cut { (is_number (word (drop skip rest.old)) ≡ true → skip + length (word (drop skip rest.old)) ≤ cut) × (cut ≤ length rest.old) }
+    ensures word { IfOk result (λ p. p.0.now ≡ word (drop skip rest.entry.now)) }
+    ensures shape { IfOk result (λ p. HasShape (word (drop skip rest.entry.now)) p.1) }
+    ensures rest { IfOk result (λ p. p.2.now ≡ drop cut rest.entry.now) }
+    ensures fault { IfErr result (λ s. (is_number (word (drop skip rest.entry.now)) ≡ false) × (s ≡ stop DescentKind.InvalidNumber place)) }
 {
-    match plain_number(bytes) {
-        Some(found) => found,
-        None => (word_len(bytes), Shape::Other),
-    }
-}
-
-/// The word that begins at `skip`, its shape, and the input after it.
-#[inline(always)]
-pub(crate) fn take_word<'i>(skip: usize, rest: &'i mut [u8]) -> (&'i [u8], Shape, &'i mut [u8])
-    requires { skip ≤ length rest.old }
-    ensures word { result.0.now ≡ word (drop skip rest.entry.now) }
-    ensures shape { HasShape (word (drop skip rest.entry.now)) result.1 }
-    ensures rest { result.2.now ≡ drop (skip + length (word (drop skip rest.entry.now))) rest.entry.now }
-{
-    let (len, shape) = find_word(&rest[skip..]);
-    let (_, from_word) = rest.split_at_mut(skip);
-    let (word, behind) = from_word.split_at_mut(len);
-    (word, shape, behind)
+    let Some((len, shape)) = find_number(&rest[skip..]) else {
+        return Err(Stop {
+            kind: DescentKind::InvalidNumber,
+            place,
+        });
+    };
+    let (token, behind) = rest.split_at_mut(cut);
+    let (_, from_word) = token.split_at_mut(skip);
+    let (word, _) = from_word.split_at_mut(len);
+    Ok((word, shape, behind))
 }

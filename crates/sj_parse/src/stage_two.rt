@@ -1,9 +1,6 @@
 //! The descent over the tokens of a text, with a stack of its own.
-ghost use Rattle.std.specs.Prelude.{◌≡◌, ◌≢◌, ℕ, List, [], ◌∷◌, ◌++◌, ◌+◌, ◌<◌, ◌≤◌, ◌^◌, ◌⊎◌, IfOk, IfErr, OnOk, MatchResult, Some, None, false, min, length, drop, slice_index, IsUtf8, vec_len, vec_capacity};
+ghost use Rattle.std.specs.Prelude.{◌≡◌, ◌≢◌, ℕ, List, [], ◌∷◌, ◌++◌, ◌+◌, ◌-◌, ◌<◌, ◌≤◌, ◌⊎◌, if◌then◌else◌, not, nat_lt, IfErr, OnOk, MatchResult, Some, None, min, length, drop, slice_index, IsUtf8, vec_len, vec_capacity};
 ghost use Rattle.sj_tape.specs.Nodes.{entries};
-ghost use Rattle.sj_parse.specs.Escapes.{stop};
-ghost use Rattle.sj_base.specs.NumberTests.{is_number};
-ghost use Rattle.sj_parse.specs.inside.NumberNode.{IsNumberNode, HasShape};
 ghost use Rattle.sj_parse.specs.Token.{Token};
 ghost use Rattle.sj_parse.specs.Descent.{scalar_stop};
 ghost use Rattle.sj_parse.specs.Nodes.{HaveCarriers};
@@ -11,24 +8,25 @@ ghost use Rattle.sj_parse.specs.inside.Machine.{Waiting, Config, IsAt, waiting_e
 ghost use Rattle.sj_parse.specs.Fault.{fault, descent_error};
 ghost use Rattle.sj_parse.specs.Answers.{IsTapeOf};
 ghost use Rattle.sj_parse.specs.Counts.{ReadsEachOnce, ReadsAll};
-ghost use Rattle.sj_base.specs.Reads.{reads_items, reads_places};
+ghost use Rattle.sj_parse.specs.inside.Underway.{Underway, Stopped};
+ghost use Rattle.sj_base.specs.Reads.{noted, reads_items, reads_places};
 ghost use Rattle.sj_scan.specs.Positions.{positions};
 ghost use Rattle.sj_scan.specs.Scan.{scan_fault};
 ghost use Rattle.sj_base.specs.Spelling.{longest};
 ghost use Rattle.sj_base.specs.Tree.{Tree};
 ghost use Rattle.sj_tape.specs.Listing.{listing};
-ghost use Rattle.sj_parse.specs.inside.Step.{string_body, token_of, left_kind_of, role_of, StopsAt, unexpected_kind, is_end, Steps, value_from, reading_from, Begins, IsScalarNode, IsBehind};
+ghost use Rattle.sj_parse.specs.inside.Step.{string_body, token_of, left_kind_of, role_of, StopsAt, unexpected_kind, Steps, value_from, reading_from, Begins, IsScalarNode};
+ghost use Rattle.sj_parse.specs.inside.Tail.{Holds, Reaches, IsBehind, first_byte, token_here};
 
 use crate::atoms::{is_valid_false_atom, is_valid_null_atom, is_valid_true_atom};
 use crate::containers::{Frame, add_scalar, close, open};
 use crate::descent_fault::{DescentFault, DescentKind, Stop};
-use crate::numbers::{Shape, number};
-use crate::scalars::{take_string, take_word};
+use crate::tail::Tail;
 use sj_base::{Reads, StaticNode};
 use sj_tape::Node;
 
 /// What may come next.
-#[derive(Clone, Copy)]
+#[derive(Clone, Copy, PartialEq, Eq)]
 pub(crate) enum State {
     Value,
     FirstItem,
@@ -59,13 +57,7 @@ impl State {
         }
     }
 
-    #[inline(always)]
-    fn is_end(self) -> bool
-        ensures { result ≡ is_end self }
-    {
-        matches!(self, State::End)
-    }
-
+    /// What the byte is here, as the first of a token.
     #[inline(always)]
     fn role(self, byte: u8) -> Role
         ensures { result ≡ role_of self byte }
@@ -88,7 +80,7 @@ impl State {
 
 /// What the first byte of a token is in a state.
 #[derive(Clone, Copy)]
-pub(crate) enum Role {
+enum Role {
     /// A closing bracket.
     Close,
     /// A comma or a colon. The field is the state after it.
@@ -158,61 +150,47 @@ fn literal(place: usize, bytes: &[u8]) -> Result<StaticNode, Stop>
     }
 }
 
-/// The node of the number that the word is.
-#[inline(always)]
-fn number_node<'i>(place: usize, word: &'i [u8], shape: Shape) -> Result<Node<'i>, Stop>
-    requires { HasShape word.now shape }
-    ensures { MatchResult result (IsNumberNode word.now)
-        (λ s. (is_number word.now ≡ false) × (s ≡ stop DescentKind.InvalidNumber place)) }
-{
-    number(word, shape).ok_or(Stop {
-        kind: DescentKind::InvalidNumber,
-        place,
-    })
-}
-
-/// Reads the value that begins at `skip`: a whole scalar, or the opening bracket of a container.
+/// Reads the value that begins at `place`: a whole scalar, or the opening bracket of a container.
 #[inline(always)]
 fn read_value<'i>(
     unexpected: DescentKind,
     place: usize,
-    skip: usize,
+    next: usize,
     limit: usize,
-    rest: &'i mut [u8],
+    tail: &mut Tail<'i>,
     nodes: &mut Vec<Node<'i>>,
     stack: &mut Vec<Frame>,
-) -> Result<(State, &'i mut [u8]), Stop>
-    requires within { skip < length rest.old }
-    requires body { slice_index rest.old skip ≡ 0x22 → IsUtf8 (string_body (drop (skip + 1) rest.old)) }
-    requires fits { place + length rest.old < 2 ^ 64 }
+) -> Result<State, Stop>
+    requires token { Holds place next tail.old }
+    requires body { first_byte place tail.old ≡ 0x22 → IsUtf8 (string_body (drop (place - tail.old.from + 1) tail.old.rest.now)) }
+    requires reaches { Reaches place next tail.old }
     requires waits { (ws : List Waiting) × (entries nodes.old.items ≡ waiting_entries ws) × (stack.old.items ≡ waiting_stack ws) }
     requires nodes { vec_len nodes.old < vec_capacity nodes.old }
     requires stack { vec_len stack.old < limit → vec_len stack.old < vec_capacity stack.old }
     ensures steps { (ws : List Waiting) (before : List ℕ) → entries nodes.old.items ≡ waiting_entries ws → stack.old.items ≡ waiting_stack ws
-        → Steps (λ p. p.0) limit place (value_from limit unexpected ws (token_of place before (drop skip rest.entry.now))) result (entries nodes.new.items) stack.new.items }
+        → Steps limit place (value_from limit unexpected ws (token_here place before tail.old)) result (entries nodes.new.items) stack.new.items }
     ensures carriers { (ts : List Token) (before : List ℕ) → HaveCarriers ts nodes.old.items
-        → OnOk result (HaveCarriers (ts ++ token_of place before (drop skip rest.entry.now) ∷ []) nodes.new.items) }
-    ensures rest { (before : List ℕ) → IfOk result (λ p. IsBehind skip (token_of place before (drop skip rest.entry.now)) rest.entry.now p.1.now) }
-    ensures stops { IfErr result (StopsAt place skip rest.entry.now) }
+        → OnOk result (HaveCarriers (ts ++ token_here place before tail.old ∷ []) nodes.new.items) }
+    ensures tail { OnOk result (IsBehind next tail.old tail.new) }
+    ensures stops { IfErr result (StopsAt place (place - tail.old.from) tail.old.rest.now) }
     ensures capacity { (vec_capacity nodes.new ≡ vec_capacity nodes.old) × (vec_capacity stack.new ≡ vec_capacity stack.old) }
     ensures grows { (vec_len nodes.new ≤ vec_len nodes.old + 1) × (vec_len stack.new ≤ vec_len stack.old + 1) }
     ensures levels { vec_len stack.old ≤ limit → vec_len stack.new ≤ limit }
 {
-    match begins(rest[skip]) {
-        Opening::Array => Ok((open(place, limit, false, nodes, stack)?, rest)),
-        Opening::Object => Ok((open(place, limit, true, nodes, stack)?, rest)),
+    match begins(tail.rest[place - tail.from]) {
+        Opening::Array => open(place, limit, false, nodes, stack),
+        Opening::Object => open(place, limit, true, nodes, stack),
         Opening::String => {
-            let (text, behind) = take_string(place, skip, rest)?;
-            Ok((add_scalar(Node::String(text), nodes, stack), behind))
+            let text = tail.take_string(place, next)?;
+            Ok(add_scalar(Node::String(text), nodes, stack))
         }
         Opening::Literal => {
-            let node = literal(place, &rest[skip..])?;
-            Ok((add_scalar(Node::Static(node), nodes, stack), rest))
+            let node = literal(place, tail.starting_at(place))?;
+            Ok(add_scalar(Node::Static(node), nodes, stack))
         }
         Opening::Number => {
-            let (word, shape, behind) = take_word(skip, rest);
-            let node = number_node(place, word, shape)?;
-            Ok((add_scalar(node, nodes, stack), behind))
+            let node = tail.take_number(place, next)?;
+            Ok(add_scalar(node, nodes, stack))
         }
         Opening::Nothing => Err(Stop {
             kind: unexpected,
@@ -221,47 +199,215 @@ fn read_value<'i>(
     }
 }
 
-/// Reads the token that begins at `skip`.
+/// Reads the token that begins at `place`. The next one begins at `next`, or the text ends there.
 #[inline(always)]
 fn step<'i>(
     state: State,
     place: usize,
-    skip: usize,
+    next: usize,
     limit: usize,
-    rest: &'i mut [u8],
+    tail: &mut Tail<'i>,
     nodes: &mut Vec<Node<'i>>,
     stack: &mut Vec<Frame>,
-) -> Result<(State, &'i mut [u8]), Stop>
+) -> Result<State, Stop>
     requires goes_on { state ≢ State.End }
     requires at { (c : Config) × IsAt c state (entries nodes.old.items) stack.old.items }
-    requires within { skip < length rest.old }
-    requires body { slice_index rest.old skip ≡ 0x22 → IsUtf8 (string_body (drop (skip + 1) rest.old)) }
-    requires fits { place + length rest.old < 2 ^ 64 }
+    requires token { Holds place next tail.old }
+    requires body { first_byte place tail.old ≡ 0x22 → IsUtf8 (string_body (drop (place - tail.old.from + 1) tail.old.rest.now)) }
+    requires reaches { Reaches place next tail.old }
     requires nodes { vec_len nodes.old < vec_capacity nodes.old }
     requires stack { vec_len stack.old < limit → vec_len stack.old < vec_capacity stack.old }
     ensures steps { (c : Config) (before : List ℕ) → IsAt c state (entries nodes.old.items) stack.old.items
-        → Steps (λ p. p.0) limit place (reading_from limit c (token_of place before (drop skip rest.entry.now))) result (entries nodes.new.items) stack.new.items }
+        → Steps limit place (reading_from limit c (token_here place before tail.old)) result (entries nodes.new.items) stack.new.items }
     ensures carriers { (ts : List Token) (before : List ℕ) → HaveCarriers ts nodes.old.items
-        → OnOk result (HaveCarriers (ts ++ token_of place before (drop skip rest.entry.now) ∷ []) nodes.new.items) }
-    ensures rest { (before : List ℕ) → IfOk result (λ p. IsBehind skip (token_of place before (drop skip rest.entry.now)) rest.entry.now p.1.now) }
-    ensures stops { IfErr result (StopsAt place skip rest.entry.now) }
+        → OnOk result (HaveCarriers (ts ++ token_here place before tail.old ∷ []) nodes.new.items) }
+    ensures tail { OnOk result (IsBehind next tail.old tail.new) }
+    ensures stops { IfErr result (StopsAt place (place - tail.old.from) tail.old.rest.now) }
     ensures capacity { (vec_capacity nodes.new ≡ vec_capacity nodes.old) × (vec_capacity stack.new ≡ vec_capacity stack.old) }
     ensures grows { (vec_len nodes.new ≤ vec_len nodes.old + 1) × (vec_len stack.new ≤ vec_len stack.old + 1) }
     ensures levels { vec_len stack.old ≤ limit → vec_len stack.new ≤ limit }
 {
-    match state.role(rest[skip]) {
-        Role::Close => Ok((close(nodes, stack), rest)),
-        Role::Separator(next) => Ok((next, rest)),
+    match state.role(tail.rest[place - tail.from]) {
+        Role::Close => Ok(close(nodes, stack)),
+        Role::Separator(after) => Ok(after),
         Role::Key => {
-            let (key, behind) = take_string(place, skip, rest)?;
+            let key = tail.take_string(place, next)?;
             nodes.push_reserved(Node::String(key));
-            Ok((State::Colon, behind))
+            Ok(State::Colon)
         }
-        Role::Value => read_value(state.unexpected(), place, skip, limit, rest, nodes, stack),
+        Role::Value => read_value(state.unexpected(), place, next, limit, tail, nodes, stack),
         Role::Unexpected => Err(Stop {
             kind: state.unexpected(),
             place,
         }),
+    }
+}
+
+/// How far the descent over a text has come.
+#[derive(Drop)]
+struct Cursor<'i> {
+    tail: Tail<'i>,
+    /// The number of tokens that were read.
+    count: usize,
+    /// Where the next token begins, or the text ends.
+    place: usize,
+}
+
+/// The place with that number and `false`, or `end` and `true` if there are no more places.
+#[inline(always)]
+fn place_at(places: &mut Reads<'_, u32>, number: usize, end: usize) -> (usize, bool)
+    ensures place { result.0 ≡ if nat_lt number (length (reads_items places.old)) then slice_index (reads_items places.old) number else end }
+    ensures is_last { result.1 ≡ not (nat_lt number (length (reads_items places.old))) }
+    ensures items { reads_items places.new ≡ reads_items places.old }
+    ensures places { reads_places places.new ≡ noted (reads_items places.old) (reads_places places.old) number }
+{
+    match places.at(number) {
+        Some(place) => (*place as usize, false),
+        None => (end, true),
+    }
+}
+
+/// Reads the next token, in the state `known`, and sets `state` to what may come after it: to [`State::End`] after the last token,
+/// and only then.
+///
+/// `known` is a parameter of its own so that an inlined copy can have a constant there.
+///
+/// # Errors
+///
+/// The first fault of the text. A text that is cut short has it at its last token.
+#[inline(always)]
+fn read_token<'i>(
+    known: State,
+    state: &mut State,
+    limit: usize,
+    places: &mut Reads<'_, u32>,
+    cursor: &mut Cursor<'i>,
+    nodes: &mut Vec<Node<'i>>,
+    stack: &mut Vec<Frame>,
+) -> Result<(), DescentFault>
+    requires goes_on { known ≢ State.End }
+    requires at { (input : List ℕ) × (read : List ℕ) × Underway input limit read places.old known cursor.old nodes.old stack.old }
+    ensures reads { (input read : List ℕ) → Underway input limit read places.old known cursor.old nodes.old stack.old
+        → MatchResult result (λ _. Underway input limit read places.new state.new cursor.new nodes.new stack.new)
+        (Stopped input limit read places.new nodes.new stack.new) }
+    ensures items { reads_items places.new ≡ reads_items places.old }
+    ensures room { (vec_capacity nodes.new ≡ vec_capacity nodes.old) × (vec_capacity stack.new ≡ vec_capacity stack.old) }
+    ensures count { OnOk result (cursor.new.count ≡ cursor.old.count + 1) }
+{
+    let place = cursor.place;
+    let byte = cursor.tail.rest[place - cursor.tail.from];
+    let end = cursor.tail.from + cursor.tail.rest.len();
+    cursor.count += 1;
+    let (next, is_last) = place_at(places, cursor.count, end);
+    cursor.place = next;
+    match step(known, place, next, limit, &mut cursor.tail, nodes, stack) {
+        Ok(after) => {
+            // The root must have its value after the last token, and not before it.
+            if is_last {
+                if after == State::End {
+                    *state = after;
+                    return Ok(());
+                }
+                let kind = DescentKind::Syntax;
+                return Err(DescentFault {
+                    kind,
+                    index: place,
+                    byte,
+                });
+            }
+            if after == State::End {
+                let kind = left_kind(nodes);
+                return Err(DescentFault {
+                    kind,
+                    index: place,
+                    byte,
+                });
+            }
+            *state = after;
+            Ok(())
+        }
+        Err(stop) => Err(stop.fault(place, byte)),
+    }
+}
+
+/// Reads the next token if `state` is `expected`, and else none. An inlined copy with a constant there needs no choice by the state.
+///
+/// # Errors
+///
+/// As [`read_token`].
+#[inline(always)]
+fn read_in<'i>(
+    expected: State,
+    state: &mut State,
+    limit: usize,
+    places: &mut Reads<'_, u32>,
+    cursor: &mut Cursor<'i>,
+    nodes: &mut Vec<Node<'i>>,
+    stack: &mut Vec<Frame>,
+) -> Result<(), DescentFault>
+    requires goes_on { expected ≢ State.End }
+    requires at { (input : List ℕ) × (read : List ℕ) × Underway input limit read places.old state.old cursor.old nodes.old stack.old }
+    ensures reads { (input read : List ℕ) → Underway input limit read places.old state.old cursor.old nodes.old stack.old
+        → MatchResult result (λ _. Underway input limit read places.new state.new cursor.new nodes.new stack.new)
+        (Stopped input limit read places.new nodes.new stack.new) }
+    ensures items { reads_items places.new ≡ reads_items places.old }
+    ensures room { (vec_capacity nodes.new ≡ vec_capacity nodes.old) × (vec_capacity stack.new ≡ vec_capacity stack.old) }
+    ensures count { OnOk result (cursor.old.count ≤ cursor.new.count) }
+    ensures takes { state.old ≡ expected → OnOk result (cursor.new.count ≡ cursor.old.count + 1) }
+{
+    if *state == expected {
+        read_token(expected, state, limit, places, cursor, nodes, stack)
+    } else {
+        Ok(())
+    }
+}
+
+/// Reads tokens until the root has its value and no token is left.
+///
+/// # Errors
+///
+/// The first fault of the text.
+#[inline(always)]
+fn read_root<'i>(
+    limit: usize,
+    places: &mut Reads<'_, u32>,
+    cursor: &mut Cursor<'i>,
+    nodes: &mut Vec<Node<'i>>,
+    stack: &mut Vec<Frame>,
+) -> Result<(), DescentFault>
+    requires at { (input : List ℕ) × (read : List ℕ) × Underway input limit read places.old State.Value cursor.old nodes.old stack.old }
+    ensures reads { (input read : List ℕ) → Underway input limit read places.old State.Value cursor.old nodes.old stack.old
+        → MatchResult result (λ _. Underway input limit read places.new State.End cursor.new nodes.new stack.new)
+        (Stopped input limit read places.new nodes.new stack.new) }
+    ensures items { reads_items places.new ≡ reads_items places.old }
+    ensures room { (vec_capacity nodes.new ≡ vec_capacity nodes.old) × (vec_capacity stack.new ≡ vec_capacity stack.old) }
+{
+    let mut state = State::Value;
+    loop {
+        // Most members are a comma, a key, a colon and a value: the first three take one test of the state each.
+        read_in(
+            State::MemberEnd,
+            &mut state,
+            limit,
+            places,
+            cursor,
+            nodes,
+            stack,
+        )?;
+        read_in(State::Key, &mut state, limit, places, cursor, nodes, stack)?;
+        read_in(
+            State::Colon,
+            &mut state,
+            limit,
+            places,
+            cursor,
+            nodes,
+            stack,
+        )?;
+        if state == State::End {
+            return Ok(());
+        }
+        read_token(state, &mut state, limit, places, cursor, nodes, stack)?;
     }
 }
 
@@ -273,7 +419,7 @@ fn step<'i>(
 /// for as many as there are places, the stack for as many frames as there are places or levels, whichever are fewer. Nodes
 /// and frames go into this room, which doesn't grow.
 ///
-/// The bytes of the text may be rewritten, and after a fault the vectors hold what was read before it.
+/// The bytes of the text may be rewritten, and after a fault the vectors hold what was read until then.
 ///
 /// # Errors
 ///
@@ -300,36 +446,22 @@ pub fn descend<'i>(
     ensures stack { length stack.new.items ≤ min limit (length (reads_items places.old)) }
     ensures room { (vec_capacity nodes.new ≡ vec_capacity nodes.old) × (vec_capacity stack.new ≡ vec_capacity stack.old) }
 {
-    let len = input.len();
-    let mut rest = input;
-    let mut state = State::Value;
-    let mut last = (0, 0);
-    let mut count = 0;
-    while let Some(place) = places.at(count) {
-        if state.is_end() {
-            let (index, byte) = last;
-            let kind = left_kind(nodes);
-            return Err(DescentFault { kind, index, byte });
-        }
-        let place = *place as usize;
-        let skip = place - (len - rest.len());
-        let byte = rest[skip];
-        match step(state, place, skip, limit, rest, nodes, stack) {
-            Ok((next, behind)) => {
-                state = next;
-                rest = behind;
-            }
-            Err(stop) => return Err(stop.fault(place, byte)),
-        }
-        last = (place, byte);
-        count += 1;
-    }
-    if state.is_end() {
-        Ok(())
-    } else {
-        let (index, byte) = last;
-        let kind = DescentKind::Syntax;
-        Err(DescentFault { kind, index, byte })
+    let Some(first) = places.at(0) else {
+        // A text in which the scan found no fault has a token.
+        unreachable!();
+    };
+    let mut cursor = Cursor {
+        tail: Tail {
+            rest: input,
+            from: 0,
+        },
+        count: 0,
+        place: *first as usize,
+    };
+    match read_root(limit, places, &mut cursor, nodes, stack) {
+        Ok(()) => Ok(()),
+        // Made anew from its fields. Handed on whole, it keeps the bytes between them, which the loop then copies at each token.
+        Err(DescentFault { kind, index, byte }) => Err(DescentFault { kind, index, byte }),
     }
 }
 

@@ -1,4 +1,4 @@
--- The node of a number, and what is known of a word.
+-- The node of a number, and what is known of its text.
 use Rattle.std.specs.Prelude.{◌≡◌, ℕ, true, false, List, pos}
 use Rattle.sj_base.specs.Scalar.{decimal_text}
 use Rattle.sj_base.specs.declared.static_node.StaticNode.TheVariants.{Null, Bool as Boolean, I64, U64}
@@ -6,7 +6,7 @@ use Rattle.sj_tape.specs.declared.node.Node.{Node}
 use Rattle.sj_tape.specs.declared.node.Node.TheVariants.{String, Object, Array, Static, Decimal}
 use Rattle.sj_base.specs.NumberTests.{is_negative, magnitude, is_whole, is_integer, integer_value, is_decimal}
 use Rattle.sj_parse.specs.declared.numbers.Shape.{Shape}
-use Rattle.sj_parse.specs.declared.numbers.Shape.TheVariants.{Whole, Decimal as DecimalLiteral, Other}
+use Rattle.sj_parse.specs.declared.numbers.Shape.TheVariants.{Whole, Decimal as DecimalLiteral}
 
 -- An integer is an `I64` exactly where it begins with a minus.
 abbrev pub IsNumberNode : List ℕ → Node → Type 0
@@ -19,8 +19,7 @@ IsNumberNode text (String s) = ⊥
 IsNumberNode text (Object len count) = ⊥
 IsNumberNode text (Array len count) = ⊥
 
--- What is known of a word.
+-- What is known of a number.
 abbrev pub HasShape : List ℕ → Shape → Type 0
 HasShape text Whole = is_whole (magnitude text) ≡ true
 HasShape text DecimalLiteral = is_decimal text ≡ true
-HasShape text Other = is_integer text ≡ false

@@ -1,5 +1,5 @@
 -- What one step of stage two answers, for the token that it reads.
-use Rattle.std.specs.Prelude.{◌≡◌, ◌≢◌, ℕ, ◌+◌, ◌<◌, ◌≤◌, ◌==◌, if◌then◌else◌, Bool, true, false, List, [], ◌∷◌, ◌++◌, ◌⊎◌, length, drop, slice_index, Result, Ok, Err, None, suc}
+use Rattle.std.specs.Prelude.{◌≡◌, ◌≢◌, ℕ, ◌+◌, ◌<◌, ◌≤◌, ◌==◌, if◌then◌else◌, true, false, List, [], ◌∷◌, ◌++◌, ◌⊎◌, length, slice_index, Result, Ok, Err, None, suc}
 use Rattle.sj_parse.specs.declared.descent_fault.DescentKind.{DescentKind}
 use Rattle.sj_parse.specs.declared.descent_fault.DescentKind.TheVariants.{InternalError, Syntax, ExpectedArrayContent, ExpectedObjectContent, ExpectedObjectKey, ExpectedObjectColon, ExpectedArrayComma, ExpectedMapComma, TrailingData}
 use Rattle.sj_tape.specs.Listing.{Entry, listing}
@@ -34,17 +34,6 @@ unexpected_kind Colon = ExpectedObjectColon
 unexpected_kind MemberEnd = ExpectedMapComma
 unexpected_kind End = TrailingData
 
--- Nothing more may come.
-abbrev pub is_end : State → Bool
-is_end Value = false
-is_end FirstItem = false
-is_end ItemEnd = false
-is_end FirstMember = false
-is_end Key = false
-is_end Colon = false
-is_end MemberEnd = false
-is_end End = true
-
 -- what the first byte of a token is there
 abbrev pub role_of : State → ℕ → Role
 role_of Value b = role.Value
@@ -68,12 +57,12 @@ IsPlain b = (b ≢ 0x22) × (b ≢ 0x5c)
 abbrev pub token_of : ℕ → List ℕ → List ℕ → Token
 token_of place before bs = record { place = place; byte = slice_index bs 0; text = token_text before bs }
 
--- A part of the code answers so, at a place where the document reads as `now` says, on a token at that place: behind
--- the token it reads as it does before it.
-abbrev pub Steps : {X : Type 0} → (X → State) → ℕ → ℕ → (ℕ → List Token → Reading Tree) → Result X Stop → List Entry → List Frame → Type 0
-Steps state limit place now (Ok x) es st =
-    (d : Config) × IsAt d (state x) es st × ((last : ℕ) (ts : List Token) → now last ts ≡ reading limit d place ts)
-Steps state limit place now (Err s) es st = (last : ℕ) (ts : List Token) → now last ts ≡ Err s
+-- The answer to a token at `place`, before which the document reads as `now` says: behind the token it reads as it does from a config
+-- of that state, or the stop is its first fault.
+abbrev pub Steps : ℕ → ℕ → (ℕ → List Token → Reading Tree) → Result State Stop → List Entry → List Frame → Type 0
+Steps limit place now (Ok state) es st =
+    (d : Config) × IsAt d state es st × ((last : ℕ) (ts : List Token) → now last ts ≡ reading limit d place ts)
+Steps limit place now (Err s) es st = (last : ℕ) (ts : List Token) → now last ts ≡ Err s
 
 -- how the document reads at a value that begins with that token, and at a config
 abbrev pub value_from : ℕ → DescentKind → List Waiting → Token → ℕ → List Token → Reading Tree
@@ -111,10 +100,6 @@ pub record IsScalarNode (t : Token) (n : Node) : Type 0 where
 -- how far a token reaches into the bytes, at the least
 abbrev pub reach : Token → ℕ
 reach t = if t.byte == 0x22 then suc (length t.text) else (if is_number t.text then length t.text else 0)
-
--- What is left of the input behind a token that begins at `skip`. It may still hold the token.
-abbrev pub IsBehind : ℕ → Token → List ℕ → List ℕ → Type 0
-IsBehind skip t old new = (k : ℕ) × (new ≡ drop k old) × (k ≤ skip + reach t)
 
 -- The stop is at the token's first byte, or at a backslash behind it, within these bytes.
 abbrev pub StopsAt : ℕ → ℕ → List ℕ → Stop → Type 0

@@ -5,7 +5,11 @@ use Rattle.sj_parse.specs.Escapes.{bad_escape}
 use Rattle.sj_parse.specs.inside.Step.{string_body}
 use Rattle.std.proofs.lemmas.Result.{err_from_is_err_and}
 use Rattle.sj_parse.proofs.Bodies.{string_stop-at}
-use Rattle.sj_parse.proofs.scalars.take_string.Goals as goal
+use Rattle.sj_parse.proofs.scalars.split_string.Goals as goal
+
+pub decode-requires-clause-none : goal.decode-requires-clause-none
+decode-requires-clause-none c = λ k lt is.
+    let plain = c.find_body-len.ensures.plain k lt in grind (arith, common_steps)
 
 pub returns-in_err-text-clause-stops : goal.returns-in_err-text-clause-stops
 returns-in_err-text-clause-stops c =
