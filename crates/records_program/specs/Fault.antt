@@ -48,7 +48,7 @@ abbrev pub of_load : LoadFault → Fault
 of_load NoRoom = Memory
 of_load NoFile = Unreadable
 
--- the fault of a run; an input without an end is one that failed
+-- The fault of a run. An input without an end is one that failed.
 abbrev pub of_run : RunError → Fault
 of_run RunMemory = Memory
 of_run RunWrite = Write

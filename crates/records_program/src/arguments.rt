@@ -241,7 +241,7 @@ fn refusal(alloc: Global, message: &str) -> Result<String, AllocError> {
 ///
 /// # Errors
 ///
-/// `Fault::Memory` if an allocation failed, and `Fault::Arguments` if the words can't be read, as those that aren't UTF-8.
+/// `Fault::Memory` if an allocation failed, and `Fault::Arguments` if the words can't be read, for example because one isn't UTF-8.
 pub fn command_line<R: Env + AllocGlobal>(rt: &R) -> Result<Vec<String>, Fault> {
     let words = match env::args(rt) {
         Ok(words) => words,

@@ -6,21 +6,28 @@ ghost use Rattle.records_program.specs.declared.fault.Fault.TheVariants.{Memory}
 use crate::load::LoadFault;
 use sj_records::RunError;
 use std::alloc::AllocError;
+use thiserror::Error;
 
-/// Why the program fails.
-#[derive(Debug, Drop)]
+/// Why the program fails. It is displayed as its variant's name; [`Fault::line`] has what the program says of it.
+#[derive(Debug, Drop, Error)]
 pub enum Fault {
     /// An allocation failed.
+    #[error("Memory")]
     Memory,
     /// Standard input could not be read to its end.
+    #[error("Read")]
     Read,
     /// Standard output could not be written or flushed.
+    #[error("Write")]
     Write,
     /// The arguments are refused, with this text.
+    #[error("Arguments")]
     Arguments(String),
     /// The file with the script could not be read.
+    #[error("Unreadable")]
     Unreadable,
     /// The script is refused, with this line.
+    #[error("Script")]
     Script(Vec<u8>),
 }
 

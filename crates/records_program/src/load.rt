@@ -60,18 +60,22 @@ pub fn read_file<R: Files + AllocGlobal>(rt: &R, name: &str) -> Result<Vec<u8>, 
     Ok(bytes)
 }
 
-/// Appends all bytes up to the reader's end, by at most `reads` reads. An interrupted read is tried again.
+/// Appends all bytes up to the reader's end, by at most `max_reads` reads. An interrupted read is tried again.
 ///
 /// # Errors
 ///
-/// `Memory` if an allocation failed, and `Unreadable` if a read failed, or none of `reads` reads gave the end. What was appended
+/// `Memory` if an allocation failed, and `Unreadable` if a read failed, or none of `max_reads` reads gave the end. What was appended
 /// until then stays in `bytes`.
-pub fn read_rest<R: Read>(reader: &mut R, bytes: &mut Vec<u8>, reads: u64) -> Result<(), LoadFault>
+pub fn read_rest<R: Read>(
+    reader: &mut R,
+    bytes: &mut Vec<u8>,
+    max_reads: u64,
+) -> Result<(), LoadFault>
     ensures bytes { OnOk result (IfSome (R.remaining reader.old) (λ xs. bytes.new.items ≡ bytes.old.items ++ xs)) }
     ensures end { OnOk result (IsAtEnd (R.remaining reader.new)) }
 {
     let mut piece = [0; PIECE_LEN];
-    for _ in 0..reads {
+    for _ in 0..max_reads {
         match reader.read(&mut piece) {
             Ok(0) => return Ok(()),
             Ok(taken) => bytes.extend_from_slice(&piece[..taken])?,

@@ -1,2 +1,3 @@
+-- Definitions that only contracts of private functions cite.
 pub mod Building
 pub mod Kept

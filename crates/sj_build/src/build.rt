@@ -362,7 +362,7 @@ fn place<'de, V: BuildValue<'de, K> + Drop, K: MakeKey<'de> + Drop>(
 }
 
 /// Builds a value of a view of a tape. Of members with equal keys the first one is kept. Room for the items of an array
-/// and for the members of an object is taken once.
+/// and for the members of an object is taken once. A view without nodes gives a null.
 ///
 /// # Errors
 ///
@@ -388,7 +388,7 @@ pub fn build_value<'de, V: BuildValue<'de, K> + Drop, K: MakeKey<'de> + Drop>(
     V::from_static(alloc, StaticNode::Null)
 }
 
-/// The most nodes whose room is kept until the end.
+// The most nodes whose room is kept until the end.
 const KEPT_NODES: usize = 1 << 16;
 
 // Gives back the room of many nodes once half of it is free.

@@ -41,7 +41,7 @@ pub fn deserialize<'de, V: BuildValue<'de, K> + Drop, K: MakeKey<'de> + Drop>(
 /// # Errors
 ///
 /// Those of [`to_tape_with_buffers`], unchanged, which leave the buffers as they do there. `OutOfMemory` also comes if
-/// there is no memory for the document; the buffers have the positions of the text then.
+/// there is no memory for the document. The buffers then have the positions of the text.
 pub fn deserialize_with_buffers<'de, V: BuildValue<'de, K> + Drop, K: MakeKey<'de> + Drop>(
     alloc: Global,
     s: &'de mut [u8],
@@ -60,7 +60,7 @@ pub fn deserialize_with_buffers<'de, V: BuildValue<'de, K> + Drop, K: MakeKey<'d
     build_document(alloc, tape)
 }
 
-/// Builds the document of a tape.
+// Builds the document of a tape.
 fn build_document<'de, V: BuildValue<'de, K> + Drop, K: MakeKey<'de> + Drop>(
     alloc: Global,
     tape: Tape<'de>,

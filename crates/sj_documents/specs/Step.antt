@@ -27,7 +27,7 @@ pub record Job : Type 0 where
   pub keeping : Keeping  -- how the document is kept meanwhile
   pub repeats : RepeatRule  -- what becomes of repeated keys
 
--- the document, and for each write that was not refused the tree on which it was tested, newest first
+-- the document, and for each write that was neither refused nor taken back the tree on which it was tested, newest first
 pub record State : Type 0 where
   pub tree : Tree
   pub bases : List Tree
@@ -113,7 +113,7 @@ keys_reply t path = answer (keys_at t path)
 abbrev pub Rewrite : Type 0
 Rewrite = Tree → Result (Tree × Tree) Word
 
--- nothing where the value fits, and otherwise the word that it doesn't
+-- x where the value fits, and otherwise the word that it doesn't
 abbrev pub if_fits : {A : Type 0} → Bool → A → Result A Word
 if_fits test x = if test then Ok x else Err (codes "TooDeep")
 

@@ -1,4 +1,4 @@
--- What only clauses of private functions cite.
+-- What only clauses of private functions and invariants cite.
 pub mod Documents
 pub mod KeptChanges
 pub mod LazyDocuments

@@ -156,13 +156,14 @@ pub trait Document {
             (setting (fits (path_view path.now) (owned_tree value.now.value) depth) (owned_tree value.now.value))
             setting_back };
 
-    /// Takes a write back: makes the change of its inverse, and returns `true`. Returns `false` if the change can't be made;
-    /// the document is as it was then or, in the form `Lazy`, without repeated members. The inverse is dropped.
+    /// Takes a write back: makes the change of its inverse, and returns `true`. Returns `false` if the change can't be made.
+    /// The document is then as it was or, in the form `Lazy`, without repeated members. The inverse is dropped.
     ///
     /// # Errors
     ///
     /// `AllocError` if there is no memory for the member, item or part that is put or, in the form `Lazy`, for the document that
-    /// is built. The inverse is dropped.
+    /// is built. The document is unchanged, or the change has been made in full, or, in the form `Lazy`, only the repeated
+    /// members have been dropped. The inverse is dropped.
     fn take_back(&mut self, alloc: Global, inverse: Inverse) -> Result<bool, AllocError>
         ensures { TakesBack result keeping (tree self.old) (tree self.new) (path_view inverse.path.items) (change_view inverse.change) };
 

@@ -14,7 +14,7 @@ use std::alloc::{AllocError, Global};
 /// Whether a write may be taken back later.
 #[derive(Clone, Copy, Debug, PartialEq, Eq)]
 pub enum Undo {
-    /// It may. The write call makes its [`Inverse`]: it copies the path, and the key if there is one, and keeps the value that
+    /// It may. The write call makes its [`Inverse`]: it copies the path, and the key if the change needs it, and keeps the value that
     /// was replaced or taken out.
     Possible,
     /// It won't be. The write call makes no inverse, and so takes less time and memory.
@@ -50,7 +50,7 @@ impl Inverse {
 
 /// A change of a part of a document.
 ///
-/// It can't be made if the part is another kind of value, as its variant tells.
+/// It can't be made if the part is another kind of value than its variant changes, or isn't as the variant says it has to be.
 #[derive(Debug, Drop)]
 pub enum Change {
     /// Changes nothing. Takes back a `remove` or a `pop` that found nothing.

@@ -1,1 +1,2 @@
+-- Lemmas that laws of traits cite.
 pub mod Laws

@@ -1,6 +1,6 @@
 //! Look-ups and writes by known keys.
 //!
-//! The calls with `map_` take an object. The others take any target, of which a document is one.
+//! Calls whose names begin with `map_` take an object. The others take any target, such as a document.
 ghost use Rattle.std.specs.Prelude.{◌≡◌, IsSome, IsOk, IfOk, IfErr, OnOk, OnErr, MatchOption};
 ghost use Rattle.std.specs.Cow.{cow_str_bytes};
 ghost use Rattle.std.specs.Option.{ForNone, option_copied, option_copied_mut};

@@ -199,13 +199,22 @@ within_more (member j u xs) ms k t h =
     let parts = and_parts (is_some (member_at ms j)) (keys_within xs ms) h in
     and_from _ _ (some_or (bytes_eq k j) t (member_at ms j) parts.0) (within_more xs ms k t parts.1)
 
-within_itself : (ms : Members) → keys_within ms ms ≡ true
+pub within_itself : (ms : Members) → keys_within ms ms ≡ true
 within_itself no_members = refl
 within_itself (member k t ms) =
     and_from _ _ (ap (λ b. is_some (cond b (Some t) (member_at ms k))) (own_key k)) (within_more ms ms k t (within_itself ms))
 
-pub own_keys : (ms : Members) → all_found (keys_of ms) ms ≡ true
-own_keys ms = found_within ms ms ∙ within_itself ms
+-- A key of the first is a key of the second, if all are.
+found_also : (o : Option Tree) (k n : List ℕ) (t : Tree) (ms : Members) → is_some (member_at ms n) ≡ true → (is_some o ≡ true → is_some (member_at ms k) ≡ true)
+    → (b : Bool) → bytes_eq n k ≡ b → is_some (cond b (Some t) o) ≡ true → is_some (member_at ms k) ≡ true
+found_also o k n t ms first behind true e h = ap (λ j. is_some (member_at ms j)) (sym (same_key n k e)) ∙ first
+found_also o k n t ms first behind false e h = behind h
+
+pub also_within : (xs ms : Members) (k : List ℕ) → keys_within xs ms ≡ true → is_some (member_at xs k) ≡ true → is_some (member_at ms k) ≡ true
+also_within no_members ms k w h = cc
+also_within (member n t xs) ms k w h =
+    let parts = and_parts (is_some (member_at ms n)) (keys_within xs ms) w in
+    found_also (member_at xs k) k n t ms parts.0 (also_within xs ms k parts.1) (bytes_eq n k) refl h
 
 -- Lists of other lengths aren't alike.
 pub other_lengths : (ts us : Items) → (items_len ts ≡ items_len us → ⊥) → kept_alike (list ts) (list us) ≡ false

@@ -1,3 +1,3 @@
--- Definitions that only contracts of private functions cite.
+-- Definitions that only contracts of private functions and laws of traits cite.
 pub mod Comparing
 pub mod Scalars

@@ -21,7 +21,7 @@ use std::slice;
 pub enum Array<'b, 't, 'i> {
     /// An array of a tape.
     Tape(TapeArray<'t, 'i>),
-    /// The items of a document.
+    /// The items of an array of a document.
     Value(&'b Vec<BorrowedValue<'i>>),
 }
 
@@ -49,6 +49,8 @@ impl<'b, 't, 'i> Array<'b, 't, 'i> {
     }
 
     /// Returns the item at this index, or `None` if the array has no more than `index` items.
+    ///
+    /// In a tape, the items before it are skipped one by one.
     pub fn get(&self, index: usize) -> Option<Value<'b, 't, 'i>>
         ensures tree { option_map lazy_tree result ≡ item_at (array_items self.now) index }
         ensures part { option_map contents result ≡ item_within (array_contents self.now) index }

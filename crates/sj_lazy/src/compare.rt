@@ -2,12 +2,14 @@
 //!
 //! Two documents are compared by `==` of documents. A part of a tape is walked through, and its repeated keys are passed
 //! over. That takes time in proportion to what is compared where the members come in the same order on both sides and no key
-//! is repeated. Otherwise keys are looked up.
-ghost use Rattle.std.specs.Prelude.{◌≡◌, option_map};
+//! is repeated. Otherwise keys are looked up, and a look-up in a tape passes over the members before.
+ghost use Rattle.std.specs.Prelude.{◌≡◌, true, is_some, option_map, IfSome};
 ghost use Rattle.std.specs.Cmp.{on_equiv, partial_equiv_from_equiv};
 ghost use Rattle.std.specs.Ordering.{on};
+ghost use Rattle.sj_base.specs.Alike.{keys_within};
+ghost use Rattle.sj_base.specs.Path.{member_at};
 ghost use Rattle.sj_base.specs.Scalar.{scalar_tree};
-ghost use Rattle.sj_base.specs.Tree.{list, object};
+ghost use Rattle.sj_base.specs.Tree.{Members, list, object};
 ghost use Rattle.sj_owned.specs.Compare.{kept_alike};
 ghost use Rattle.sj_owned.specs.inside.Comparing.{kept_alike-equiv};
 ghost use Rattle.sj_tape.specs.Views.{value_tree, array_items as tape_items, object_members as tape_members};
@@ -78,13 +80,31 @@ fn same_front(members: &TapeObject<'_, '_>, others: &Object<'_, '_, '_>) -> usiz
     members.len()
 }
 
-// Returns `true` if each of these keys has a member. None is looked up that comes in the order of the members.
+// Returns the members behind the next one with this key, or `None` if no member has it.
+fn members_behind<'t, 'i>(members: TapeObject<'t, 'i>, name: &str) -> Option<TapeObject<'t, 'i>>
+    ensures found { is_some result ≡ is_some (member_at (tape_members members.entry) name.now) }
+    ensures within { IfSome result (λ rest. (all : Members) → keys_within (tape_members members.entry) all ≡ true → keys_within (tape_members rest) all ≡ true) }
+{
+    let mut rest = members;
+    while let Some((key, _, behind)) = rest.split_first() {
+        if name == key {
+            return Some(behind);
+        }
+        rest = behind;
+    }
+    None
+}
+
+// Returns `true` if each of these keys has a member. A key is looked for behind the member of the key before, and only then
+// from the first member on.
 fn are_found(keys: Keys<'_, '_, '_>, members: &TapeObject<'_, '_>) -> bool
     ensures { result ≡ all_found (keys_left keys.entry) (tape_members members.now) }
 {
-    let mut in_order = members.keys();
+    let mut in_order = *members;
     for key in keys {
-        if in_order.next() != Some(key) && members.get(key).is_none() {
+        if let Some(rest) = members_behind(in_order, key) {
+            in_order = rest;
+        } else if members.get(key).is_none() {
             return false;
         }
     }

@@ -127,7 +127,8 @@ impl<'i> Value<'_, '_, 'i> {
     ghost use Rattle.sj_lazy.specs.Upgrade.{OwnsSuch, Upgrades, WritesBy, Refuses, owns, upgraded};
     ghost use Rattle.sj_lazy.specs.Views.{document_tree};
 
-    /// Replaces the value of this key and returns the old one. A new key goes last, and the result is `None`.
+    /// Makes the value a document, replaces the value of this key and returns the old one. A new key goes last, and the
+    /// result is `None`.
     ///
     /// # Errors
     ///
@@ -158,7 +159,8 @@ impl<'i> Value<'_, '_, 'i> {
         owned.insert(key, value)
     }
 
-    /// Removes the member of this key and returns its value. The members after it close up.
+    /// Makes the value a document, removes the member of this key and returns its value, or
+    /// returns `None` if there is none. The members after it close up.
     ///
     /// # Errors
     ///
@@ -183,7 +185,7 @@ impl<'i> Value<'_, '_, 'i> {
         document.remove(key)
     }
 
-    /// Appends the value as the last item.
+    /// Makes the value a document, and appends `value` as the last item.
     ///
     /// # Errors
     ///
@@ -206,7 +208,7 @@ impl<'i> Value<'_, '_, 'i> {
         document.push(value)
     }
 
-    /// Removes the last item and returns it, or `None` if there is none.
+    /// Makes the value a document, removes its last item and returns it, or returns `None` if there is none.
     ///
     /// # Errors
     ///

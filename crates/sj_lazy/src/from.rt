@@ -18,8 +18,7 @@ use std::alloc::{AllocError, Global};
 use std::borrow::CowStr;
 use std::collections::HashMap;
 
-/// The value owns what borrowed documents are made of by `From`: the document itself, a scalar, a string, an array or an
-/// object.
+/// Creates a value that owns a document: the given one, or one made by `From` of a scalar, a string, an array or an object.
 impl<'i, T: Into<BorrowedValue<'i>>> From<T> for Value<'_, '_, 'i> {
     ghost use Rattle.sj_lazy.specs.Upgrade.{OwnsSuch};
 

@@ -15,11 +15,11 @@ impl<'t, 'i> Value<'_, 't, 'i> {
     ghost use Rattle.sj_lazy.specs.Upgrade.{Upgrades, IsOwnedOf, owns, borrows};
     ghost use Rattle.sj_lazy.specs.Views.{lazy_tree};
 
-    /// Turns the value into a document. One is built of a tape, and what is only borrowed is copied.
+    /// Turns the value into a document. A tape is built into one, a borrowed document is copied, and an owned one is moved.
     ///
     /// # Errors
     ///
-    /// The value comes back if there is no memory for the document.
+    /// The value comes back if there is no memory for the document. A value that owns its document needs no memory.
     pub fn into_value(self, alloc: Global) -> Result<BorrowedValue<'i>, Self>
         ensures ok { IfOk result (Upgrades self.entry) }
         ensures err { IfErr result (λ v. v ≡ self.entry) }
@@ -38,7 +38,7 @@ impl<'t, 'i> Value<'_, 't, 'i> {
     ///
     /// # Errors
     ///
-    /// The value comes back if there is no memory for the copy.
+    /// The value comes back if there is no memory for the copy. Only a borrowed document is copied.
     pub fn into_owned<'n>(self, alloc: Global) -> Result<Value<'n, 't, 'i>, Self>
         ensures ok { IfOk result (IsOwnedOf self.entry) }
         ensures err { IfErr result (λ v. v ≡ self.entry) }
@@ -57,7 +57,7 @@ impl<'t, 'i> Value<'_, 't, 'i> {
     ///
     /// # Errors
     ///
-    /// `AllocError` if there is no memory for the copy.
+    /// `AllocError` if there is no memory for the copy. Only a borrowed string is copied.
     pub fn into_string(self) -> Result<Option<CowStr<'i>>, AllocError>
         ensures ok { IfOk result (λ s. option_map cow_str_bytes s ≡ str_read (scalar_in (lazy_tree self.entry))) }
         ensures succeeds { borrows self.entry ≡ false → IsOk result }

@@ -21,12 +21,12 @@ use std::iter::{ExactSizeIterator, FusedIterator};
 
 /// The members of an object of a lazy value. Port of `simd_json::value::lazy::Object`.
 ///
-/// Those of a tape are all members, repeated keys too.
+/// Of a tape these are all members, also those that repeat a key.
 #[derive(Clone, Copy, Debug)]
 pub enum Object<'b, 't, 'i> {
     /// An object of a tape.
     Tape(TapeObject<'t, 'i>),
-    /// The members of a document.
+    /// The members of an object of a document.
     Value(&'b Members<'i>),
 }
 
@@ -54,6 +54,8 @@ impl<'b, 't, 'i: 'b> Object<'b, 't, 'i> {
     }
 
     /// Returns the value of the first member with this key, or `None` if there is none.
+    ///
+    /// In a tape, the members before it are skipped one by one.
     pub fn get(&self, name: &str) -> Option<Value<'b, 't, 'i>>
         ensures tree { option_map lazy_tree result ≡ member_at (object_members self.now) name.now }
         ensures part { option_map contents result ≡ member_within (object_contents self.now) name.now }

@@ -17,7 +17,7 @@ use sj_owned::{Comparand, SameAs};
 use sj_reads::ValueAsScalar;
 use std::collections::HashMap;
 
-/// A lazy value equals another value exactly if a document of the same tree would. A tape's repeated members count, so an
+/// A lazy value is compared with a value of another type by its tree. Unlike in `==`, a tape's repeated members count, so an
 /// object that repeats a key never equals a map.
 ///
 /// The recursion is as deep as the other value nests.
@@ -121,6 +121,7 @@ impl<U: LazyComparand> LazyComparand for Vec<U> {
 }
 
 /// A map equals an object of as many members, in which each key of the map finds a value that equals the map's.
+/// In an object of a tape each key is looked up from the first member on.
 impl<U: LazyComparand> LazyComparand for HashMap<String, U> {
     fn equals_lazy(&self, value: &Value<'_, '_, '_>) -> bool {
         match value.as_object() {

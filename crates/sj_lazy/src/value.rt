@@ -23,7 +23,7 @@ pub type Value<'b, 't, 'i> = TapeOrDocument<
 
 /// A part of a tape, or a document. [`Value`] is this type with the types of tapes and documents in it.
 ///
-/// It is generic for the sake of [`TapeOrDocument::value_mut`], which says what a write leaves.
+/// It is generic so that the contract of [`TapeOrDocument::value_mut`] can say what a write through its reference leaves.
 #[derive(Debug, Drop)]
 pub enum TapeOrDocument<T, B, D> {
     /// A value of a tape.
@@ -37,7 +37,7 @@ impl<'b, 't, 'i> Value<'b, 't, 'i> {
     ghost use Rattle.sj_lazy.specs.Views.{lazy_tree, lazy_kind, document_tree};
     ghost use Rattle.sj_lazy.specs.Upgrade.{OwnsSuch, owns};
 
-    /// Creates a lazy value of a value of a tape. Builds nothing.
+    /// Creates a lazy value that views a value of a tape. Builds nothing.
     pub fn from_tape(tape: TapeValue<'t, 'i>) -> Self
         ensures { result ≡ TapeOrDocument.Tape tape.entry }
     {

@@ -117,6 +117,7 @@ impl<K: ObjectKey, V> Pairs<K, V> {
         requires hash { IfSome hash (λ known. known ≡ text_hash (K.text entry.key)) }
         ensures pairs { (stored self.new).items ≡ (stored self.old).items ++ entry ∷ [] }
         ensures found { IsFound K.text self.new }
+        ensures few { IsListed self.old → IsListed self.new }
     {
         match self {
             Pairs::Listed(entries) => entries.push_reserved(entry),
@@ -134,6 +135,7 @@ impl<K: ObjectKey, V> Pairs<K, V> {
         requires room { HasRoom self.old }
         ensures pairs { (stored self.new).items ≡ insert (stored self.old).items place entry }
         ensures found { IsFound K.text self.new }
+        ensures few { IsListed self.old → IsListed self.new }
     {
         match self {
             Pairs::Listed(entries) => insert_reserved(entries, place, entry),
@@ -148,6 +150,7 @@ impl<K: ObjectKey, V> Pairs<K, V> {
         ensures entry { result ≡ get_or (stored self.old).items place result }
         ensures pairs { (stored self.new).items ≡ remove (stored self.old).items place }
         ensures found { IsFound K.text self.new }
+        ensures few { IsListed self.old → IsListed self.new }
     {
         match self {
             Pairs::Listed(entries) => entries.remove(place),

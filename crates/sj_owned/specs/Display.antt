@@ -10,7 +10,7 @@ abbrev pub shown : Tree → List ℕ
 shown (string s) = s
 shown t = text t
 
--- The formatter stays the same. If it formats as `{}` does, it has written these bytes and no others; of any other nothing is said.
+-- The formatter stays the same. If it formats as `{}` does, it has written these bytes and no others. Of any other formatter nothing is said.
 abbrev pub Shows : {W : Type 0} → (W → List ℕ → W → Type 0) → FormatterOutput W → FormatterOutput W → List ℕ → Type 0
 Shows took s t bytes =
     (t.formatter.ghost_name ≡ s.formatter.ghost_name) × (IsPlainFormatter s.formatter.now → HasWritten took s.formatter.now bytes t.formatter.now)

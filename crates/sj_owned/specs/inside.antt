@@ -1,3 +1,4 @@
+-- Definitions that only contracts of private functions and laws of traits cite.
 pub mod Lending
 pub mod Refusals
 pub mod Copying

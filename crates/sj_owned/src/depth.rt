@@ -92,7 +92,7 @@ fn count_member_levels<K: ObjectKey, D: Literal>(
     ensures kept { OnOk result (KeepMembers K.text D.literal members.now) }
     ensures valid { OnOk result (AreValidMembers (members_view K.text D.literal members.now)) }
 {
-    // The contract of `len` says that no key stands twice; that of `is_empty` doesn't.
+    // The contract of `len` says that no key stands twice. That of `is_empty` doesn't.
     if members.len() == 0 {
         return Ok(0);
     }

@@ -48,7 +48,7 @@ impl<K: ObjectKey, D: Literal> Value<K, D> {
         }
     }
 
-    /// Removes the member of this key and returns its value. The members after it close up.
+    /// Removes the member of this key and returns its value, or `None` if there is none. The members after it close up.
     ///
     /// # Errors
     ///

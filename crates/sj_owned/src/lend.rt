@@ -41,8 +41,8 @@ impl<K: ObjectKey, D: Literal> Value<K, D> {
     }
 }
 
-/// Members whose values are lent for writing, as those of an [`Object`] are. A bound of [`LendsParts`]: call
-/// [`Object::get_mut`].
+/// Members whose values are lent for writing, as those of an [`Object`] are. This is a bound of [`LendsParts`].
+/// Callers use [`Object::get_mut`].
 pub trait LendsMembers {
     /// The type of the members' values.
     type Part;

@@ -2,7 +2,7 @@
 use Rattle.std.proofs.Common.{◌≡◌, ◌≢◌, ◌⊎◌, ℕ, ◌+◌, ◌-◌, ◌<◌, ◌≤◌, Bool, true, false, List, [], ◌∷◌, ◌++◌, length, drop, take, map, min, Some, None, Err, refl, sym, ap, ◌∙◌, arith, subst}
 use Rattle.std.specs.Borrow.{MutBor}
 use Rattle.std.proofs.lemmas.List.{append-nil}
-use Rattle.std.proofs.lemmas.Bool.{ltb-true, ltb-false}
+use Rattle.std.proofs.lemmas.Bool.{not-true, not-false, ltb-true, ltb-false}
 use Rattle.std.specs.Prelude.{◌==◌, nat_lt, not, if◌then◌else◌, slice_get, slice_index, Vec, vec_len, vec_capacity, IsUtf8}
 use Rattle.std.specs.List.{range_with_len}
 use Rattle.std.specs.declared.alloc.Global.{Global}
@@ -36,14 +36,6 @@ use Rattle.sj_parse.specs.inside.Underway.{Between, Underway, Stopped}
 use Rattle.sj_parse.proofs.Between.{between-start, from_le, skip_lt, few, body_utf8, next_reach, next_inside, rest_ends, between-next, step_fault, left_fault, cut_fault, whole_tree, whole_carriers, some_tokens}
 use Rattle.sj_parse.proofs.Counts.{item-some, counted-next}
 use Rattle.sj_parse.proofs.TextTapes.{fault-descent, tape-of_tree_value}
-
-pub not_true : (b : Bool) → not b ≡ true → b ≡ false
-not_true false is = refl
-not_true true is = absurd cc
-
-pub not_false : (b : Bool) → not b ≡ false → b ≡ true
-not_false true is = refl
-not_false false is = absurd cc
 
 module _ {input : List ℕ} {limit : ℕ} {read : List ℕ} {places : Reads ℕ} {state : State} {cursor : Cursor} {nodes : Vec Node Global} {stack : Vec Frame Global} (u : Underway input limit read places state cursor nodes stack) (other : state ≢ End) where
   abbrev items : List ℕ
@@ -164,14 +156,14 @@ module _ {input : List ℕ} {limit : ℕ} {read : List ℕ} {places : Reads ℕ}
       pub cut : true ≡ not (nat_lt (cursor.count + 1) (length items)) → after ≢ End → Stopped input limit read places_new nodes_new stack_new (record { kind = Syntax; index = cursor.place; byte = first_byte cursor.place tail })
       cut last no_end =
           let s = steps bef in
-          stopped _ (fault-descent input limit u.short u.scanned ∙ cut_fault u.between within u.places_are place_is after _ _ s.0 s.1 s.2 (ltb-false _ _ (not_true _ (sym last))) no_end)
+          stopped _ (fault-descent input limit u.short u.scanned ∙ cut_fault u.between within u.places_are place_is after _ _ s.0 s.1 s.2 (ltb-false _ _ (not-true _ (sym last))) no_end)
 
       -- The root has its value, and a token is left.
       pub left : false ≡ not (nat_lt (cursor.count + 1) (length items)) → after ≡ End → (kind : DescentKind) → ((t : Tree) → entries nodes_new.items ≡ listing t → kind ≡ left_kind_of t)
           → Stopped input limit read places_new nodes_new stack_new (record { kind = kind; index = cursor.place; byte = first_byte cursor.place tail })
       left more is_end kind is =
           let s = steps bef in
-          stopped _ (fault-descent input limit u.short u.scanned ∙ left_fault u.between within u.places_are place_is after _ _ s.0 s.1 s.2 (ltb-true _ _ (not_false _ (sym more))) is_end kind is)
+          stopped _ (fault-descent input limit u.short u.scanned ∙ left_fault u.between within u.places_are place_is after _ _ s.0 s.1 s.2 (ltb-true _ _ (not-false _ (sym more))) is_end kind is)
 
       -- the token was read
       pub goes_on : (tail_new : Tail) (n : ℕ) → n ≡ behind

@@ -1,5 +1,6 @@
 -- Laws of the definitions: each line has one record, any bytes are read as a script in one way, the depth limit holds along a
--- script, no key is repeated along it where that is refused, a second script continues the first, and a reload changes nothing.
+-- script, no key is repeated along it where that is refused, a second script continues the first, a reload changes nothing,
+-- the forms agree, no record holds a line feed, repeats that were dropped stay away, and writes and histories are taken back.
 use Rattle.std.specs.Prelude.{◌≡◌, ◌≢◌, ℕ, ◌≤◌, Bool, true, false, ◌||◌, List, [], ◌∷◌, ◌++◌, length, take, Option, Some, None, Ok, ⊤}
 use Rattle.std.specs.declared.alloc.AllocError.{AllocError}
 use Rattle.std.specs.List.{AllByRecursion}

@@ -9,10 +9,10 @@ ghost use Rattle.sj_records.specs.Texts.{HasReadLines, HasReadStream};
 ghost use Rattle.sj_records.specs.inside.Progress.{HasNoLineFeed, LeavesLines, LeavesBytes, task_job};
 
 use crate::form::Form;
-use crate::job::{Task, undo_of};
+use crate::record::{Scratch, make_record};
 use crate::repeats::Repeats;
 use crate::run_error::RunError;
-use crate::task::{Scratch, make_record};
+use crate::task::{Task, undo_of};
 use sj_base::{Output, Sink, Source, WriteFault};
 use sj_parse::Buffers;
 use sj_scripts::Script;
@@ -233,7 +233,7 @@ fn run_task<R: Source, W: Sink>(
 ///
 /// The record of a JSON document that nests at most `depth` levels has the replies to the script's commands and the document
 /// after them. With `Repeats::Refuse` the script doesn't run on a document that repeats a key, and the record names the
-/// first such key. The record of any other line says why it is not a document. An interrupted read is tried again; an
+/// first such key. The record of any other line says why it is not a document. An interrupted read is tried again. An
 /// interrupted write is not. Nothing is flushed. The recursion is as deep as a line's document nests.
 ///
 /// # Errors

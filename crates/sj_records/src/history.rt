@@ -20,7 +20,7 @@ use std::alloc::AllocError;
 /// inverse off and makes its change, and replies `false` if there is none, or if the change can't be made. So after a write with
 /// `Undo::Impossible` it would take back an older one. `depth` is the most levels that the document may nest after a write.
 ///
-/// The law `histories_stand` says what `undo` brings back, for commands whose values repeat no key.
+/// The law [`histories_stand`](crate::laws::histories_stand) says what `undo` brings back, for commands whose values repeat no key.
 ///
 /// # Errors
 ///

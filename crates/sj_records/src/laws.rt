@@ -1,4 +1,4 @@
-//! Laws of the definitions: each function does nothing but call other laws, and its contract is the law.
+//! Laws of the definitions. The contract of each function is the law. A body is empty, or calls laws that the proof needs.
 ghost use Rattle.sj_records.specs.Laws.{OneRecord, OneReading, DepthStays, NoneIsRepeated, BasesAreKept, TreesAreKept, FormsAgree, RefusingFormsAgree, NoLineFeed, ChangesNothing, ScriptsContinue};
 ghost use Rattle.sj_records.specs.Laws.{InsertUndone, RemoveUndone, PushUndone, PopUndone, SetUndone, HistoriesStand};
 ghost use Rattle.sj_scripts.specs.Command.{reload, reload_pp};

@@ -8,8 +8,8 @@
 mod engine;
 mod form;
 mod history;
-mod job;
 pub mod laws;
+mod record;
 mod refused_line;
 mod repeats;
 mod run_error;

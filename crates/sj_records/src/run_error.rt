@@ -8,8 +8,7 @@ use thiserror::Error;
 /// The error of `run`, `run_with` and `run_within`. Only whole records are written before it, except before `Write`.
 #[derive(Clone, Copy, Debug, PartialEq, Eq, Error)]
 pub enum RunError {
-    /// An allocation for a line, a document or a record failed. The records of the first k lines that a line feed ended are
-    /// written, for some k.
+    /// An allocation failed. The records of the first k lines that a line feed ended are written, for some k.
     #[error("Memory")]
     Memory,
     /// A write failed, was interrupted or took no byte. A prefix of the output is written.

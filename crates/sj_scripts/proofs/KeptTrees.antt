@@ -1,4 +1,4 @@
--- The test for kept trees decides that.
+-- The test `is_kept` holds of exactly the kept trees.
 use Rattle.std.proofs.Common.{◌≡◌, true, Option, Some, None, is_some, refl, ap, ap₂}
 use Rattle.std.specs.Prelude.{◌&&◌, not}
 use Rattle.std.proofs.lemmas.Bool.{and_parts, and_from}

@@ -29,7 +29,7 @@ pub data Refusal : Type 0 where
   not_an_array : Refusal  -- the document is no array
   command : ℕ → CommandFault → Refusal  -- the command at this index, from 0
 
--- the second of the first, or the first fault
+-- what the second makes of the value of the first, or the fault of the first
 infixl 10 ◌>>=◌
 abbrev pub ◌>>=◌ : {F A B : Type 0} → Result A F → (A → Result B F) → Result B F
 (Ok x) >>= f = f x

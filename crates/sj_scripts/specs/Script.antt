@@ -1,4 +1,4 @@
--- What the values of the program stand for: the commands of a script, and a script's fault.
+-- What the values of this crate stand for: the commands of a script, and a script's fault.
 use Rattle.std.specs.Prelude.{ℕ, List, map, ◌++◌, codes, decimal, Result, Ok, Err, ⊤}
 use Rattle.std.specs.String.{string_bytes}
 use Rattle.sj_base.specs.Path.{Part, key, place}

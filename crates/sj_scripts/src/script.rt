@@ -44,7 +44,7 @@ pub enum Command {
     /// is none.
     Undo,
     /// Prints the document as compact text, and reads that text in its place. The document stays the same. Replies with
-    /// `true`, or with `false` if the text has more than `u32::MAX` bytes; such a text is not read.
+    /// `true`, or with `false` if the text has more than `u32::MAX` bytes. Such a text is not read.
     Reload,
     /// As `Reload`, with the indented text.
     ReloadPp,
@@ -73,7 +73,7 @@ pub enum CommandFault {
     BadKey,
 }
 
-/// Why a script is refused: its first fault.
+/// Why a script is refused: its first fault. It is displayed as its variant's name. [`ScriptFault::put_fault`] has the whole text.
 #[derive(Clone, Copy, Debug, PartialEq, Eq, thiserror::Error)]
 pub enum ScriptFault {
     /// The bytes are not a JSON document of at most 1024 levels and `u32::MAX` bytes.
@@ -82,7 +82,7 @@ pub enum ScriptFault {
     /// The document is not an array.
     #[error("NotAnArray")]
     NotAnArray,
-    /// The command at index `place`, from 0, is refused.
+    /// The command at index `place`, from 0, is refused, for the reason `fault`.
     #[error("Command")]
     Command { place: usize, fault: CommandFault },
     /// An allocation failed.

@@ -53,7 +53,8 @@ impl<'t, 'v> BorrowSliceDeserializer<'t, 'v> {
     }
 
     /// Builds the value whose first node comes next, and goes past its nodes. Of members with equal keys the first one is
-    /// kept. If a key comes next, it is read as a string. A node has to be left, which [`BorrowSliceDeserializer::is_at_end`] tells.
+    /// kept. If a key comes next, it is read as a string. A node has to be left, which
+    /// [`BorrowSliceDeserializer::is_at_end`] tells.
     ///
     /// # Errors
     ///

@@ -4,9 +4,9 @@ mod cookbook;
 mod system;
 
 use super::readers::Pieces;
-use super::{expect_eq, expect_that};
+use super::{expect_display, expect_eq, expect_that};
 use records_program::program::program;
-use records_program::{LoadFault, read_rest};
+use records_program::{Fault, LoadFault, read_rest};
 use sj_base::Counted;
 use std::alloc::Global;
 use std::io;
@@ -382,8 +382,17 @@ fn display_texts(rt: HostRuntime) {
         (LoadFault::Memory, "Memory"),
         (LoadFault::Unreadable, "Unreadable"),
     ] {
-        let shown = format!(in rt.alloc(); "{fault}").expect(&rt, "memory");
-        expect_eq(&rt, shown.as_str(), *text);
+        expect_display(&rt, rt.alloc(), fault, text);
+    }
+    for (fault, text) in &[
+        (Fault::Memory, "Memory"),
+        (Fault::Read, "Read"),
+        (Fault::Write, "Write"),
+        (Fault::Arguments(String::new(rt.alloc())), "Arguments"),
+        (Fault::Unreadable, "Unreadable"),
+        (Fault::Script(Vec::new(rt.alloc())), "Script"),
+    ] {
+        expect_display(&rt, rt.alloc(), fault, text);
     }
 }
 

@@ -75,7 +75,7 @@ fn undone_repeats(rt: HostRuntime) {
     ] {
         let script = r#"[["undo"],["len",[]],["remove",[],"a"],["undo"]]"#;
         let line = r#"{"a":1,"a":2}"#;
-        Row::new(script, line, record).check(&rt, rt.alloc(), &[*form]);
+        Row::new(script, line, record).check_with_reloads(&rt, rt.alloc(), &[*form]);
     }
 }
 

@@ -1,4 +1,4 @@
--- The edits of documents, what is appended of them, and how the elements of an array are kept apart in its text.
+-- The edits of documents, what is appended of them, and the text of items that are left.
 use Rattle.std.specs.Prelude.{◌≡◌, ℕ, Bool, true, false, List, [], ◌∷◌, ◌++◌, map, Option, Some, None, option_map, ok_or, is_some, Result, Ok, Err, codes}
 use Rattle.std.specs.Borrow.{Bor}
 use Rattle.std.specs.Io.{StartsWith}

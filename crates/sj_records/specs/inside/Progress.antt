@@ -5,7 +5,7 @@ use Rattle.std.specs.Io.KnownBytes.{Appends}
 use Rattle.sj_base.specs.Output.{AppendsPrefix}
 use Rattle.sj_records.specs.declared.run_error.RunError.{RunError}
 use Rattle.sj_records.specs.declared.run_error.RunError.TheVariants.{Memory, Write}
-use Rattle.sj_records.specs.declared.job.Task.{Task}
+use Rattle.sj_records.specs.declared.task.Task.{Task}
 use Rattle.sj_documents.specs.Step.{Job}
 use Rattle.sj_records.specs.Record.{AreRecords}
 use Rattle.sj_records.specs.Job.{job_of}

@@ -4,7 +4,6 @@ use Rattle.std.specs.Str.{all_ascii_digits}
 use Rattle.std.specs.Str.Parse.{digits_value, digits_value_after}
 use Rattle.sj_parse.proofs.DigitValues.{few_digits, next_eight}
 use Rattle.sj_parse.proofs.digits.value_of.Goals as goal
-use Rattle.sj_parse.proofs.digits.value_of.Goals.{In-Some}
 
 pub value_of_word-requires : goal.value_of_word-requires
 value_of_word-requires c =

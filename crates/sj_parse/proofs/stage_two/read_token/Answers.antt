@@ -1,9 +1,10 @@
 use denote.Enum.Bare.{same_true}
 use Rattle.std.proofs.Common.{◌≢◌, rules, sym, ap, ◌∙◌}
+use Rattle.std.proofs.lemmas.Bool.{not-true, not-false}
 use Rattle.sj_tape.specs.Nodes.{entries}
 use Rattle.sj_parse.specs.contracts.stage_two.State.{the_type}
 use Rattle.sj_parse.specs.declared.stage_two.State.TheVariants.{End}
-use Rattle.sj_parse.proofs.Underway.{inside, holds, reaches, is_text, node_fits, frame_fits, stops, cut, left, goes_on, not_true, not_false}
+use Rattle.sj_parse.proofs.Underway.{inside, holds, reaches, is_text, node_fits, frame_fits, stops, cut, left, goes_on}
 use Rattle.sj_parse.proofs.stage_two.read_token.Goals as goal
 
 pub bounds-cursor-place : goal.bounds-cursor-place
@@ -38,7 +39,7 @@ returns-then-eq-clause-reads c = λ input read u.
     goes_on u c.requires.goes_on c.place_at-next.new.places c.step.new.nodes c.step.new.stack c.place_at-next.ensures.items c.place_at-next.ensures.places c.in-Ok.ensures.grows.0 c.in-Ok.ensures.grows.1 c.in-Ok.ensures.levels
     (λ before. c.in-Ok.ensures.steps (u.between).config before (u.between).at)
     c.step.new.tail c.place_at-next.result.0 c.place_at-next.ensures.place c.in-Ok.ensures.carriers c.in-Ok.ensures.tail c.in-Ok.ensures.capacity.0 c.in-Ok.ensures.capacity.1
-    (λ e. not_true _ (sym (sym c.if-is_last.true ∙ c.place_at-next.ensures.is_last)))
+    (λ e. not-true _ (sym (sym c.if-is_last.true ∙ c.place_at-next.ensures.is_last)))
     (λ n. absurd (n is_end))
 
 pub returns-then-is_last-clause-reads : goal.returns-then-is_last-clause-reads
@@ -61,4 +62,4 @@ returns-else-eq-2-clause-reads c = λ input read u.
     (λ before. c.in-Ok.ensures.steps (u.between).config before (u.between).at)
     c.step.new.tail c.place_at-next.result.0 c.place_at-next.ensures.place c.in-Ok.ensures.carriers c.in-Ok.ensures.tail c.in-Ok.ensures.capacity.0 c.in-Ok.ensures.capacity.1
     (λ e. absurd (more e))
-    (λ n. not_false _ (sym (sym c.if-is_last.false ∙ c.place_at-next.ensures.is_last)))
+    (λ n. not-false _ (sym (sym c.if-is_last.false ∙ c.place_at-next.ensures.is_last)))

@@ -4,7 +4,7 @@ use Rattle.sj_tape.specs.Views.{tape_nodes, nodes_tree}
 use Rattle.sj_records.specs.Job.{keeping_of}
 use Rattle.sj_documents.specs.Step.{start}
 use Rattle.sj_records.proofs.RecordText.{stands_begun}
-use Rattle.sj_records.proofs.task.run_on_tape.Goals as goal
+use Rattle.sj_records.proofs.record.run_on_tape.Goals as goal
 
 pub run_commands-requires-clause-keeping : goal.run_commands-requires-clause-keeping
 run_commands-requires-clause-keeping c = sym (ap keeping_of c.in-Owned.is)

@@ -10,7 +10,7 @@ use Rattle.sj_records.specs.Texts.{HasRead}
 use Rattle.sj_records.specs.inside.Progress.{task_job}
 use Rattle.sj_records.proofs.Readable.{printed_spells, printed_faultless, printed_document}
 use Rattle.sj_parse.specs.Answers.{buffer_limit}
-use Rattle.sj_records.proofs.task.run_on_text.Goals as goal
+use Rattle.sj_records.proofs.record.run_on_text.Goals as goal
 
 pub unreachable-requires : goal.unreachable-requires
 unreachable-requires c =

@@ -1,7 +1,7 @@
 use Rattle.sj_scripts.specs.Script.{command_view}
 use Rattle.sj_records.proofs.Histories.{histories_stand, writes_kept}
 use Rattle.sj_records.proofs.Texts.{none_reread}
-use Rattle.sj_records.proofs.task.run_command.Goals as goal
+use Rattle.sj_records.proofs.record.run_command.Goals as goal
 
 pub returns-in_ok-apply-in_default : goal.returns-in_ok-apply-in_default
 returns-in_ok-apply-in_default g c = record {

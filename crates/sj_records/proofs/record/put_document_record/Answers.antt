@@ -2,7 +2,7 @@ use Rattle.std.proofs.Common.{◌≡◌, ℕ, List, [], ◌∷◌, ◌++◌, tru
 use Rattle.std.specs.List.{list_all}
 use Rattle.std.specs.Option.{option_copied}
 use Rattle.sj_documents.specs.declared.inverse.Undo.{Undo}
-use Rattle.sj_records.specs.declared.job.Task.{Task}
+use Rattle.sj_records.specs.declared.task.Task.{Task}
 use Rattle.sj_tape.specs.Views.{tape_nodes, nodes_tree}
 use Rattle.sj_scripts.specs.Command.{Step}
 use Rattle.sj_scripts.specs.Script.{commands_view}
@@ -15,7 +15,7 @@ use Rattle.sj_records.proofs.Histories.{begun_stands, allowed_behind, needed_all
 use Rattle.sj_records.proofs.Readable.{reached_again}
 use Rattle.sj_records.proofs.RecordText.{record_begun, Runs-on, left_len, fewer_left}
 use Rattle.sj_records.proofs.Texts.{HasRead-nothing, HasRead-then}
-use Rattle.sj_records.proofs.task.put_document_record.Goals as goal
+use Rattle.sj_records.proofs.record.put_document_record.Goals as goal
 
 pub loop-left-init : goal.loop-left-init
 loop-left-init c =

@@ -9,7 +9,7 @@ use Rattle.sj_records.specs.inside.Progress.{task_job}
 use Rattle.sj_records.specs.inside.Reloads.{IsPrinted}
 use Rattle.sj_records.proofs.Histories.{allowed_at}
 use Rattle.sj_records.proofs.RecordText.{step-on, stands_again, Running-begin, Running-more, Running-stop, Running-end}
-use Rattle.sj_records.proofs.task.run_commands.Goals as goal
+use Rattle.sj_records.proofs.record.run_commands.Goals as goal
 
 pub loop-command-init : goal.loop-command-init
 loop-command-init g c = λ s at.

@@ -4,7 +4,7 @@ use Rattle.sj_scripts.specs.Script.{commands_view}
 use Rattle.sj_records.specs.History.{StandFor}
 use Rattle.sj_records.specs.inside.Progress.{task_job}
 use Rattle.sj_records.proofs.RecordText.{Running}
-use Rattle.sj_records.proofs.task.run_commands.Given as goal
+use Rattle.sj_records.proofs.record.run_commands.Given as goal
 
 -- from any state for which the document and the history stood
 abbrev pub invariant-loop-command : goal.invariant-loop-command

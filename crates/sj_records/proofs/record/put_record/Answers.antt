@@ -13,7 +13,7 @@ use Rattle.sj_records.specs.inside.Progress.{task_job}
 use Rattle.sj_records.specs.inside.Reloads.{IsReadable}
 use Rattle.sj_records.specs.Texts.{rereads}
 use Rattle.sj_records.proofs.Texts.{if_ok, HasRead-then, HasReadLines-one}
-use Rattle.sj_records.proofs.task.put_record.Goals as goal
+use Rattle.sj_records.proofs.record.put_record.Goals as goal
 
 pub put_tape_record-requires-clause-readable : goal.put_tape_record-requires-clause-readable
 put_tape_record-requires-clause-readable c =

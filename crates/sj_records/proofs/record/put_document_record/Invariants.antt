@@ -8,7 +8,7 @@ use Rattle.sj_records.specs.inside.Progress.{task_job}
 use Rattle.sj_records.specs.inside.Reloads.{Runs}
 use Rattle.sj_records.proofs.RecordText.{left_len}
 use Rattle.sj_parse.specs.Answers.{buffer_limit}
-use Rattle.sj_records.proofs.task.put_document_record.Given as goal
+use Rattle.sj_records.proofs.record.put_document_record.Given as goal
 
 -- of the whole script on the tree that was read, and the texts that its reloads have read
 abbrev pub invariant-loop-left : goal.invariant-loop-left

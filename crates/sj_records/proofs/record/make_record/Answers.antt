@@ -1,5 +1,5 @@
 use Rattle.std.proofs.Common.{ℕ, List, ◌++◌, ◌∷◌, [], ap, ◌∙◌}
-use Rattle.sj_records.proofs.task.make_record.Goals as goal
+use Rattle.sj_records.proofs.record.make_record.Goals as goal
 
 pub returns-clause-holds : goal.returns-clause-holds
 returns-clause-holds c =

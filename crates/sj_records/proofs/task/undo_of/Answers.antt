@@ -6,8 +6,8 @@ use Rattle.sj_documents.specs.declared.inverse.Undo.TheVariants.{Possible, Impos
 use Rattle.sj_scripts.specs.declared.script.Command.{Command}
 use Rattle.sj_scripts.specs.Script.{commands_view}
 use Rattle.sj_records.specs.History.{is_undo}
-use Rattle.sj_records.proofs.job.undo_of.Goals as goal
-use Rattle.sj_records.proofs.job.undo_of.Goals.{in-Undo, in_default}
+use Rattle.sj_records.proofs.task.undo_of.Goals as goal
+use Rattle.sj_records.proofs.task.undo_of.Goals.{in-Undo, in_default}
 
 pub returns-then-matches : goal.returns-then-matches
 returns-then-matches c =
