@@ -418,7 +418,19 @@ fn read_root<'i>(
         if state == State::End {
             return Ok(());
         }
-        read_token(state, &mut state, limit, places, cursor, nodes, stack)?;
+        if state == State::Value {
+            read_token(
+                State::Value,
+                &mut state,
+                limit,
+                places,
+                cursor,
+                nodes,
+                stack,
+            )?;
+        } else {
+            read_token(state, &mut state, limit, places, cursor, nodes, stack)?;
+        }
     }
 }
 
