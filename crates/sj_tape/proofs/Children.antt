@@ -1,7 +1,9 @@
 -- The first child that the counts find, and the children after it.
-use Rattle.std.proofs.Common.{◌≡◌, ℕ, zero, suc, ◌+◌, ◌-◌, ◌<◌, Bool, true, false, cond, List, [], ◌∷◌, ◌++◌, Option, Some, None, option_map, drop, bytes_eq, length, refl, sym, ◌∙◌, ap, arith, append-nil}
+use Rattle.std.proofs.Common.{◌≡◌, ℕ, zero, suc, ◌+◌, ◌-◌, ◌<◌, ◌≤◌, Bool, true, false, cond, List, [], ◌∷◌, ◌++◌, Option, Some, None, option_map, drop, bytes_eq, length, refl, sym, ◌∙◌, ap, arith, append-nil}
 use Rattle.std.proofs.lemmas.List.{take_at, drop_at}
-use Rattle.sj_base.specs.Tree.{Tree}
+use Rattle.sj_base.specs.Tree.{Tree, Items, no_items, item}
+use Rattle.sj_base.specs.Path.{item_at}
+use Rattle.sj_base.specs.Containers.{items_len}
 use Rattle.sj_tape.specs.Laws.{ItemsByPlace, MembersByKey}
 use Rattle.sj_tape.specs.Children.{key_text, member_nodes, item_nodes, item_runs, member_runs}
 use Rattle.sj_tape.specs.Listing.{Entry, listing}
@@ -52,8 +54,16 @@ item_nodes-first (suc len) ns (n ∷ beneath) rest t h e some =
 pub member_nodes-none : (len : ℕ) (ns : List Node) (k : List ℕ) → len ≡ 0 → member_nodes len ns k ≡ None
 member_nodes-none len ns k e = ap (λ (l : ℕ). member_nodes l ns k) e
 
-pub item_nodes-none : (len : ℕ) (ns : List Node) (i : ℕ) → len ≡ 0 → item_nodes len ns i ≡ None
-item_nodes-none len ns i e = ap (λ (l : ℕ). item_nodes l ns i) e
+pub item_nodes-none : (len : ℕ) (ns : List Node) (i : ℕ) → len ≤ i → item_nodes len ns i ≡ None
+item_nodes-none zero ns i past = refl
+item_nodes-none (suc len) [] i past = refl
+item_nodes-none (suc len) (n ∷ ns) zero past = absurd (omega (arith, past))
+item_nodes-none (suc len) (n ∷ ns) (suc i) past = item_nodes-none len (drop (node_count n) ns) i (omega (arith, past))
+
+pub item_at-none : (ts : Items) (i : ℕ) → items_len ts ≤ i → item_at ts i ≡ None
+item_at-none no_items i past = refl
+item_at-none (item t ts) zero past = absurd (omega (arith, past))
+item_at-none (item t ts) (suc i) past = item_at-none ts i (omega (arith, past))
 
 pub item_runs-step : (len : ℕ) (ns front rest : List Node) (t : Tree) → ns ≡ front ++ rest → entries front ≡ listing t → 0 < len → item_runs len ns ≡ front ∷ item_runs (len - 1) rest
 item_runs-step zero ns front rest t h e some = absurd (omega arith)

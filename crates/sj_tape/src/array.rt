@@ -68,6 +68,9 @@ impl<'t, 'i> Array<'t, 'i> {
         ensures tree { option_map value_tree result ≡ item_at (array_items self.now) index }
         ensures nodes { option_map value_nodes result ≡ array_item self.now index }
     {
+        if index >= self.len {
+            return None;
+        }
         let mut rest = *self;
         let mut left = index;
         loop {
