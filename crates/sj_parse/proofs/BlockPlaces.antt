@@ -2,15 +2,13 @@
 use Rattle.std.specs.Prelude.{◌≡◌, ◌≢◌, ℕ, zero, suc, ◌/◌, ◌^◌, ◌+◌, ◌<◌, ◌≤◌, ◌||◌, nat_lt, Bool, true, false, List, [], ◌∷◌, length, take, drop, bit_or, slice_index, if◌then◌else◌}
 use Rattle.std.specs.Int.{bit_at, trailing_zeros}
 use Rattle.std.specs.Simd.Lanes.{chunk}
-use Rattle.std.proofs.Common.{refl, sym, ap, ◌∙◌, arith, zero-add, zero-lt-suc, mod-lt, w64, inl, inr}
+use Rattle.std.proofs.Common.{sym, ap, ◌∙◌, arith, zero-add, zero-lt-suc, mod-lt, w64, inl, inr}
 use Rattle.std.specs.Char.{is_ascii_digit}
 use Rattle.std.proofs.lemmas.Bool.{cases_eq, or_cases, or_parts, or_left, or_right, false_from_ne_true, ltb-true, ltb-false}
 use Rattle.std.proofs.lemmas.Nat.Bits.{bit_at-trailing_zeros, bit_at_or, bit_at-zero}
 use Rattle.std.proofs.lemmas.Simd.{get_or-chunk}
 use Rattle.sj_base.specs.NumberTests.{front_digits}
 use Rattle.sj_base.proofs.Literals.{from_test, to_test}
-use Rattle.sj_scan.specs.Positions.{is_whitespace, is_operator}
-use Rattle.sj_parse.specs.Token.{word}
 use Rattle.sj_parse.specs.inside.Blocks.{Places}
 
 -- ---- two tests in one
@@ -32,25 +30,6 @@ either {p} {q} {block} {a} {b} of_p of_q = record {
         ],
       );
 }
-
-pub same_places : {p q : ℕ → Bool} {block : List ℕ} {a : ℕ} → ((x : ℕ) → p x ≡ q x) → Places p block a → Places q block a
-same_places {p} {q} {block} {a} same of_p = record {
-  bits = λ k.
-      let x = slice_index block k in
-      (λ set. let h = (of_p.bits k).0 set in (h.0, sym (same x) ∙ h.1), λ h. (of_p.bits k).1 (h.0, same x ∙ h.1));
-}
-
-pub any_of_four : (a b c d : Bool) → (((a || b) || c) || d) ≡ (a || b || c || d)
-any_of_four true b c d = refl
-any_of_four false true c d = refl
-any_of_four false false c d = refl
-
-pub any_of_six : (a b c d e f : Bool) → (((((a || b) || c) || d) || e) || f) ≡ (a || b || c || d || e || f)
-any_of_six true b c d e f = refl
-any_of_six false true c d e f = refl
-any_of_six false false true d e f = refl
-any_of_six false false false true e f = refl
-any_of_six false false false false e f = refl
 
 -- ---- the lowest bit
 
@@ -87,28 +66,6 @@ no_place test bytes m none places = λ k h. false_from_ne_true (test (slice_inde
     let set = (places.bits k).1 (h, ap test same ∙ e) in
     let unset : bit_at m k ≡ 0 = ap (λ n. bit_at n k) none ∙ bit_at-zero k in
     omega (arith, set, unset))
-
--- ---- words
-
-abbrev pub is_separator : ℕ → Bool
-is_separator b = is_whitespace b || is_operator b
-
-pub word-first : (bytes : List ℕ) (n : ℕ) → IsFirst is_separator bytes n → take n bytes ≡ word bytes
-word-first [] n first = let within = first.within in absurd (omega (arith, within))
-word-first (b ∷ bs) zero first = sym (ap (λ (stop : Bool). if stop then [] else b ∷ word bs) first.passes)
-word-first (b ∷ bs) (suc n) first =
-    let rest : IsFirst is_separator bs n = record { within = omega (arith, first.within); passes = first.passes; none = λ k h. first.none (suc k) (omega arith) } in
-    ap (λ (ys : List ℕ). b ∷ ys) (word-first bs n rest) ∙ sym (ap (λ (stop : Bool). if stop then [] else b ∷ word bs) (first.none 0 (omega arith)))
-
--- behind bytes that end no word
-pub word-behind : (bytes : List ℕ) (n r : ℕ) → n ≤ length bytes → PassesNone is_separator bytes n → take r (drop n bytes) ≡ word (drop n bytes) → take (n + r) bytes ≡ word bytes
-word-behind bytes zero r within none rest = ap (λ (k : ℕ). take k bytes) (zero-add r) ∙ rest
-word-behind [] (suc n) r within none rest = absurd (omega (arith, within))
-word-behind (b ∷ bs) (suc n) r within none rest =
-    let one_more : suc n + r ≡ suc (n + r) = omega arith in
-    ap (λ (k : ℕ). take k (b ∷ bs)) one_more
-    ∙ ap (λ (ys : List ℕ). b ∷ ys) (word-behind bs n r (omega (arith, within)) (λ k h. none (suc k) (omega arith)) rest)
-    ∙ sym (ap (λ (stop : Bool). if stop then [] else b ∷ word bs) (none 0 (omega arith)))
 
 -- ---- digits
 

@@ -1,7 +1,7 @@
-//! The search for the ends of strings, words and runs of digits: in the first 32 bytes at once, and then in the rest.
+//! The search for the ends of strings and of runs of digits, in the first 32 bytes at once and then in the rest, and of words,
+//! byte by byte.
 ghost use Rattle.std.specs.Prelude.{◌≡◌, ◌==◌, ◌||◌, true, nat_lt, ℕ, ◌<◌, ◌≤◌, length, take, slice_index};
 ghost use Rattle.sj_base.specs.NumberTests.{front_digits};
-ghost use Rattle.sj_scan.specs.Positions.{is_whitespace, is_operator};
 ghost use Rattle.sj_parse.specs.Token.{word};
 ghost use Rattle.sj_parse.specs.inside.Step.{IsPlain};
 ghost use Rattle.sj_parse.specs.inside.Blocks.{Places};
@@ -29,24 +29,6 @@ pub(crate) fn plain_len(bytes: &[u8]) -> usize
         return BLOCK + scan_plain(&bytes[BLOCK..]);
     }
     scan_plain(bytes)
-}
-
-/// The number of bytes before the first whitespace or operator, or of all bytes if there is none.
-#[inline(always)]
-pub(crate) fn word_len(bytes: &[u8]) -> usize
-    ensures within { result ≤ length bytes.now }
-    ensures word { take result bytes.now ≡ word bytes.now }
-{
-    // Most words end in their first block.
-    if bytes.len() >= BLOCK {
-        let block = u8x32::from_slice(bytes);
-        let ends = whitespace(block) | operators(block);
-        if ends != 0 {
-            return ends.trailing_zeros() as usize;
-        }
-        return BLOCK + scan_word(&bytes[BLOCK..]);
-    }
-    scan_word(bytes)
 }
 
 /// The number of digits that the bytes begin with.
@@ -89,8 +71,8 @@ fn count_digits(bytes: &[u8]) -> usize
     bytes.len()
 }
 
-/// As [`word_len`], byte by byte.
-fn scan_word(bytes: &[u8]) -> usize
+/// The number of bytes before the first whitespace or operator, or of all bytes if there is none.
+pub(crate) fn word_len(bytes: &[u8]) -> usize
     ensures within { result ≤ length bytes.now }
     ensures word { take result bytes.now ≡ word bytes.now }
 {
@@ -100,25 +82,6 @@ fn scan_word(bytes: &[u8]) -> usize
         }
     }
     bytes.len()
-}
-
-#[inline(always)]
-fn whitespace(block: u8x32) -> u64
-    ensures { Places is_whitespace block result }
-{
-    equal_to(block, b' ') | equal_to(block, b'\t') | equal_to(block, b'\n') | equal_to(block, b'\r')
-}
-
-#[inline(always)]
-fn operators(block: u8x32) -> u64
-    ensures { Places is_operator block result }
-{
-    equal_to(block, b'{')
-        | equal_to(block, b'}')
-        | equal_to(block, b'[')
-        | equal_to(block, b']')
-        | equal_to(block, b':')
-        | equal_to(block, b',')
 }
 
 /// The places of a byte in a block, as bits.

@@ -85,10 +85,10 @@ loop-state-preserved-in-Continue-branch-5 c =
     let item = c.in_ok-read_in-4.ensures in
     let token = c.in_ok-read_token.ensures in (
       λ input read underway.
-        let now = c.read_in-in-loop-state-3.new in
-        let same = same_true the_type (search rules) _ _ (sym c.eq-in-loop-state.ensures ∙ c.if-eq-2.true) in
-        let in_state = subst (λ (s : State). Underway input c.args.limit read now.places s now.cursor now.nodes now.stack) same in
-        token.reads input read (in_state (item.reads input read (colon.reads input read (key.reads input read (comma.reads input read (c.loop-state.invariant.0 input read underway)))))),
+          let now = c.read_in-in-loop-state-3.new in
+          let same = same_true the_type (search rules) _ _ (sym c.eq-in-loop-state.ensures ∙ c.if-eq-2.true) in
+          let in_state = subst (λ (s : State). Underway input c.args.limit read now.places s now.cursor now.nodes now.stack) same in
+          token.reads input read (in_state (item.reads input read (colon.reads input read (key.reads input read (comma.reads input read (c.loop-state.invariant.0 input read underway)))))),
       token.items ∙ item.items ∙ colon.items ∙ key.items ∙ comma.items ∙ c.loop-state.invariant.1,
       token.room.0 ∙ item.room.0 ∙ colon.room.0 ∙ key.room.0 ∙ comma.room.0 ∙ c.loop-state.invariant.2,
       token.room.1 ∙ item.room.1 ∙ colon.room.1 ∙ key.room.1 ∙ comma.room.1 ∙ c.loop-state.invariant.3,
