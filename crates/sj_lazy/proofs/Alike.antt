@@ -1,5 +1,5 @@
 -- Trees compared by what is kept of them: lists from the front on, and objects with their repeated keys passed over.
-use Rattle.std.proofs.Common.{◌≡◌, ◌&&◌, ◌||◌, ◌<◌, ℕ, zero, suc, Bool, true, false, cond, List, [], ◌∷◌, ◌++◌, map, length, Option, Some, None, is_some, option_map, MatchOption, refl, sym, ap, ap₂, ◌∙◌, arith}
+use Rattle.std.proofs.Common.{◌≡◌, ◌&&◌, ◌||◌, ◌<◌, ◌≤◌, ℕ, zero, suc, Bool, true, false, cond, List, [], ◌∷◌, ◌++◌, map, length, Option, Some, None, is_some, option_map, MatchOption, refl, sym, ap, ap₂, ◌∙◌, arith}
 use Rattle.std.proofs.lemmas.Bool.{and_parts, and_from, or_parts}
 use Rattle.std.proofs.lemmas.Option.{none-some}
 use Rattle.std.proofs.Math.Bool.{and-false, or-false, or-true}
@@ -203,6 +203,20 @@ pub within_itself : (ms : Members) → keys_within ms ms ≡ true
 within_itself no_members = refl
 within_itself (member k t ms) =
     and_from _ _ (ap (λ b. is_some (cond b (Some t) (member_at ms k))) (own_key k)) (within_more ms ms k t (within_itself ms))
+
+front_within : (front : ℕ) (ms ns all : Members) → first_keys front ms ≡ first_keys front ns → members_len ns ≤ front → keys_within ms all ≡ true → keys_within ns all ≡ true
+front_within front ms no_members all e few within = refl
+front_within zero ms (member k t ns) all e few within = absurd (omega (arith, few))
+front_within (suc f) no_members (member k t ns) all e few within = cc
+front_within (suc f) (member j v ms) (member k t ns) all e few within =
+    let same : k ≡ j = cc in
+    let tail : first_keys f ms ≡ first_keys f ns = cc in
+    let parts = and_parts (is_some (member_at all j)) (keys_within ms all) within in
+    and_from _ _ (ap (λ i. is_some (member_at all i)) same ∙ parts.0) (front_within f ms ns all tail (omega (arith, few)) parts.1)
+
+-- Where the front with the same keys is all of the second, the first has each of its keys.
+pub front_found : (front : ℕ) (ms ns : Members) → first_keys front ms ≡ first_keys front ns → members_len ns ≤ front → all_found (keys_of ns) ms ≡ true
+front_found front ms ns e few = found_within ns ms ∙ front_within front ms ns ms e few (within_itself ms)
 
 -- A key of the first is a key of the second, if all are.
 found_also : (o : Option Tree) (k n : List ℕ) (t : Tree) (ms : Members) → is_some (member_at ms n) ≡ true → (is_some o ≡ true → is_some (member_at ms k) ≡ true)

@@ -3,10 +3,11 @@
 //! Two documents are compared by `==` of documents. A part of a tape is walked through, and its repeated keys are passed
 //! over. That takes time in proportion to what is compared where the members come in the same order on both sides and no key
 //! is repeated. Otherwise keys are looked up, and a look-up in a tape passes over the members before.
-ghost use Rattle.std.specs.Prelude.{◌≡◌, true, is_some, option_map, IfSome};
+ghost use Rattle.std.specs.Prelude.{◌≡◌, true, is_some, map, option_map, IfSome};
 ghost use Rattle.std.specs.Cmp.{on_equiv, partial_equiv_from_equiv};
 ghost use Rattle.std.specs.Ordering.{on};
 ghost use Rattle.sj_base.specs.Alike.{keys_within};
+ghost use Rattle.sj_base.specs.Containers.{member_pairs};
 ghost use Rattle.sj_base.specs.Path.{member_at};
 ghost use Rattle.sj_base.specs.Scalar.{scalar_tree};
 ghost use Rattle.sj_base.specs.Tree.{Members, list, object};
@@ -111,6 +112,15 @@ fn are_found(keys: Keys<'_, '_, '_>, members: &TapeObject<'_, '_>) -> bool
     true
 }
 
+// Returns `true` if each key of the others has a member. The first `front` members have the same keys on both sides in the same
+// order, so keys are looked for only if the others have more.
+fn are_all_found(front: usize, others: &Object<'_, '_, '_>, members: &TapeObject<'_, '_>) -> bool
+    requires { first_keys front (tape_members members.now) ≡ first_keys front (object_members others.now) }
+    ensures { result ≡ all_found (map (λ p. p.0) (member_pairs (object_members others.now))) (tape_members members.now) }
+{
+    others.len() <= front || are_found(others.keys(), members)
+}
+
 #[cycle(same)]
 fn same_view(view: &TapeValue<'_, '_>, other: &Value<'_, '_, '_>) -> bool
     ensures { result ≡ kept_alike (value_tree view.now) (lazy_tree other.now) }
@@ -186,7 +196,7 @@ fn same_members(members: TapeObject<'_, '_>, others: Object<'_, '_, '_>) -> bool
         }
         rest = behind;
     }
-    are_found(others.keys(), &members)
+    are_all_found(front, &others, &members)
 }
 
 /// Two lazy values are equal if the documents made of them are: of a tape only the first member of each key counts.

@@ -107,4 +107,4 @@ same_members-returns t c =
     let ended : n ≡ members_len all = omega (arith, c.loop-count.auto.count-end, c.loop-count-test.false, c.len-count-end.ensures) in
     let none = sym c.loop-count.invariant.1 ∙ ap (λ j. behind_first j all) ended ∙ all_behind all in
     let done = sym (ap (λ l. rest_alike (first_keys n all) l ns) none) ∙ c.loop-count.invariant.2 in
-    c.are_found.ensures ∙ ap (λ l. all_found l all) c.keys.ensures.keys ∙ ap (λ b. b && found) done ∙ objects_alike all ns
+    c.are_all_found.ensures ∙ ap (λ b. b && found) done ∙ objects_alike all ns
