@@ -9,7 +9,7 @@ ghost use Rattle.sj_records.specs.Texts.{HasReadLines, HasReadStream};
 ghost use Rattle.sj_records.specs.inside.Progress.{HasNoLineFeed, LeavesLines, LeavesBytes, task_job};
 
 use crate::form::Form;
-use crate::record::{Scratch, make_record};
+use crate::record::{Scratch, clear_text, make_record};
 use crate::repeats::Repeats;
 use crate::run_error::RunError;
 use crate::task::{Task, undo_of};
@@ -122,7 +122,7 @@ fn complete_line<'p, W: Sink>(
     }
     pending.line.extend_from_slice(end)?;
     write_pending(writer, buffers, pending, task)?;
-    pending.line.clear();
+    clear_text(&mut pending.line);
     Ok(())
 }
 
@@ -234,7 +234,8 @@ fn run_task<R: Source, W: Sink>(
 /// The record of a JSON document that nests at most `depth` levels has the replies to the script's commands and the document
 /// after them. With `Repeats::Refuse` the script doesn't run on a document that repeats a key, and the record names the
 /// first such key. The record of any other line says why it is not a document. An interrupted read is tried again. An
-/// interrupted write is not. Nothing is flushed. The recursion is as deep as a line's document nests.
+/// interrupted write is not. Each record is handed to the writer as a whole, so a writer to a file or a pipe should be buffered.
+/// Nothing is flushed. The recursion is as deep as a line's document nests.
 ///
 /// # Errors
 ///
@@ -267,7 +268,8 @@ pub fn run<R: Source, W: Sink>(
 /// buffers one after the other take room for them once.
 ///
 /// On `Ok` the buffers have read one text for each line, and one for each reload that replied `true`, and they have the positions
-/// of the last one. Room for more than 2^20 positions is given back before the next text is read.
+/// that the last one left: those of before where there was no text, or where the last one had more than 4294967295 bytes. Room for
+/// more than 2^20 positions is given back before the next text is read.
 ///
 /// # Errors
 ///

@@ -92,23 +92,27 @@ pub(crate) fn make_record<'de>(
 {
     let Scratch { room, out } = scratch;
     room.history.clear();
-    release_long(&mut room.printed);
-    release_long(&mut room.next);
-    out.clear();
+    clear_text(&mut room.printed);
+    clear_text(&mut room.next);
+    clear_text(out);
     put_record(buffers, room, tape, out, line, task)?;
     out.push(b'\n')?;
     Ok(())
 }
 
-/// The most room, in bytes, that the text of a reload keeps for the next line.
+/// The most room, in bytes, that is kept for the next line of a line, of its record, and of each text of its reloads.
 const KEPT_TEXT: usize = 1 << 24;
 
-/// Gives back room that is more than what is kept. An indented text may be a thousand times as long as its line.
-fn release_long(text: &mut Vec<u8>)
-    ensures { vec_capacity text.new ≤ 2 ^ 24 }
+/// Empties a text, and gives back room that is more than what is kept. An indented text may be a thousand times as long as its
+/// line.
+pub(crate) fn clear_text(text: &mut Vec<u8>)
+    ensures items { text.new.items ≡ [] }
+    ensures room { vec_capacity text.new ≤ 2 ^ 24 }
 {
     if text.capacity() > KEPT_TEXT {
         *text = Vec::new(*text.allocator());
+    } else {
+        text.clear();
     }
 }
 
