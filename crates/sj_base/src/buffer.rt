@@ -26,7 +26,7 @@ pub struct TextBuffer {
 }
 
 impl TextBuffer {
-    ghost use Rattle.sj_base.specs.Buffer.{buffer_text};
+    ghost use Rattle.sj_base.specs.Buffer.{buffer_text, buffer_room};
 
     /// Creates a buffer whose text is the bytes of a vector, to append to. Takes no memory.
     pub fn new(bytes: Vec<u8>) -> TextBuffer
@@ -49,7 +49,8 @@ impl TextBuffer {
 
     /// Empties the text. Its room is kept, and stays initialized.
     pub fn clear(&mut self)
-        ensures { buffer_text self.new ≡ [] }
+        ensures text { buffer_text self.new ≡ [] }
+        ensures room { buffer_room self.new ≡ buffer_room self.old }
     {
         self.len = 0;
     }
