@@ -20,13 +20,13 @@ pub enum Fault {
     /// Standard output could not be written or flushed.
     #[error("Write")]
     Write,
-    /// The arguments are refused, with this text.
+    /// The arguments are refused, with this text: that of `clap`, of one line or more.
     #[error("Arguments")]
     Arguments(String),
     /// The file with the script could not be read.
     #[error("Unreadable")]
     Unreadable,
-    /// The script is refused, with this line.
+    /// The script is refused, with this line and its line feed.
     #[error("Script")]
     Script(Vec<u8>),
 }
@@ -42,7 +42,7 @@ impl Fault {
         }
     }
 
-    /// Returns the text for standard error, with a line feed at its end.
+    /// Returns the text for standard error: a line with its line feed, or the text that the fault comes with.
     pub fn line(&self) -> &[u8]
         ensures { result.now ≡ line_of self.now }
     {

@@ -25,7 +25,7 @@ use std::marker::Brand;
 /// `load` has to return for every name, as a function without `requires` does.
 ///
 /// Returns the exit status: 0 if that was done, 1 if memory, the input or the output failed, and 2 if the arguments or the
-/// script are refused. The line of a fault is written to `faults`.
+/// script are refused, or the file can't be read. What [`Fault::line`] has of a fault is written to `faults`.
 pub fn program<S, L, I, O, E>(
     alloc: Global,
     words: &[S],

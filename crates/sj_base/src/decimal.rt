@@ -31,7 +31,7 @@ impl<'a> Decimal<'a> {
 
     /// Returns `bytes` as a decimal literal, or `None` if they aren't a JSON number of that kind.
     ///
-    /// Any bytes will do: those of a literal are ASCII. As in [`Decimal::new`], all of them are tested.
+    /// The bytes needn't be UTF-8. As in [`Decimal::new`], all of them are tested.
     pub fn from_bytes(bytes: &'a [u8]) -> Option<Decimal<'a>>
         ensures accepts { IsSome result ↔ IsDecimal bytes.now }
         ensures text { IfSome result (λ d. decimal_text d ≡ bytes.now) }

@@ -10,33 +10,33 @@ use std::fmt;
 /// The kind of an [`Error`] (`simd_json::ErrorType` without payloads).
 #[derive(Clone, Copy, Debug, PartialEq, Eq)]
 pub enum ErrorType {
-    /// Kept from `simd_json`; no call answers it.
+    /// Kept from `simd_json`; no function returns it.
     Unexpected,
     /// An input longer than `u32::MAX` bytes.
     InputTooLarge,
     /// A padded input with fewer than 64 bytes after its text.
     InsufficientPadding,
-    /// Kept from `simd_json`; no call answers it.
+    /// Kept from `simd_json`; no function returns it.
     BadKeyType,
-    /// Kept from `simd_json`; no call answers it.
+    /// Kept from `simd_json`; no function returns it.
     ExpectedArray,
     /// Neither a comma nor `]` after an item of an array.
     ExpectedArrayComma,
-    /// Kept from `simd_json`; no call answers it.
+    /// Kept from `simd_json`; no function returns it.
     ExpectedBoolean,
-    /// Kept from `simd_json`; no call answers it.
+    /// Kept from `simd_json`; no function returns it.
     ExpectedEnum,
-    /// Kept from `simd_json`; no call answers it.
+    /// Kept from `simd_json`; no function returns it.
     ExpectedFloat,
-    /// Kept from `simd_json`; no call answers it.
+    /// Kept from `simd_json`; no function returns it.
     ExpectedInteger,
-    /// Kept from `simd_json`; no call answers it.
+    /// Kept from `simd_json`; no function returns it.
     ExpectedMap,
     /// No colon after a key.
     ExpectedObjectColon,
     /// Neither a comma nor `}` after a member of an object.
     ExpectedMapComma,
-    /// Kept from `simd_json`; no call answers it.
+    /// Kept from `simd_json`; no function returns it.
     ExpectedMapEnd,
     /// A token that begins with `n` and isn't `null`.
     ExpectedNull,
@@ -44,19 +44,19 @@ pub enum ErrorType {
     ExpectedTrue,
     /// A token that begins with `f` and isn't `false`.
     ExpectedFalse,
-    /// Kept from `simd_json`; no call answers it.
+    /// Kept from `simd_json`; no function returns it.
     ExpectedNumber,
-    /// Kept from `simd_json`; no call answers it.
+    /// Kept from `simd_json`; no function returns it.
     ExpectedSigned,
-    /// Kept from `simd_json`; no call answers it.
+    /// Kept from `simd_json`; no function returns it.
     ExpectedString,
-    /// Kept from `simd_json`; no call answers it.
+    /// Kept from `simd_json`; no function returns it.
     ExpectedUnsigned,
     /// A byte that begins no value, or a token after the root container.
     InternalError,
     /// A backslash with an unknown letter after it.
     InvalidEscape,
-    /// Kept from `simd_json`; no call answers it.
+    /// Kept from `simd_json`; no function returns it.
     InvalidExponent,
     /// A token that begins as a number does, and is none.
     InvalidNumber,
@@ -66,23 +66,23 @@ pub enum ErrorType {
     InvalidUnicodeEscape,
     /// A surrogate that isn't part of a pair.
     InvalidUnicodeCodepoint,
-    /// Kept from `simd_json`; no call answers it.
+    /// Kept from `simd_json`; no function returns it.
     KeyMustBeAString,
-    /// Kept from `simd_json`; no call answers it.
+    /// Kept from `simd_json`; no function returns it.
     NoStructure,
-    /// Kept from `simd_json`; no call answers it.
+    /// Kept from `simd_json`; no function returns it.
     Parser,
     /// An input without a token.
     Eof,
-    /// Kept from `simd_json`; no call answers it.
+    /// Kept from `simd_json`; no function returns it.
     Serde,
     /// An unclosed string, a control character in a string, an input that ends too early, or too deep nesting.
     Syntax,
     /// A token after a root scalar.
     TrailingData,
-    /// Kept from `simd_json`; no call answers it.
+    /// Kept from `simd_json`; no function returns it.
     UnexpectedCharacter,
-    /// Kept from `simd_json`; no call answers it.
+    /// Kept from `simd_json`; no function returns it.
     UnterminatedString,
     /// Neither a value nor `]` after `[`.
     ExpectedArrayContent,
@@ -215,7 +215,8 @@ impl Error {
         *error == ErrorType::Eof
     }
 
-    /// Returns `true` if the input is no JSON text, or nests deeper than the limit. Port of `simd_json::Error::is_syntax`.
+    /// Returns `true` if the input has tokens but is no JSON text, or nests deeper than the limit. Port of
+    /// `simd_json::Error::is_syntax`.
     pub fn is_syntax(&self) -> bool
         ensures { IsTrue result ↔ (class_of self.now.error ≡ syntax_class) }
     {
@@ -242,7 +243,8 @@ impl Error {
         )
     }
 
-    /// Returns `true` if the error is none of the other three classes, as `OutOfMemory`. Port of `simd_json::Error::is_data`.
+    /// Returns `true` if the error is in none of the other three classes, as `OutOfMemory` and `InputTooLarge` are. Port of
+    /// `simd_json::Error::is_data`.
     pub fn is_data(&self) -> bool
         ensures class { IsTrue result ↔ (class_of self.now.error ≡ data_class) }
         // Each error is in exactly one of the four classes.

@@ -29,7 +29,7 @@ pub enum Layout {
 }
 
 impl Layout {
-    /// Prints the opening bracket of a list. The level has to be below `usize::MAX`, as that of [`Layout::Compact`] is.
+    /// Prints the opening bracket of a list. The level has to be below `usize::MAX`. [`Layout::Compact`] has none.
     ///
     /// # Errors
     ///

@@ -25,7 +25,7 @@ fn is_kept_by(is_negative: bool, digits: &[u8], behind: &[u8]) -> bool
     }
 }
 
-/// Whether the integer of these digits goes from -2^63 to 2^64 - 1.
+/// Whether the integer of these digits lies between -2^63 and 2^64 - 1.
 fn is_in_range(is_negative: bool, digits: &[u8]) -> bool
     requires { is_whole digits.now ≡ true }
     ensures { result ≡ is_in_range is_negative (digits_value 10 digits.now) }
@@ -73,7 +73,7 @@ fn split_digits(bytes: &[u8]) -> (&[u8], &[u8])
     (bytes, &[])
 }
 
-/// Returns `true` if these bytes are those of a whole number: `0` alone, or any digits that begin with another one. They have to
+/// Returns `true` if these digits are those of a whole number: `0` alone, or digits of which the first is 1 to 9. All bytes have to
 /// be digits ([`u8::is_ascii_digit`]).
 #[inline(always)]
 pub fn is_whole(digits: &[u8]) -> bool

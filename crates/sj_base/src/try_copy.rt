@@ -9,7 +9,7 @@ use std::borrow::CowStr;
 
 /// A type whose values can be copied. It stands in the place of `Clone`, whose `clone` can't report a failed allocation.
 pub trait TryCopy: Sized {
-    // What a copy has in common with its original: the tree, and the carriers of its integers.
+    // What a copy has in common with its original: the tree, the carriers of its integers, and which texts are borrowed.
     ghost Copied: { Type 0 };
 
     ghost copied: { Self → Copied };

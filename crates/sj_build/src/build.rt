@@ -1,4 +1,4 @@
-//! Documents of tapes.
+//! Builds documents from tapes.
 //!
 //! A document is built from the last node of its tape to the first. So a container finds its parts on a stack, and a deep text
 //! needs no recursion.

@@ -24,7 +24,8 @@ use std::mem;
 /// The value that an edit replaced or took out, if any, or why the edit is refused.
 type Edited<V> = Result<Option<V>, MemoryOr<Refusal>>;
 
-/// A type of strings and keys. Documents of it, whose literals have the type `D`, are converted from owned ones and into them.
+/// A type of strings and keys. A document with such strings and keys, and with literals of the type `D`, can be made of an owned
+/// document, and be turned into one.
 pub trait ScriptText<D: Literal>: FromString {
     /// Converts a value that owns its texts. These are moved.
     ///
@@ -149,7 +150,7 @@ pub(crate) fn is_within(path: &[PathPart], depth: usize, limit: usize) -> bool
     }
 }
 
-/// Returns `true` if such a value stays within the limit as a member or an item of what the path selects.
+/// Returns `true` if a value of `depth` levels stays within the limit as a member or an item of what the path selects.
 pub(crate) fn is_within_below(path: &[PathPart], depth: usize, limit: usize) -> bool
     ensures { result ≡ nat_le (length path.now + 1 + depth) limit }
 {

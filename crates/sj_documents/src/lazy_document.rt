@@ -14,8 +14,8 @@ use sj_scripts::{PathPart, ScriptValue};
 use sj_tape::Value as TapeValue;
 use std::alloc::{AllocError, Global};
 
-/// A document in the form `Lazy`: a value of a tape until the first write, and from then on a document that keeps only
-/// the first of members with equal keys.
+/// A document in the form `Lazy`: a value of a tape until the first call that writes, refused or not, and from then on a document
+/// that keeps only the first of members with equal keys.
 #[derive(Debug, Drop)]
 pub struct LazyDocument<'t, 'i> {
     value: LazyValue<'t, 't, 'i>,

@@ -1,4 +1,4 @@
-//! Lazy values made of documents and of what documents are made of. They own their document.
+//! Lazy values made of documents and of Rust's values. They own their document.
 ghost use Rattle.std.specs.Prelude.{◌≡◌, List, map as mapped, IfOk, string_bytes};
 ghost use Rattle.std.specs.Cow.{cow_str_bytes};
 ghost use Rattle.std.specs.Iterator.{Drains, IsFiniteIterable};
@@ -44,7 +44,7 @@ impl<'i> Value<'_, '_, 'i> {
         Ok(Value::owned(BorrowedValue::from_text(alloc, text)?))
     }
 
-    /// Creates an array of what the values of `list` are converted to.
+    /// Creates an array of the values of `list`, each converted.
     ///
     /// # Errors
     ///
@@ -58,8 +58,8 @@ impl<'i> Value<'_, '_, 'i> {
         Ok(Value::owned(BorrowedValue::from_list(alloc, list)?))
     }
 
-    /// Creates an array of what the given values are converted to, in their order. The iterator has to end, as those of a
-    /// vector, a map or a range do.
+    /// Creates an array of the given values, each converted, in their order. The iterator has to end, as those of a vector, a map or
+    /// a range do.
     ///
     /// # Errors
     ///

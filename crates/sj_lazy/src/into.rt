@@ -57,7 +57,7 @@ impl<'t, 'i> Value<'_, 't, 'i> {
     ///
     /// # Errors
     ///
-    /// `AllocError` if there is no memory for the copy. Only a borrowed string is copied.
+    /// `AllocError` if there is no memory for the copy. Only a borrowed string is copied. The value is dropped.
     pub fn into_string(self) -> Result<Option<CowStr<'i>>, AllocError>
         ensures ok { IfOk result (λ s. option_map cow_str_bytes s ≡ str_read (scalar_in (lazy_tree self.entry))) }
         ensures succeeds { borrows self.entry ≡ false → IsOk result }

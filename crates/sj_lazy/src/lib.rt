@@ -1,7 +1,8 @@
 //! JSON documents that stay a tape until they are first written to.
 //!
-//! A [`Value`] starts as a view of a tape, and is read in place, repeated keys included. The first write call builds a
-//! document of it, which keeps the first member of each key. Parts of a value are lazy values too.
+//! A [`Value`] made of a tape is a view of it, and is read in place, repeated keys included. The first write call builds a
+//! document of it, which keeps the first member of each key. A value can also be made of a document. Parts of a value are lazy
+//! values too.
 #![tactic(auto)]
 
 mod access;

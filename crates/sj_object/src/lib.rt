@@ -1,6 +1,6 @@
 //! JSON objects: pairs of a key and a value in insertion order, with no key twice.
 //!
-//! [`Object`] is a list of pairs, with a hash table where there are more than 32. A key is found by its text, so a look-up takes
+//! [`Object`] is a list of pairs, with a hash table beside it from the 33rd pair on. A key is found by its text, so a look-up takes
 //! a `&str` whatever type stores the keys.
 //! Contracts see an object as the list of its pairs: an insertion is `put_key` on that list, a removal `drop_key`.
 #![tactic(auto)]

@@ -19,7 +19,8 @@ pub struct Members<K, V> {
 }
 
 impl<K: ObjectKey, V> Members<K, V> {
-    /// Returns no pairs, with room for this many. The hash table isn't made yet: the 33rd pair still needs memory.
+    /// Creates an empty list of pairs with room for `capacity` pairs. The hash table isn't made yet: the 33rd pair still needs
+    /// memory.
     ///
     /// # Errors
     ///

@@ -19,8 +19,9 @@ use std::mem;
 /// Pairs of a key and a value in insertion order, with no key twice.
 ///
 /// It takes the place of the hash map in `simd_json::owned::Object` and `simd_json::borrowed::Object`.
-/// Up to 32 pairs, a key is found by comparing texts from the first pair on. An object of more pairs has a hash table beside the
-/// list. Keys that share a hash are told apart by their texts, one after the other.
+/// A key is found by comparing texts from the first pair on, until the object has more than 32 pairs. Then it gets a hash table
+/// beside the list, and keeps it, however many pairs are removed. Keys that share a hash are told apart by their texts, one after
+/// the other.
 #[derive(Drop)]
 pub struct Object<K: ObjectKey, V> {
     pub(crate) pairs: Pairs<K, V>,
@@ -253,8 +254,8 @@ impl<K: ObjectKey, V> Object<K, V> {
         Ok(())
     }
 
-    /// Puts a pair with a new key at a place, counted from 0. The pairs from there on move one place on. In an object of more
-    /// than 32 pairs the whole table is linked anew, unless the pair goes last.
+    /// Puts a pair with a new key at a place, counted from 0. The pairs from there on move one place on. If there is a
+    /// hash table, all of it is linked anew, unless the pair goes last.
     ///
     /// `place` is at most [`Object::len`]. To test that the key is new, call [`Object::contains_key`].
     ///
@@ -278,8 +279,8 @@ impl<K: ObjectKey, V> Object<K, V> {
         Ok(())
     }
 
-    /// Removes the pair of this key and returns its value, or `None` if there is none. The pairs after it close up. In an object
-    /// of more than 32 pairs the whole table is linked anew, unless the pair is the last.
+    /// Removes the pair of this key and returns its value, or `None` if there is none. The pairs after it close up. If
+    /// there is a hash table, all of it is linked anew, unless the pair is the last.
     pub fn remove(&mut self, key: &str) -> Option<V>
     where
         K: Drop,

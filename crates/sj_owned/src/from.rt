@@ -1,4 +1,4 @@
-//! Documents made of other values. The conversions that `From` stands for need no memory.
+//! Documents made of Rust's values. The conversions by `From` need no memory.
 ghost use Rattle.std.specs.Prelude.{◌≡◌, List, [], IfOk, OnOk, MatchOption, string_bytes, map as map_entries};
 ghost use Rattle.std.specs.Cmp.Lexicographic.{slice_cmp};
 ghost use Rattle.std.specs.List.{AllZip};
@@ -270,7 +270,7 @@ impl<K: FromString, D: Literal> Value<K, D> {
 }
 
 impl<K: ObjectKey + Drop, D: Literal + Drop> Value<K, D> {
-    /// Creates an array of what the values of `list` are converted to.
+    /// Creates an array of the values of `list`, each converted.
     ///
     /// # Errors
     ///
@@ -285,8 +285,8 @@ impl<K: ObjectKey + Drop, D: Literal + Drop> Value<K, D> {
         Ok(Value::Array(convert_into(items, list)?))
     }
 
-    /// Creates an array of what the given values are converted to, in their order. The iterator has to end, as those of a
-    /// vector, a map or a range do.
+    /// Creates an array of the given values, each converted, in their order. The iterator has to end, as those of a vector, a map or
+    /// a range do.
     ///
     /// # Errors
     ///

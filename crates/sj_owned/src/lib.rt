@@ -1,8 +1,8 @@
 //! JSON documents that are edited and printed.
 //!
 //! A document is a tree: a scalar, a list of documents, or an object, in which no key stands twice. [`Value`] is that
-//! tree over any type of strings and of decimal literals. In [`owned::Value`] both own their texts. A document is built
-//! from a tape, and keeps the first of members with equal keys.
+//! tree over any type of strings and of decimal literals. In [`owned::Value`] both own their texts. A document
+//! that is built from a tape keeps the first of members with equal keys. Documents are also made of Rust's values.
 #![tactic(auto)]
 
 mod access;

@@ -17,10 +17,10 @@ use std::alloc::Global;
 /// A document that owns its texts. Port of `simd_json::OwnedValue`.
 pub type Value = crate::value::Value<String, DecimalBuf>;
 
-/// An object of such a document.
+/// An object of a document that owns its texts.
 pub type Object = sj_object::Object<String, Value>;
 
-/// Builds such documents of the nodes of a tape. Port of `simd_json::owned::OwnedDeserializer`.
+/// Builds, from the nodes of a tape, documents that own their texts. Port of `simd_json::owned::OwnedDeserializer`.
 pub type OwnedDeserializer<'de> = ValueDeserializer<'de, Value, String>;
 
 /// Reads a document, under the limit of [`sj_base::DEFAULT_MAX_DEPTH`] levels, as [`deserialize`] does. Port of

@@ -17,7 +17,7 @@ use sj_tape::Node;
 pub struct Frame {
     /// The index of its node.
     start: usize,
-    /// The items or members that it has so far.
+    /// The number of items or members so far.
     len: usize,
     is_object: bool,
 }

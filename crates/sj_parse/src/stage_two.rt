@@ -418,6 +418,7 @@ fn read_root<'i>(
         if state == State::End {
             return Ok(());
         }
+        // And so does a value, where the choice by its first byte is the only one left.
         if state == State::Value {
             read_token(
                 State::Value,

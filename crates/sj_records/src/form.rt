@@ -5,9 +5,11 @@
 pub enum Form {
     /// A document that owns its texts. Of members with equal keys only the first is kept.
     Owned,
-    /// A document that borrows its texts from the line. Of members with equal keys only the first is kept.
+    /// A document that borrows its texts from the line, or, after a reload, from the printed text. Of members with equal keys
+    /// only the first is kept.
     Borrowed,
-    /// The tape of the line until the first write, and from then on a document that borrows its texts from the line. Until
-    /// then all of members with equal keys are there, and from then on only the first.
+    /// The tape of the line, or, after a reload, of the printed text, until the next command that writes, refused or not. From
+    /// then on a document as that of [`Form::Borrowed`]. All of members with equal keys are there in the tape, and only the first
+    /// in the document.
     Lazy,
 }

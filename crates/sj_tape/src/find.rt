@@ -12,9 +12,10 @@ use crate::node::Node;
 use sj_base::Reads;
 use std::ops::Range;
 
-/// Returns the places of the nodes of the first member's value with this key, or `None` if no member has it.
+/// Returns the range of the indices of the nodes of the value that the first member with this key has, or `None` if no member
+/// has it.
 ///
-/// The nodes are those of `len` members, as those beneath an object. Each member costs two reads at most, its key and the
+/// The nodes are those of `len` members, such as the nodes beneath an object. Each member costs two reads at most, its key and the
 /// first node of its value, whose count tells where the next member begins. No node is read twice.
 #[inline]
 pub fn find(len: usize, key: &str, nodes: &mut Reads<'_, Node<'_>>) -> Option<Range<usize>>

@@ -1,6 +1,7 @@
 //! Laws of the definitions that contracts cite, and the look-up whose contract counts what it reads.
 //!
-//! Each law is the contract of a function that does nothing. [`find`] is the look-up.
+//! Each law is the contract of a function that computes nothing: it does nothing, or calls other such functions. [`find`] is the
+//! look-up.
 ghost use Rattle.sj_tape.specs.Laws.{ChildrenByCounts, SeenMembers, ItemsByPlace, MembersByKey};
 ghost use Rattle.sj_base.specs.Text.{text, pretty};
 ghost use Rattle.sj_tape.specs.Laws.{OneListing, ListingBack, RepeatsAndKeep};

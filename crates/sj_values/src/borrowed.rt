@@ -19,13 +19,13 @@ use std::borrow::CowStr;
 /// A document whose texts may be borrowed. Port of `simd_json::BorrowedValue`.
 pub type Value<'v> = sj_owned::Value<CowStr<'v>, DecimalCow<'v>>;
 
-/// An object of such a document.
+/// An object of a document whose texts may be borrowed.
 pub type Object<'v> = sj_object::Object<CowStr<'v>, Value<'v>>;
 
-/// The items of an array of such a document.
+/// The items of an array of a document whose texts may be borrowed.
 pub type Array<'v> = Vec<Value<'v>>;
 
-/// Builds such documents of the nodes of a tape. Port of `simd_json::borrowed::BorrowDeserializer`.
+/// Builds, from the nodes of a tape, documents whose texts may be borrowed. Port of `simd_json::borrowed::BorrowDeserializer`.
 pub type BorrowDeserializer<'v> = ValueDeserializer<'v, Value<'v>, CowStr<'v>>;
 
 /// Reads a document that may borrow from `s`, under the limit of [`sj_base::DEFAULT_MAX_DEPTH`] levels, as [`deserialize`]
