@@ -1,6 +1,6 @@
 //! Reading a file to its end.
-ghost use Rattle.std.specs.Prelude.{◌≡◌, ◌++◌, IfSome, OnOk};
-ghost use Rattle.std.specs.Io.KnownBytes.{IsAtEnd};
+ghost use Rattle.std.specs.Prelude.{◌≡◌, ◌++◌, ℕ, List, IfSome, OnOk, OnErr};
+ghost use Rattle.std.specs.Io.KnownBytes.{Consumes, IsAtEnd};
 ghost use Rattle.records_program.specs.Fault.{IsLoadFault};
 ghost use Rattle.records_program.specs.declared.load.LoadFault.TheVariants.{Memory};
 
@@ -65,7 +65,7 @@ pub fn read_file<R: Files + AllocGlobal>(rt: &R, name: &str) -> Result<Vec<u8>, 
 /// # Errors
 ///
 /// `Memory` if an allocation failed, and `Unreadable` if a read failed, or none of `max_reads` reads gave the end. What was appended
-/// until then stays in `bytes`.
+/// until then stays in `bytes`. A piece that was read but could not be appended is lost.
 pub fn read_rest<R: Read>(
     reader: &mut R,
     bytes: &mut Vec<u8>,
@@ -73,6 +73,8 @@ pub fn read_rest<R: Read>(
 ) -> Result<(), LoadFault>
     ensures bytes { OnOk result (IfSome (R.remaining reader.old) (λ xs. bytes.new.items ≡ bytes.old.items ++ xs)) }
     ensures end { OnOk result (IsAtEnd (R.remaining reader.new)) }
+    ensures partial { OnErr result ((appended lost : List ℕ) × (bytes.new.items ≡ bytes.old.items ++ appended)
+        × Consumes (R.remaining reader.old) (R.remaining reader.new) (appended ++ lost)) }
 {
     let mut piece = [0; PIECE_LEN];
     for _ in 0..max_reads {
