@@ -15,7 +15,7 @@ use std::{env, io};
 
 const ABOUT: &str = "Runs a script on each JSON line of standard input, and writes a record for it";
 
-const COMMANDS: &str = "\
+const AFTER_HELP: &str = "\
 Commands of a script:
   [\"get\", PATH]                 [value], or [] where PATH selects nothing
   [\"contains\", PATH, KEY]       whether the object has the key
@@ -31,7 +31,15 @@ Commands of a script:
   [\"reload\"]                    prints the document and reads that text in its place; true
   [\"reload_pp\"]                 the same with the indented text
 
-PATH is an array of keys and of indexes from 0; [] is the whole document.";
+PATH is an array of keys and of indexes from 0; [] is the whole document.
+A command that is refused has a word as its reply, such as \"NoSuchPath\".
+
+Records, one for each line:
+  {\"replies\":[REPLY,...],\"document\":VALUE}       a document, as it is after the commands
+  {\"error\":KIND,\"index\":BYTE,\"character\":TEXT}   the first fault of a line that is no document
+  {\"error\":\"RepeatedKey\",\"path\":PATH,\"key\":KEY}  a repeated key, with --repeats refuse
+
+Exit status: 0, or 1 if memory, the input or the output failed, or 2 if the arguments or the script are refused.";
 
 /// What the arguments ask for.
 #[derive(Debug, Drop)]
@@ -146,7 +154,7 @@ fn texts<'a>(alloc: Global) -> Result<Command<'a>, AllocError>
     let command = Command::new(alloc, "records")
         .bin_name("records")?
         .about(ABOUT)
-        .after_help(COMMANDS);
+        .after_help(AFTER_HELP);
     Ok(command)
 }
 

@@ -43,6 +43,14 @@ Commands of a script:
   [\"reload_pp\"]                 the same with the indented text
 
 PATH is an array of keys and of indexes from 0; [] is the whole document.
+A command that is refused has a word as its reply, such as \"NoSuchPath\".
+
+Records, one for each line:
+  {\"replies\":[REPLY,...],\"document\":VALUE}       a document, as it is after the commands
+  {\"error\":KIND,\"index\":BYTE,\"character\":TEXT}   the first fault of a line that is no document
+  {\"error\":\"RepeatedKey\",\"path\":PATH,\"key\":KEY}  a repeated key, with --repeats refuse
+
+Exit status: 0, or 1 if memory, the input or the output failed, or 2 if the arguments or the script are refused.
 ";
 
 const NO_SCRIPT: &str = "\
