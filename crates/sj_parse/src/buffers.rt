@@ -116,9 +116,9 @@ impl Buffers {
     /// Returns the positions of the text that was scanned last: the indices, in bytes, at which its tokens begin. Port of
     /// `simd_json::Buffers::structural_indexes`.
     ///
-    /// They are empty before the first scan, after [`Buffers::release`], after a scan that found a fault (`InvalidUtf8`, `Eof`, or `Syntax` without a
-    /// character), and after one that lacked memory. A call that ends with `InputTooLarge` or `InsufficientPadding` scans
-    /// nothing and leaves them.
+    /// They are empty before the first scan, after [`Buffers::release`], after a scan that found a fault (`InvalidUtf8`,
+    /// `Eof`, or `Syntax` without a character), and after one that lacked memory. A call that ends with `InputTooLarge` or
+    /// `InsufficientPadding` scans nothing and leaves them.
     pub fn structural_indexes(&self) -> &[u32]
         ensures { result.now ≡ buffer_positions self.now }
     {

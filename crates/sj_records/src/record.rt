@@ -100,7 +100,8 @@ pub(crate) fn make_record<'de>(
     Ok(())
 }
 
-/// The most room, in bytes, that is kept for the next line of a line, of its record, and of each text of its reloads.
+/// The most room, in bytes, that is kept from one line to the next: for the line, for its record, and for each text of its
+/// reloads.
 const KEPT_TEXT: usize = 1 << 24;
 
 /// Empties a text, and gives back room that is more than what is kept. An indented text may be a thousand times as long as its
