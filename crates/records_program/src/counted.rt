@@ -19,7 +19,7 @@ pub(crate) trait Named {
     ghost name: { ℕ };
 }
 
-// The proof at a call picks the name.
+/// The proof at a call picks the name.
 impl Named for Brand {
     ghost name = { 0 };
 }

@@ -5,6 +5,7 @@ ghost use Rattle.sj_base.specs.inside.OutputLaws.{lists_continue};
 use crate::output::Output;
 use crate::place::{place_plain_key, place_quoted, place_text};
 use std::alloc::AllocError;
+use std::fmt::{self, Debug};
 
 const FIRST_STEP: usize = 256;
 
@@ -19,7 +20,7 @@ static ZEROS: [u8; LAST_STEP] = [0; LAST_STEP];
 pub struct TextBuffer {
     bytes: Vec<u8>,
     len: usize,
-    // How much room is made next. It doubles, so that a short text doesn't pay for the room of a long one.
+    /// How much room is made next. It doubles, so that a short text doesn't pay for the room of a long one.
     step: usize,
     ghost within: { len ≤ length bytes.items },
     ghost step_fits: { (0 < step) × (step ≤ 4096) },
@@ -95,6 +96,13 @@ impl TextBuffer {
             self.step = (self.step * 2).min(LAST_STEP);
         }
         Ok(())
+    }
+}
+
+/// Shows the text, without the room behind it.
+impl Debug for TextBuffer {
+    fn fmt<W: fmt::Write>(&self, f: &mut fmt::Formatter<W>) -> fmt::Result {
+        f.debug_tuple("TextBuffer").field(&self.as_bytes()).finish()
     }
 }
 

@@ -98,7 +98,7 @@ impl Layout {
         self.print_colon(out)
     }
 
-    // Prints the key between quotes. In the compact layout `put_plain_key` has declined it, so `put_plain` isn't asked.
+    /// Prints the key between quotes. In the compact layout `put_plain_key` has declined it, so `put_plain` isn't asked.
     #[inline(always)]
     fn print_quoted_key<O: Output>(self, key: &str, out: &mut O) -> Result<(), O::Fault>
         ensures { Prints O.appends O.begins result out.old out.new (quoted key.now) }
@@ -177,8 +177,8 @@ impl Container {
         }
     }
 
-    // Prints what `key` prints and returns `true`, or prints nothing and returns `false`. It is for the compact layout, and for
-    // keys that the output has a fast way for.
+    /// Prints what `key` prints and returns `true`, or prints nothing and returns `false`. It is for the compact layout, and for
+    /// keys that the output has a fast way for.
     #[inline(always)]
     fn print_plain_key<O: Output>(&self, key: &str, out: &mut O) -> Result<bool, O::Fault>
         ensures ok { IfOk result (λ done. O.appends out.old out.new (if done then before_value self.now key.now else [])) }

@@ -9,8 +9,8 @@ ghost use Rattle.sj_base.specs.inside.Plain.{IsPlain};
 
 use std::simd::Simd;
 
-// Stores the text between quotes and returns `true`, or returns `false` if a byte of it may need an escape. What is stored
-// then is of no use.
+/// Stores the text between quotes and returns `true`, or returns `false` if a byte of it may need an escape. What is stored
+/// then is of no use.
 #[inline(always)]
 pub(crate) fn place_quoted(buf: &mut [u8], at: usize, text: &[u8]) -> bool
     requires { at + (length text.now + 2) ≤ length buf.old }
@@ -26,8 +26,8 @@ pub(crate) fn place_quoted(buf: &mut [u8], at: usize, text: &[u8]) -> bool
     plain
 }
 
-// Stores the key between quotes, with a comma before it if `with_comma` and a colon after it, and returns `true`, or returns
-// `false` if a byte of the key may need an escape. A comma that isn't wanted is overwritten.
+/// Stores the key between quotes, with a comma before it if `with_comma` and a colon after it, and returns `true`, or returns
+/// `false` if a byte of the key may need an escape. A comma that isn't wanted is overwritten.
 #[inline(always)]
 pub(crate) fn place_plain_key(buf: &mut [u8], at: usize, with_comma: bool, key: &[u8]) -> bool
     requires { at + (length key.now + 4) ≤ length buf.old }
@@ -43,7 +43,7 @@ pub(crate) fn place_plain_key(buf: &mut [u8], at: usize, with_comma: bool, key: 
     plain
 }
 
-// Stores the text.
+/// Stores the text.
 #[inline(always)]
 pub(crate) fn place_text(buf: &mut [u8], at: usize, text: &[u8])
     requires { at + length text.now ≤ length buf.old }
@@ -57,8 +57,8 @@ pub(crate) fn place_text(buf: &mut [u8], at: usize, text: &[u8])
     }
 }
 
-// Stores the text and returns `true`, or returns `false` if a byte of it may need an escape. What is stored then is of no
-// use.
+/// Stores the text and returns `true`, or returns `false` if a byte of it may need an escape. What is stored then is of no
+/// use.
 #[inline(always)]
 fn place_plain(buf: &mut [u8], at: usize, text: &[u8]) -> bool
     requires { at + length text.now ≤ length buf.old }
@@ -74,7 +74,7 @@ fn place_plain(buf: &mut [u8], at: usize, text: &[u8]) -> bool
     }
 }
 
-// Stops at the first block with a byte that may need an escape.
+/// Stops at the first block with a byte that may need an escape.
 #[tactic(auto, using(crate::proofs::Blocks::plain_whole))]
 fn place_plain_long(buf: &mut [u8], at: usize, text: &[u8]) -> bool
     requires long { 32 < length text.now }
@@ -95,7 +95,7 @@ fn place_plain_long(buf: &mut [u8], at: usize, text: &[u8]) -> bool
     place_block::<32>(buf, at + last, text, last)
 }
 
-// Stores the text, and returns whether it is known that no byte of it needs an escape.
+/// Stores the text, and returns whether it is known that no byte of it needs an escape.
 #[tactic(auto, using(crate::proofs::Blocks::plain_whole))]
 #[inline(always)]
 fn place_short(buf: &mut [u8], at: usize, text: &[u8]) -> bool
@@ -135,7 +135,7 @@ fn place_ends<const N: usize>(buf: &mut [u8], at: usize, text: &[u8]) -> bool
     place_block::<N>(buf, at + last, text, last) & front
 }
 
-// Stores the N bytes from this place of the text on.
+/// Stores the N bytes from this place of the text on.
 #[inline(always)]
 fn place_block<const N: usize>(buf: &mut [u8], at: usize, text: &[u8], from: usize) -> bool
     requires lanes { N ≤ 64 }

@@ -122,7 +122,7 @@ pub(crate) fn print_string<O: Output>(out: &mut O, text: &str) -> Result<(), O::
     print_pieces(out, text)
 }
 
-// Prints the string between quotes, in as many pieces as its escapes ask for.
+/// Prints the string between quotes, in as many pieces as its escapes ask for.
 #[inline(never)]
 pub(crate) fn print_pieces<O: Output>(out: &mut O, text: &str) -> Result<(), O::Fault>
     ensures { Prints O.appends O.begins result out.old out.new (quoted text.now) }
@@ -140,7 +140,7 @@ pub(crate) fn print_break<O: Output>(out: &mut O, level: usize) -> Result<(), O:
     print_indent(out, level)
 }
 
-// Prints two spaces for each level, those of up to 32 levels at once.
+/// Prints two spaces for each level, those of up to 32 levels at once.
 fn print_indent<O: Output>(out: &mut O, level: usize) -> Result<(), O::Fault>
     ensures { Prints O.appends O.begins result out.old out.new (replicate (2 * level) 0x20) }
 {
@@ -153,7 +153,7 @@ fn print_indent<O: Output>(out: &mut O, level: usize) -> Result<(), O::Fault>
     Ok(())
 }
 
-// This and `print_int` are calls, so that `print_text` stays small enough to be inlined.
+/// This and `print_int` are calls, so that `print_text` stays small enough to be inlined.
 #[inline(never)]
 fn print_word<O: Output>(out: &mut O, word: &[u8]) -> Result<(), O::Fault>
     ensures { Prints O.appends O.begins result out.old out.new word.now }
@@ -169,7 +169,7 @@ fn print_int<O: Output, I: JsonInteger>(out: &mut O, n: I) -> Result<(), O::Faul
     out.put(buffer.format(n).as_bytes())
 }
 
-// Bytes that need no escape are copied in runs.
+/// Bytes that need no escape are copied in runs.
 fn print_runs<O: Output>(out: &mut O, text: &[u8]) -> Result<(), O::Fault>
     ensures { Prints O.appends O.begins result out.old out.new (flat_map escaped text.now) }
 {

@@ -60,7 +60,7 @@ impl StaticNode {
     }
 }
 
-// Integers are equal by their number, whichever carrier holds them.
+/// Integers are equal by their number, whichever carrier holds them.
 impl PartialEq for StaticNode {
     ghost eq = { static_eq };
 

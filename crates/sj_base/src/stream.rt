@@ -53,8 +53,8 @@ pub trait Sink {
         ensures err_counts { IfErr result (CountsErr (calls self.old) (calls self.new)) };
 }
 
-// The calls that were made, and those of each outcome that moved nothing, each with the number of bytes that it moved.
-#[derive(Drop)]
+/// The calls that were made, and those of each outcome that moved nothing, each with the number of bytes that it moved.
+#[derive(Debug, Drop)]
 struct Tally {
     made: Trace,
     failed: Trace,
@@ -103,7 +103,7 @@ impl Tally {
 }
 
 /// A reader as a [`Source`], or a writer as a [`Sink`]. The counts take no room at run time.
-#[derive(Drop)]
+#[derive(Debug, Drop)]
 pub struct Counted<T> {
     inner: T,
     tally: Tally,

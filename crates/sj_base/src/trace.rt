@@ -32,7 +32,7 @@ impl Trace {
         self.following(number)
     }
 
-    // The same, with a name for the list.
+    /// The same, with a name for the list.
     fn following(&self, number: usize) -> Trace
         ghost list: { List ℕ }
         requires { list ≡ self.now.list ++ number ∷ [] }
@@ -41,7 +41,7 @@ impl Trace {
         Trace::named()
     }
 
-    // A trace of whichever list the caller names.
+    /// A trace of whichever list the caller names.
     fn named() -> Trace
         ghost list: { List ℕ }
         ensures { result.list ≡ list }

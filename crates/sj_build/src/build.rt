@@ -19,19 +19,19 @@ use sj_tape::{Node, Tape, Value as TapeValue};
 use std::alloc::{AllocError, Global};
 use std::collections::BTreeSet;
 
-// The nodes after the one that is built, without those that a container has taken.
+/// The nodes after the one that is built, without those that a container has taken.
 #[derive(Drop)]
 struct Parts<'de, V> {
-    // The last one is the next. A text is a string or a key, as the container before it decides.
+    /// The last one is the next. A text is a string or a key, as the container before it decides.
     nodes: Vec<Node<'de>>,
-    // What was built of the containers among them.
+    /// What was built of the containers among them.
     built: Vec<V>,
 }
 
-// The most nodes for which a stack has room at first. The C library serves requests of that size from its cache.
+/// The most nodes for which a stack has room at first. The C library serves requests of that size from its cache.
 const FIRST_NODES: usize = 42;
 
-// No parts, with room for this many nodes, or for `FIRST_NODES` if that is fewer.
+/// No parts, with room for this many nodes, or for `FIRST_NODES` if that is fewer.
 fn no_parts<'de, V: BuildValue<'de, K> + Drop, K: MakeKey<'de> + Drop>(
     alloc: Global,
     count: usize,
@@ -44,7 +44,7 @@ fn no_parts<'de, V: BuildValue<'de, K> + Drop, K: MakeKey<'de> + Drop>(
     })
 }
 
-// Drops what was built of a node, if it is a container.
+/// Drops what was built of a node, if it is a container.
 #[inline(always)]
 fn skip<'de, V: BuildValue<'de, K> + Drop, K: MakeKey<'de> + Drop>(
     node: Node<'de>,
@@ -58,7 +58,7 @@ fn skip<'de, V: BuildValue<'de, K> + Drop, K: MakeKey<'de> + Drop>(
     }
 }
 
-// Drops the next part.
+/// Drops the next part.
 #[inline(always)]
 fn skip_part<'de, V: BuildValue<'de, K> + Drop, K: MakeKey<'de> + Drop>(parts: &mut Parts<'de, V>)
     ensures { stack V.tree parts.new ≡ drop 1 (stack V.tree parts.old) }
@@ -68,7 +68,7 @@ fn skip_part<'de, V: BuildValue<'de, K> + Drop, K: MakeKey<'de> + Drop>(parts: &
     }
 }
 
-// Takes the next part, and returns it if it is a text.
+/// Takes the next part, and returns it if it is a text.
 #[inline(always)]
 fn take_key<'de, V: BuildValue<'de, K> + Drop, K: MakeKey<'de> + Drop>(
     parts: &mut Parts<'de, V>,
@@ -86,7 +86,7 @@ fn take_key<'de, V: BuildValue<'de, K> + Drop, K: MakeKey<'de> + Drop>(
     }
 }
 
-// Moves the next part to the items, which have room. Each value is put in its place where it is made.
+/// Moves the next part to the items, which have room. Each value is put in its place where it is made.
 #[inline(always)]
 fn take_item<'de, V: BuildValue<'de, K> + Drop, K: MakeKey<'de> + Drop>(
     alloc: Global,
@@ -100,6 +100,7 @@ fn take_item<'de, V: BuildValue<'de, K> + Drop, K: MakeKey<'de> + Drop>(
     ensures len { OnOk result (length items.new.items ≡ length items.old.items + 1) }
     ensures room { vec_capacity items.new ≡ vec_capacity items.old }
 {
+    // The nodes list a tree, so the part is there, and so is what was built of it. A null would stand for one that isn't.
     match parts.nodes.pop().unwrap_or(Node::Static(StaticNode::Null)) {
         Node::String(text) => items.push_reserved(V::from_text(alloc, text)?),
         Node::Static(scalar) => items.push_reserved(V::from_static(alloc, scalar)?),
@@ -112,7 +113,7 @@ fn take_item<'de, V: BuildValue<'de, K> + Drop, K: MakeKey<'de> + Drop>(
     Ok(())
 }
 
-// Makes a list of the next parts.
+/// Makes a list of the next parts.
 fn take_list<'de, V: BuildValue<'de, K> + Drop, K: MakeKey<'de> + Drop>(
     alloc: Global,
     len: usize,
@@ -128,23 +129,23 @@ fn take_list<'de, V: BuildValue<'de, K> + Drop, K: MakeKey<'de> + Drop>(
     V::from_array(alloc, items)
 }
 
-// The most members of an object whose keys are looked up in the object itself.
+/// The most members of an object whose keys are looked up in the object itself.
 const FEW_MEMBERS: usize = 1024;
 
-// The number of marks.
+/// The number of marks.
 const MARKS: usize = 64;
 
-// The keys that were met.
+/// The keys that were met.
 #[derive(Drop)]
 struct MetKeys<'de> {
-    // For each mark, whether a key has it, where no set lists the keys. A key of a new mark is new.
+    /// For each mark, whether a key has it, where no set lists the keys. A key of a new mark is new.
     marks: [bool; MARKS],
-    // The keys, where a set lists them.
+    /// The keys, where a set lists them.
     listed: Option<BTreeSet<&'de str>>,
 }
 
-// No keys met yet. An object of more than `FEW_MEMBERS` members has them in a set: keys that share a hash stand in one chain of
-// the object's table, and to look up each of them takes time that grows with the square of their number.
+/// No keys met yet. An object of more than `FEW_MEMBERS` members has them in a set: keys that share a hash stand in one chain of
+/// the object's table, and to look up each of them takes time that grows with the square of their number.
 fn no_keys<'de>(alloc: Global, len: usize) -> MetKeys<'de>
     ensures knows { Knows result no_members }
     ensures listed { IsSome result.listed ↔ (FEW_MEMBERS < len) }
@@ -160,7 +161,7 @@ fn no_keys<'de>(alloc: Global, len: usize) -> MetKeys<'de>
     }
 }
 
-// The mark of a key, by its length and its first and its last byte.
+/// The mark of a key, by its length and its first and its last byte.
 fn mark_of(key: &str) -> usize
     ensures mark { result ≡ mark_of key.now }
     ensures within { result < MARKS }
@@ -172,7 +173,7 @@ fn mark_of(key: &str) -> usize
     (3 * (bytes.len() % MARKS) + usize::from(*first) + 8 * usize::from(*last)) % MARKS
 }
 
-// Whether a member has the key, which counts as met from now on.
+/// Whether a member has the key, which counts as met from now on.
 #[inline(always)]
 fn meet<'de, V: BuildValue<'de, K> + Drop, K: MakeKey<'de> + Drop>(
     key: &'de str,
@@ -195,7 +196,7 @@ fn meet<'de, V: BuildValue<'de, K> + Drop, K: MakeKey<'de> + Drop>(
     }
 }
 
-// Puts a member last, whose key no member has, and for which there is room.
+/// Puts a member last, whose key no member has, and for which there is room.
 #[inline(always)]
 fn put_new<'de, V: BuildValue<'de, K> + Drop, K: MakeKey<'de> + Drop>(
     key: K,
@@ -212,7 +213,7 @@ fn put_new<'de, V: BuildValue<'de, K> + Drop, K: MakeKey<'de> + Drop>(
     members.push_reserved(key, value);
 }
 
-// Puts a member last as `put_new` does, with the value of the next part. Each value is put in its place where it is made.
+/// Puts a member last as `put_new` does, with the value of the next part. Each value is put in its place where it is made.
 #[inline(always)]
 fn put_part<'de, V: BuildValue<'de, K> + Drop, K: MakeKey<'de> + Drop>(
     alloc: Global,
@@ -228,6 +229,7 @@ fn put_part<'de, V: BuildValue<'de, K> + Drop, K: MakeKey<'de> + Drop>(
     ensures members { OnOk result (AreMembers K.text members.new) }
     ensures rest { OnOk result (stack V.tree parts.new ≡ drop 1 (stack V.tree parts.old)) }
 {
+    // As in `take_item`, a null would stand for a part that isn't there.
     match parts.nodes.pop().unwrap_or(Node::Static(StaticNode::Null)) {
         Node::String(text) => put_new(key, V::from_text(alloc, text)?, members),
         Node::Static(scalar) => put_new(key, V::from_static(alloc, scalar)?, members),
@@ -240,7 +242,7 @@ fn put_part<'de, V: BuildValue<'de, K> + Drop, K: MakeKey<'de> + Drop>(
     Ok(())
 }
 
-// Makes room for a member, and puts it last. No member has its key, and its value is that of the next part.
+/// Makes room for a member, and puts it last. No member has its key, and its value is that of the next part.
 #[inline(always)]
 fn add_part<'de, V: BuildValue<'de, K> + Drop, K: MakeKey<'de> + Drop>(
     alloc: Global,
@@ -260,8 +262,8 @@ fn add_part<'de, V: BuildValue<'de, K> + Drop, K: MakeKey<'de> + Drop>(
     put_part(alloc, key, parts, members)
 }
 
-// Moves the next two parts, a key and a value, to the members, unless there is a member with that key. After an error the key may
-// count as met, though no member has it.
+/// Moves the next two parts, a key and a value, to the members, unless there is a member with that key. After an error the key may
+/// count as met, though no member has it.
 #[inline(always)]
 fn take_member<'de, V: BuildValue<'de, K> + Drop, K: MakeKey<'de> + Drop>(
     alloc: Global,
@@ -288,7 +290,7 @@ fn take_member<'de, V: BuildValue<'de, K> + Drop, K: MakeKey<'de> + Drop>(
     add_part(alloc, key, parts, members)
 }
 
-// Makes an object of the next parts, a key and a value for each member.
+/// Makes an object of the next parts, a key and a value for each member.
 fn take_object<'de, V: BuildValue<'de, K> + Drop, K: MakeKey<'de> + Drop>(
     alloc: Global,
     len: usize,
@@ -306,7 +308,7 @@ fn take_object<'de, V: BuildValue<'de, K> + Drop, K: MakeKey<'de> + Drop>(
     V::from_object(alloc, members)
 }
 
-// Builds the value of a node. A container takes its parts.
+/// Builds the value of a node. A container takes its parts.
 #[inline(always)]
 fn build<'de, V: BuildValue<'de, K> + Drop, K: MakeKey<'de> + Drop>(
     alloc: Global,
@@ -325,7 +327,7 @@ fn build<'de, V: BuildValue<'de, K> + Drop, K: MakeKey<'de> + Drop>(
     }
 }
 
-// Puts a container and its value before the parts.
+/// Puts a container and its value before the parts.
 #[inline(always)]
 fn put_container<'de, V: BuildValue<'de, K> + Drop, K: MakeKey<'de> + Drop>(
     node: Node<'de>,
@@ -340,7 +342,7 @@ fn put_container<'de, V: BuildValue<'de, K> + Drop, K: MakeKey<'de> + Drop>(
     Ok(())
 }
 
-// Puts a node before the parts. A container takes its own from them, and is built.
+/// Puts a node before the parts. A container takes its own from them, and is built.
 #[inline(always)]
 fn place<'de, V: BuildValue<'de, K> + Drop, K: MakeKey<'de> + Drop>(
     alloc: Global,
@@ -388,10 +390,10 @@ pub fn build_value<'de, V: BuildValue<'de, K> + Drop, K: MakeKey<'de> + Drop>(
     V::from_static(alloc, StaticNode::Null)
 }
 
-// The most nodes whose room is kept until the end.
+/// The most nodes whose room is kept until the end.
 const KEPT_NODES: usize = 1 << 16;
 
-// Gives back the room of many nodes once half of it is free.
+/// Gives back the room of many nodes once half of it is free.
 fn release(nodes: &mut Vec<Node<'_>>)
     ensures { nodes.new.items ≡ nodes.old.items }
 {

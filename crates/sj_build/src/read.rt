@@ -60,7 +60,7 @@ pub fn deserialize_with_buffers<'de, V: BuildValue<'de, K> + Drop, K: MakeKey<'d
     build_document(alloc, tape)
 }
 
-// Builds the document of a tape.
+/// Builds the document of a tape.
 fn build_document<'de, V: BuildValue<'de, K> + Drop, K: MakeKey<'de> + Drop>(
     alloc: Global,
     tape: Tape<'de>,

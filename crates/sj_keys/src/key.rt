@@ -44,7 +44,7 @@ impl<'k> KnownKey<'k> {
         &self.key
     }
 
-    // A key with the same text, for objects.
+    /// A key with the same text, for objects.
     pub(crate) fn to_key<K: FromString>(&self, alloc: Global) -> Result<K, KnownKeyError>
         ensures ok { IfOk result (λ key. K.text key ≡ cow_str_bytes self.now) }
         ensures err { IfErr result (λ e. e ≡ KnownKeyError.Memory) }

@@ -80,7 +80,7 @@ impl<K: FromString + Drop, V: Drop> KnownKeyTargetMut for Object<K, V> {
     }
 }
 
-// Puts a new key last, with the value that `with` returns, and returns that value for writing.
+/// Puts a new key last, with the value that `with` returns, and returns that value for writing.
 fn insert_new<'t, K: FromString + Drop, V: Drop, F: FnOnce() -> V + Drop>(
     object: &'t mut Object<K, V>,
     alloc: Global,

@@ -231,7 +231,7 @@ impl<'b, 't, 'i> Value<'b, 't, 'i> {
     ghost use Rattle.sj_lazy.specs.Parts.{array_contents, array_in, object_contents, object_in};
     ghost use Rattle.sj_lazy.specs.Upgrade.{owns};
 
-    // As `as_array`, of a part of a tape or of a document.
+    /// As `as_array`, of a part of a tape or of a document.
     fn into_array(self) -> Option<Array<'b, 't, 'i>>
         requires { owns self ≡ false }
         ensures { option_map array_contents result ≡ array_in (contents self.entry) }
@@ -243,7 +243,7 @@ impl<'b, 't, 'i> Value<'b, 't, 'i> {
         }
     }
 
-    // As `as_object`, of a part of a tape or of a document.
+    /// As `as_object`, of a part of a tape or of a document.
     fn into_object(self) -> Option<Object<'b, 't, 'i>>
         requires { owns self ≡ false }
         ensures { option_map object_contents result ≡ object_in (contents self.entry) }
@@ -256,7 +256,7 @@ impl<'b, 't, 'i> Value<'b, 't, 'i> {
     }
 }
 
-// Whether there is a value, which is dropped.
+/// Whether there is a value, which is dropped.
 pub(crate) fn is_there<T: Drop>(found: Option<T>) -> bool
     ensures { result ≡ is_some found }
 {

@@ -27,7 +27,7 @@ use sj_tape::{Array as TapeArray, Object as TapeObject, Value as TapeValue};
 use sj_values::BorrowedValue;
 use std::borrow::CowStr;
 
-// The document of a scalar, which borrows its text.
+/// The document of a scalar, which borrows its text.
 pub(crate) fn document_of(scalar: Scalar<'_>) -> BorrowedValue<'_>
     ensures { document_tree result ≡ scalar_tree scalar.entry }
 {
@@ -38,7 +38,7 @@ pub(crate) fn document_of(scalar: Scalar<'_>) -> BorrowedValue<'_>
     }
 }
 
-// Returns `true` if the value is a scalar that is equal to this one.
+/// Returns `true` if the value is a scalar that is equal to this one.
 fn is_scalar(value: &Value<'_, '_, '_>, scalar: Scalar<'_>) -> bool
     ensures { result ≡ kept_alike (scalar_tree scalar.entry) (lazy_tree value.now) }
 {
@@ -48,7 +48,7 @@ fn is_scalar(value: &Value<'_, '_, '_>, scalar: Scalar<'_>) -> bool
     }
 }
 
-// Returns `true` if one of the first `count` members has this key.
+/// Returns `true` if one of the first `count` members has this key.
 fn is_among(members: &TapeObject<'_, '_>, count: usize, name: &str) -> bool
     ensures { result ≡ among (first_keys count (tape_members members.now)) name.now }
 {
@@ -67,7 +67,7 @@ fn is_among(members: &TapeObject<'_, '_>, count: usize, name: &str) -> bool
     false
 }
 
-// Returns how many members, counted from the first, have the same keys on both sides in the same order.
+/// Returns how many members, counted from the first, have the same keys on both sides in the same order.
 fn same_front(members: &TapeObject<'_, '_>, others: &Object<'_, '_, '_>) -> usize
     ensures { first_keys result (tape_members members.now) ≡ first_keys result (object_members others.now) }
 {
@@ -81,7 +81,7 @@ fn same_front(members: &TapeObject<'_, '_>, others: &Object<'_, '_, '_>) -> usiz
     members.len()
 }
 
-// Returns the members behind the next one with this key, or `None` if no member has it.
+/// Returns the members behind the next one with this key, or `None` if no member has it.
 fn members_behind<'t, 'i>(members: TapeObject<'t, 'i>, name: &str) -> Option<TapeObject<'t, 'i>>
     ensures found { is_some result ≡ is_some (member_at (tape_members members.entry) name.now) }
     ensures within { IfSome result (λ rest. (all : Members) → keys_within (tape_members members.entry) all ≡ true → keys_within (tape_members rest) all ≡ true) }
@@ -96,8 +96,8 @@ fn members_behind<'t, 'i>(members: TapeObject<'t, 'i>, name: &str) -> Option<Tap
     None
 }
 
-// Returns `true` if each of these keys has a member. A key is looked for behind the member of the key before, and only then
-// from the first member on.
+/// Returns `true` if each of these keys has a member. A key is looked for behind the member of the key before, and only then
+/// from the first member on.
 fn are_found(keys: Keys<'_, '_, '_>, members: &TapeObject<'_, '_>) -> bool
     ensures { result ≡ all_found (keys_left keys.entry) (tape_members members.now) }
 {
@@ -112,8 +112,8 @@ fn are_found(keys: Keys<'_, '_, '_>, members: &TapeObject<'_, '_>) -> bool
     true
 }
 
-// Returns `true` if each key of the others has a member. The first `front` members have the same keys on both sides in the same
-// order, so keys are looked for only if the others have more.
+/// Returns `true` if each key of the others has a member. The first `front` members have the same keys on both sides in the same
+/// order, so keys are looked for only if the others have more.
 fn are_all_found(front: usize, others: &Object<'_, '_, '_>, members: &TapeObject<'_, '_>) -> bool
     requires { first_keys front (tape_members members.now) ≡ first_keys front (object_members others.now) }
     ensures { result ≡ all_found (map (λ p. p.0) (member_pairs (object_members others.now))) (tape_members members.now) }
@@ -144,7 +144,7 @@ fn same_view(view: &TapeValue<'_, '_>, other: &Value<'_, '_, '_>) -> bool
     }
 }
 
-// Returns `true` if there is a value and it is equal to the part of a tape.
+/// Returns `true` if there is a value and it is equal to the part of a tape.
 #[cycle(same)]
 fn same_next(view: &TapeValue<'_, '_>, next: Option<Value<'_, '_, '_>>) -> bool
     ensures { result ≡ next_alike (value_tree view.now) (option_map lazy_tree next.entry) }
@@ -173,8 +173,8 @@ fn same_items(items: TapeArray<'_, '_>, others: Array<'_, '_, '_>) -> bool
     true
 }
 
-// As long as the keys come in the same order on both sides, the next value there is the one to compare, and no key is looked
-// up. Whether a key is a repeat is asked only where values differ, since few objects repeat one.
+/// As long as the keys come in the same order on both sides, the next value there is the one to compare, and no key is looked
+/// up. Whether a key is a repeat is asked only where values differ, since few objects repeat one.
 #[cycle(same)]
 fn same_members(members: TapeObject<'_, '_>, others: Object<'_, '_, '_>) -> bool
     ensures { result ≡ kept_alike (object (tape_members members.entry)) (object (object_members others.entry)) }

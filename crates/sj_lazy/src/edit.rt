@@ -61,7 +61,7 @@ impl<T, B, D> TapeOrDocument<T, B, D> {
     ghost use Rattle.sj_lazy.specs.Contents.{own_document};
     ghost use Rattle.sj_lazy.specs.Lends.{lends_own_document};
 
-    // The document for writing, if the value owns one.
+    /// The document for writing, if the value owns one.
     #[inline]
     fn owned_mut(&mut self) -> Option<&mut D>
         ensures* writes_back { sem 𝓛 (lends_own_document T.row B.row D.row self.entry result) }
@@ -78,7 +78,7 @@ impl<T: ToDocument<D> + Drop, B: ToDocument<D> + Drop, D: Drop> TapeOrDocument<T
     ghost use Rattle.sj_lazy.specs.Lends.{lends_document};
     ghost use Rattle.sj_lazy.specs.Upgrade.{OwnsSuch, UpgradesBy, owns};
 
-    // Returns a document of what the value holds, for which memory is taken.
+    /// Returns a document of what the value holds, for which memory is taken.
     pub(crate) fn document(&self, alloc: Global) -> Result<D, AllocError>
         requires { owns self.now ≡ false }
         ensures { IfOk result (UpgradesBy T.makes B.makes self.now) }
@@ -90,7 +90,7 @@ impl<T: ToDocument<D> + Drop, B: ToDocument<D> + Drop, D: Drop> TapeOrDocument<T
         }
     }
 
-    // Makes the value a document of its own.
+    /// Makes the value a document of its own.
     fn upgrade(&mut self, alloc: Global) -> Result<(), AllocError>
         ensures ok { OnOk result (OwnsSuch (UpgradesBy T.makes B.makes self.old) self.new) }
         ensures unchanged { OnErr result (self.new ≡ self.old) }

@@ -33,7 +33,7 @@ impl<'i> Held<&BorrowedValue<'i>, BorrowedValue<'i>> {
 }
 
 impl<B, D> Held<B, D> {
-    // The document for writing, if it is owned.
+    /// The document for writing, if it is owned.
     #[inline]
     pub(crate) fn owned_mut(&mut self) -> Option<&mut D>
         ensures* writes_back { sem 𝓛 (lends_owned B.row D.row self.entry result) }

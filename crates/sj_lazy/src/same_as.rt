@@ -131,7 +131,7 @@ impl<U: LazyComparand> LazyComparand for HashMap<String, U> {
     }
 }
 
-// Returns `true` if there is a value and it equals the other one.
+/// Returns `true` if there is a value and it equals the other one.
 fn equals_found<U: LazyComparand>(value: &U, found: Option<Value<'_, '_, '_>>) -> bool
     ensures { IsTrue result ↔ IsSomeAnd (option_map lazy_tree found.entry) (U.equals value.now) }
 {

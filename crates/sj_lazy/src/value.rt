@@ -44,7 +44,7 @@ impl<'b, 't, 'i> Value<'b, 't, 'i> {
         Value::Tape(tape)
     }
 
-    // A lazy value of a part of a document.
+    /// A lazy value of a part of a document.
     pub(crate) fn borrowed(document: &'b BorrowedValue<'i>) -> Self
         ensures part { contents result ≡ of_document document.now }
         ensures held { owns result ≡ false }
@@ -52,7 +52,7 @@ impl<'b, 't, 'i> Value<'b, 't, 'i> {
         Value::Value(Held::Borrowed(document))
     }
 
-    // A part of a tape, if one was found, as a lazy value.
+    /// A part of a tape, if one was found, as a lazy value.
     pub(crate) fn of_tape(found: Option<TapeValue<'t, 'i>>) -> Option<Self>
         ensures tree { option_map lazy_tree result ≡ option_map value_tree found.entry }
         ensures part { option_map contents result ≡ option_map of_nodes (option_map value_nodes found.entry) }
@@ -61,7 +61,7 @@ impl<'b, 't, 'i> Value<'b, 't, 'i> {
         Some(Value::Tape(found?))
     }
 
-    // A part of a document, if one was found, as a lazy value.
+    /// A part of a document, if one was found, as a lazy value.
     pub(crate) fn of_document(found: Option<&'b BorrowedValue<'i>>) -> Option<Self>
         ensures tree { option_map lazy_tree result ≡ option_map (λ d. document_tree d.now) found.entry }
         ensures part { option_map contents result ≡ option_map of_document (option_copied found.entry) }
@@ -70,7 +70,7 @@ impl<'b, 't, 'i> Value<'b, 't, 'i> {
         Some(Value::borrowed(found?))
     }
 
-    // A lazy value with this document of its own.
+    /// A lazy value with this document of its own.
     pub(crate) fn owned(document: BorrowedValue<'i>) -> Self
         ensures { OwnsSuch (λ d. d ≡ document.entry) result }
     {

@@ -8,6 +8,7 @@ use crate::key::ObjectKey;
 use crate::object::Object;
 use crate::pairs::Pairs;
 use std::alloc::{AllocError, Global};
+use std::fmt::{self, Debug};
 
 /// Pairs that are put together one by one, of which [`Object::from_members`] makes an object.
 ///
@@ -71,6 +72,17 @@ impl<K: ObjectKey, V> Members<K, V> {
         ensures members { AreMembers K.text self.new }
     {
         self.pairs.push(None, Entry { key, value });
+    }
+}
+
+/// Shows the pairs as a map, in their order.
+impl<K: Debug, V: Debug> Debug for Members<K, V> {
+    fn fmt<W: fmt::Write>(&self, f: &mut fmt::Formatter<W>) -> fmt::Result {
+        let mut out = f.debug_map();
+        for entry in self.pairs.entries() {
+            out.entry(&entry.key, &entry.value);
+        }
+        out.finish()
     }
 }
 

@@ -101,7 +101,7 @@ impl<K: ObjectKey, V> Object<K, V> {
         self.place_by(None, key)
     }
 
-    // As `place`. `hash` is the key's hash, if it is known.
+    /// As `place`. `hash` is the key's hash, if it is known.
     pub(crate) fn place_by(&self, hash: Option<u64>, key: &str) -> Option<usize>
         requires { IfSome hash (λ known. known ≡ text_hash key.now) }
         ensures { result ≡ place_of K.text self.now key.now }
@@ -116,7 +116,7 @@ impl<K: ObjectKey, V> Object<K, V> {
         self.value_by(None, key)
     }
 
-    // As `get`. `hash` is the key's hash, if it is known.
+    /// As `get`. `hash` is the key's hash, if it is known.
     pub(crate) fn value_by(&self, hash: Option<u64>, key: &str) -> Option<&V>
         requires { IfSome hash (λ known. known ≡ text_hash key.now) }
         ensures { option_copied result ≡ value_at K.text self.now key.now }
@@ -133,7 +133,7 @@ impl<K: ObjectKey, V> Object<K, V> {
         self.value_mut_by(None, key)
     }
 
-    // As `get_mut`. `hash` is the key's hash, if it is known.
+    /// As `get_mut`. `hash` is the key's hash, if it is known.
     pub(crate) fn value_mut_by(&mut self, hash: Option<u64>, key: &str) -> Option<&mut V>
         requires { IfSome hash (λ known. known ≡ text_hash key.now) }
         ensures* writes_back { sem 𝓛 (lends_value K.row V.row K.ObjectKey self.entry key.now result) }
@@ -145,7 +145,7 @@ impl<K: ObjectKey, V> Object<K, V> {
         }
     }
 
-    // The value of the pair at this place.
+    /// The value of the pair at this place.
     pub(crate) fn value_mut(&mut self, at: usize) -> &mut V
         requires { at < length self.old }
         ensures* writes_back { sem 𝓛 (lends_place K.row V.row K.ObjectKey self.entry at result) }
@@ -185,7 +185,7 @@ impl<K: ObjectKey, V> Object<K, V> {
         self.insert_by(hash, key, value)
     }
 
-    // The key's hash, if there is a table, so that an insertion computes it once.
+    /// The key's hash, if there is a table, so that an insertion computes it once.
     fn hash_for_table(&self, key: &str) -> Option<u64>
         ensures { IfSome result (λ hash. hash ≡ text_hash key.now) }
     {
@@ -195,7 +195,7 @@ impl<K: ObjectKey, V> Object<K, V> {
         }
     }
 
-    // As `insert`. `hash` is the key's hash, if it is known.
+    /// As `insert`. `hash` is the key's hash, if it is known.
     pub(crate) fn insert_by(
         &mut self,
         hash: Option<u64>,
@@ -236,7 +236,7 @@ impl<K: ObjectKey, V> Object<K, V> {
         self.push_by(None, key, value)
     }
 
-    // As `push_new`. `hash` is the key's hash, if it is known.
+    /// As `push_new`. `hash` is the key's hash, if it is known.
     fn push_by(&mut self, hash: Option<u64>, key: K, value: V) -> Result<(), Refused<K, V>>
     where
         K: Drop,
@@ -299,7 +299,7 @@ impl<K: ObjectKey, V> Object<K, V> {
         Iter::new(self.entries())
     }
 
-    // The pairs.
+    /// The pairs.
     pub(crate) fn entries(&self) -> &Vec<Entry<K, V>>
         ensures { result.now.items ≡ self.now }
     {

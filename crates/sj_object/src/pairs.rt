@@ -16,9 +16,9 @@ use std::mem;
 
 #[derive(Drop)]
 pub(crate) enum Pairs<K, V> {
-    // At most `LIST_MAX` pairs, which are looked up one by one.
+    /// At most `LIST_MAX` pairs, which are looked up one by one.
     Listed(Vec<Entry<K, V>>),
-    // Any number of pairs, with a hash table.
+    /// Any number of pairs, with a hash table.
     Hashed(Box<HashedPairs<K, V>>),
 }
 
@@ -28,7 +28,7 @@ pub(crate) struct HashedPairs<K, V> {
     table: Table,
 }
 
-// The most pairs that need no table.
+/// The most pairs that need no table.
 const LIST_MAX: usize = 32;
 
 impl<K, V> Pairs<K, V> {
@@ -52,7 +52,7 @@ impl<K, V> Pairs<K, V> {
 }
 
 impl<K: ObjectKey, V> Pairs<K, V> {
-    // Returns pairs whose keys are those of `self`, in their order. They get a copy of its table, if it has one.
+    /// Returns pairs whose keys are those of `self`, in their order. They get a copy of its table, if it has one.
     pub(crate) fn with_entries(&self, entries: Vec<Entry<K, V>>) -> Result<Pairs<K, V>, AllocError>
     where
         K: Drop,
@@ -71,7 +71,7 @@ impl<K: ObjectKey, V> Pairs<K, V> {
         Ok(Pairs::Hashed(Box::new(alloc, HashedPairs { entries, table })?))
     }
 
-    // Returns the place of this key. `hash` is its hash, if that is known.
+    /// Returns the place of this key. `hash` is its hash, if that is known.
     pub(crate) fn place(&self, hash: Option<u64>, key: &str) -> Option<usize>
         requires indexed { AreIndexed K.text self.now }
         requires hash { IfSome hash (λ known. known ≡ text_hash key.now) }
@@ -83,7 +83,7 @@ impl<K: ObjectKey, V> Pairs<K, V> {
         }
     }
 
-    // Makes room for one more pair. The one after the first `LIST_MAX` needs a table, which is made here.
+    /// Makes room for one more pair. The one after the first `LIST_MAX` needs a table, which is made here.
     #[inline(always)]
     pub(crate) fn make_room(&mut self) -> Result<(), AllocError>
     where
@@ -109,7 +109,7 @@ impl<K: ObjectKey, V> Pairs<K, V> {
         }
     }
 
-    // Puts a pair last, for which there is room. `hash` is the hash of its key, if that is known.
+    /// Puts a pair last, for which there is room. `hash` is the hash of its key, if that is known.
     #[inline(always)]
     pub(crate) fn push(&mut self, hash: Option<u64>, entry: Entry<K, V>)
         requires found { IsFound K.text self.old }
@@ -125,7 +125,7 @@ impl<K: ObjectKey, V> Pairs<K, V> {
         }
     }
 
-    // Puts a pair at a place, for which there is room.
+    /// Puts a pair at a place, for which there is room.
     pub(crate) fn insert(&mut self, place: usize, entry: Entry<K, V>)
     where
         K: Drop,
@@ -143,7 +143,7 @@ impl<K: ObjectKey, V> Pairs<K, V> {
         }
     }
 
-    // Takes the pair at a place out. The pairs after it close up.
+    /// Takes the pair at a place out. The pairs after it close up.
     pub(crate) fn remove(&mut self, place: usize) -> Entry<K, V>
         requires within { place < length (stored self.old).items }
         requires found { IsFound K.text self.old }
@@ -159,7 +159,7 @@ impl<K: ObjectKey, V> Pairs<K, V> {
     }
 }
 
-// Puts an item at a place of a vector that has room for it.
+/// Puts an item at a place of a vector that has room for it.
 pub(crate) fn insert_reserved<T: Drop>(items: &mut Vec<T>, place: usize, item: T)
     requires within { place ≤ length items.old.items }
     requires room { length items.old.items < vec_capacity items.old }
@@ -172,8 +172,8 @@ pub(crate) fn insert_reserved<T: Drop>(items: &mut Vec<T>, place: usize, item: T
 }
 
 impl<K: ObjectKey, V> HashedPairs<K, V> {
-    // Takes the pairs out of a vector, and makes a table for them that has room as the vector has it. After an error they are in
-    // the vector.
+    /// Takes the pairs out of a vector, and makes a table for them that has room as the vector has it. After an error they are in
+    /// the vector.
     fn take(entries: &mut Vec<Entry<K, V>>) -> Result<Box<HashedPairs<K, V>>, AllocError>
     where
         K: Drop,
@@ -199,7 +199,7 @@ impl<K: ObjectKey, V> HashedPairs<K, V> {
         }
     }
 
-    // Makes room for one more pair.
+    /// Makes room for one more pair.
     fn make_room(&mut self) -> Result<(), AllocError>
         requires { IsTable self.old.table (keys_of K.text self.old.entries.items) }
         ensures pairs { self.new.entries.items ≡ self.old.entries.items }
@@ -214,7 +214,7 @@ impl<K: ObjectKey, V> HashedPairs<K, V> {
         Ok(())
     }
 
-    // Puts a pair last, for which there is room. `hash` is the hash of its key, if that is known.
+    /// Puts a pair last, for which there is room. `hash` is the hash of its key, if that is known.
     #[inline(always)]
     fn push(&mut self, hash: Option<u64>, entry: Entry<K, V>)
         requires table { IsTable self.old.table (keys_of K.text self.old.entries.items) }
@@ -229,7 +229,7 @@ impl<K: ObjectKey, V> HashedPairs<K, V> {
         self.entries.push_reserved(entry);
     }
 
-    // Puts a pair at a place, for which there is room.
+    /// Puts a pair at a place, for which there is room.
     fn insert(&mut self, place: usize, entry: Entry<K, V>)
     where
         K: Drop,
@@ -245,7 +245,7 @@ impl<K: ObjectKey, V> HashedPairs<K, V> {
         insert_reserved(&mut self.entries, place, entry);
     }
 
-    // Takes the pair at a place out. The pairs after it close up.
+    /// Takes the pair at a place out. The pairs after it close up.
     fn remove(&mut self, place: usize) -> Entry<K, V>
         requires within { place < length self.old.entries.items }
         requires table { IsTable self.old.table (keys_of K.text self.old.entries.items) }

@@ -17,28 +17,28 @@ use crate::pairs::insert_reserved;
 use std::alloc::{AllocError, Global};
 use std::mem;
 
-// What the table keeps of a pair.
+/// What the table keeps of a pair.
 #[derive(Clone, Copy)]
 struct Link {
-    // The hash of its key.
+    /// The hash of its key.
     hash: u64,
-    // The place of the pair that came before it in its chain.
+    /// The place of the pair that came before it in its chain.
     next: Option<usize>,
 }
 
 #[derive(Drop)]
 pub(crate) struct Table {
-    // The places at which the chains begin.
+    /// The places at which the chains begin.
     heads: Vec<Option<usize>>,
-    // One for each pair, in order.
+    /// One for each pair, in order.
     links: Vec<Link>,
 }
 
-// 2^64 by the golden ratio, as an odd number. A product with it depends in its high bits on all bits of a hash, whose own high
-// bits are 0 for a short key.
+/// 2^64 by the golden ratio, as an odd number. A product with it depends in its high bits on all bits of a hash, whose own high
+/// bits are 0 for a short key.
 const MIX: u64 = 0x9e37_79b9_7f4a_7c15;
 
-// Returns `true` if the pair at this place has the key.
+/// Returns `true` if the pair at this place has the key.
 fn has_key<K: ObjectKey, V>(entries: &[Entry<K, V>], place: usize, key: &str) -> bool
     ensures { result ≡ has_key K.text entries.now place key.now }
 {
@@ -48,7 +48,7 @@ fn has_key<K: ObjectKey, V>(entries: &[Entry<K, V>], place: usize, key: &str) ->
     }
 }
 
-// Looks for the key, whose hash is given, from this place on.
+/// Looks for the key, whose hash is given, from this place on.
 fn seek<K: ObjectKey, V>(
     links: &[Link],
     start: Option<usize>,
@@ -74,7 +74,7 @@ fn seek<K: ObjectKey, V>(
 }
 
 impl Table {
-    // Returns a table without pairs that has room for this many.
+    /// Returns a table without pairs that has room for this many.
     fn with_room(alloc: Global, pairs: usize) -> Result<Table, AllocError>
         requires { 0 < pairs }
         ensures empty { IfOk result (λ table. IsTable table []) }
@@ -86,7 +86,7 @@ impl Table {
         Ok(Table { heads, links })
     }
 
-    // Returns the table of these pairs, with room for as many as the vector has room for.
+    /// Returns the table of these pairs, with room for as many as the vector has room for.
     pub(crate) fn of<K: ObjectKey, V>(
         alloc: Global,
         entries: &Vec<Entry<K, V>>,
@@ -100,7 +100,7 @@ impl Table {
         Ok(made)
     }
 
-    // Returns a copy.
+    /// Returns a copy.
     pub(crate) fn try_clone(&self, alloc: Global) -> Result<Table, AllocError>
         ensures { IfOk result (λ table. (ks : List (List ℕ)) → IsTable self.now ks → IsTable table ks) }
     {
@@ -109,7 +109,7 @@ impl Table {
         Ok(Table { heads, links })
     }
 
-    // Puts all pairs into a table without pairs.
+    /// Puts all pairs into a table without pairs.
     fn fill<K: ObjectKey, V>(&mut self, entries: &[Entry<K, V>])
         requires empty { IsTable self.old [] }
         requires room { HasRoomFor (length entries.now) self.old }
@@ -121,7 +121,7 @@ impl Table {
         }
     }
 
-    // Makes room for this many pairs, which are more than there are.
+    /// Makes room for this many pairs, which are more than there are.
     pub(crate) fn make_room(&mut self, pairs: usize) -> Result<(), AllocError>
         requires { length self.old.links.items < pairs }
         ensures table { (ks : List (List ℕ)) → IsTable self.old ks → IsTable self.new ks }
@@ -133,7 +133,7 @@ impl Table {
         Ok(())
     }
 
-    // Puts a pair into the table at a place. The places of the pairs after it go up by one.
+    /// Puts a pair into the table at a place. The places of the pairs after it go up by one.
     pub(crate) fn insert(&mut self, place: usize, hash: u64)
         requires within { place ≤ length self.old.links.items }
         requires room { HasRoomFor (length self.old.links.items + 1) self.old }
@@ -148,7 +148,7 @@ impl Table {
         }
     }
 
-    // Takes the pair at a place out of the table. The places of the pairs after it go down by one.
+    /// Takes the pair at a place out of the table. The places of the pairs after it go down by one.
     pub(crate) fn remove(&mut self, place: usize)
         requires within { place < length self.old.links.items }
         requires some { 0 < length self.old.heads.items }
@@ -164,7 +164,7 @@ impl Table {
         }
     }
 
-    // Makes the chains anew, of the hashes that the table keeps.
+    /// Makes the chains anew, of the hashes that the table keeps.
     fn relink(&mut self)
         requires { 0 < length self.old.heads.items }
         ensures table { (ks : List (List ℕ)) → HaveHashes self.old.links.items ks → IsTable self.new ks }
@@ -178,7 +178,7 @@ impl Table {
         }
     }
 
-    // Puts the next pair into the table, which is the one at this place. Its key has this hash.
+    /// Puts the next pair into the table, which is the one at this place. Its key has this hash.
     pub(crate) fn put(&mut self, hash: u64, place: usize)
         requires room { HasRoomFor (length self.old.links.items + 1) self.old }
         requires place { place ≡ length self.old.links.items }
@@ -191,8 +191,8 @@ impl Table {
         self.links.push_reserved(Link { hash, next });
     }
 
-    // The chain in which this hash stands: the high word of the mixed hash times the number of chains, which is below that
-    // number. A remainder would take several times as long.
+    /// The chain in which this hash stands: the high word of the mixed hash times the number of chains, which is below that
+    /// number. A remainder would take several times as long.
     #[inline]
     fn home(&self, hash: u64) -> usize
         requires { 0 < length self.now.heads.items }
@@ -204,7 +204,7 @@ impl Table {
         home as usize
     }
 
-    // Returns the place of the key, whose hash is given.
+    /// Returns the place of the key, whose hash is given.
     pub(crate) fn find<K: ObjectKey, V>(
         &self,
         hash: u64,
@@ -219,7 +219,7 @@ impl Table {
         seek(&self.links, self.heads[self.home(hash)], hash, key, entries)
     }
 
-    // Returns `true` if there is room for one more pair.
+    /// Returns `true` if there is room for one more pair.
     pub(crate) fn has_room(&self) -> bool
         ensures { result ≡ true → length self.now.links.items + 1 ≤ vec_capacity self.now.links }
     {
@@ -227,7 +227,7 @@ impl Table {
     }
 }
 
-// The hash of the key, which may be known.
+/// The hash of the key, which may be known.
 pub(crate) fn hash_of(known: Option<u64>, key: &str) -> u64
     requires { IfSome known (λ hash. hash ≡ text_hash key.now) }
     ensures { result ≡ text_hash key.now }

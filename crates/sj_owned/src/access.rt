@@ -225,7 +225,7 @@ impl<K: ObjectKey, D: Literal> Value<K, D> {
     }
 }
 
-// No part of a value, which is dropped.
+/// No part of a value, which is dropped.
 fn nothing_of<T: Drop, P>(_value: T) -> Option<P>
     ensures { result ≡ None }
 {

@@ -15,7 +15,7 @@ use sj_base::Scalar;
 use sj_object::{Object, ObjectKey};
 use sj_reads::ValueAsScalar;
 
-// Returns `true` if the document is a scalar that is equal to this one.
+/// Returns `true` if the document is a scalar that is equal to this one.
 fn is_scalar<K: ObjectKey, D: Literal>(value: &Value<K, D>, scalar: &Scalar<'_>) -> bool
     ensures { result ≡ alike (scalar_tree scalar.now) (value_tree K.text D.literal value.now) }
 {
@@ -25,7 +25,7 @@ fn is_scalar<K: ObjectKey, D: Literal>(value: &Value<K, D>, scalar: &Scalar<'_>)
     }
 }
 
-// Returns `true` if the documents are equal.
+/// Returns `true` if the documents are equal.
 #[cycle(same)]
 pub(crate) fn same_values<K: ObjectKey, D: Literal, L: ObjectKey, E: Literal>(
     a: &Value<K, D>,

@@ -17,10 +17,10 @@ use sj_object::{Object, ObjectKey};
 use std::alloc::{AllocError, Global};
 use std::borrow::CowStr;
 
-// A document whose texts may be borrowed.
+/// A document whose texts may be borrowed.
 type Borrowed<'v> = Value<CowStr<'v>, DecimalCow<'v>>;
 
-// A type of strings and keys that can be converted to the type `L`.
+/// A type of strings and keys that can be converted to the type `L`.
 trait IntoKey<L: ObjectKey>: ObjectKey + Sized {
     // What is said of a key before the conversion and after it, and how the second follows from the first.
     ghost Before: { Type 0 };
@@ -38,7 +38,7 @@ trait IntoKey<L: ObjectKey>: ObjectKey + Sized {
         ensures changed { IfOk result (λ k. after k ≡ change (before self)) };
 }
 
-// A type of decimal literals that can be converted to the type `E`.
+/// A type of decimal literals that can be converted to the type `E`.
 trait IntoLiteral<E: Literal>: Literal + Sized {
     // What is said of a literal before the conversion and after it, and how the second follows from the first.
     ghost Before: { Type 0 };
@@ -56,7 +56,7 @@ trait IntoLiteral<E: Literal>: Literal + Sized {
         ensures changed { IfOk result (λ d. after d ≡ change (before self)) };
 }
 
-// A borrowed text is copied.
+/// A borrowed text is copied.
 impl IntoKey<String> for CowStr<'_> {
     ghost Before = { Bool × List ℕ };
 
@@ -73,7 +73,7 @@ impl IntoKey<String> for CowStr<'_> {
     }
 }
 
-// A borrowed text is copied.
+/// A borrowed text is copied.
 impl IntoKey<CowStr<'static>> for CowStr<'_> {
     ghost Before = { Bool × List ℕ };
 
@@ -90,7 +90,7 @@ impl IntoKey<CowStr<'static>> for CowStr<'_> {
     }
 }
 
-// The text is moved.
+/// The text is moved.
 impl<'v> IntoKey<CowStr<'v>> for String {
     ghost Before = { List ℕ };
 
@@ -107,7 +107,7 @@ impl<'v> IntoKey<CowStr<'v>> for String {
     }
 }
 
-// A borrowed literal is copied.
+/// A borrowed literal is copied.
 impl IntoLiteral<DecimalBuf> for DecimalCow<'_> {
     ghost Before = { Bool × List ℕ };
 
@@ -127,7 +127,7 @@ impl IntoLiteral<DecimalBuf> for DecimalCow<'_> {
     }
 }
 
-// A borrowed literal is copied.
+/// A borrowed literal is copied.
 impl IntoLiteral<DecimalCow<'static>> for DecimalCow<'_> {
     ghost Before = { Bool × List ℕ };
 
@@ -145,7 +145,7 @@ impl IntoLiteral<DecimalCow<'static>> for DecimalCow<'_> {
     }
 }
 
-// The literal is moved.
+/// The literal is moved.
 impl<'v> IntoLiteral<DecimalCow<'v>> for DecimalBuf {
     ghost Before = { List ℕ };
 
@@ -213,7 +213,7 @@ fn convert_members<
     Ok(converted)
 }
 
-// Adds a member under the converted key, if its value was made.
+/// Adds a member under the converted key, if its value was made.
 fn append_converted<K: IntoKey<L> + Drop, L: ObjectKey + Drop, V: Drop>(
     alloc: Global,
     members: &mut Object<L, V>,

@@ -84,7 +84,7 @@ fn copy_members<K: CopyKey + Drop, D: CopyLiteral + Drop>(
     Ok(copies)
 }
 
-// Adds an item, if it was made.
+/// Adds an item, if it was made.
 pub(crate) fn push_made<T: Drop>(
     items: &mut Vec<T>,
     made: Result<T, AllocError>,
@@ -95,7 +95,7 @@ pub(crate) fn push_made<T: Drop>(
     Ok(())
 }
 
-// Adds a member under a copy of the key, if its value was made.
+/// Adds a member under a copy of the key, if its value was made.
 fn append_copy<K: CopyKey + Drop, V: Drop>(
     members: &mut Object<K, V>,
     key: &K,
@@ -110,7 +110,7 @@ fn append_copy<K: CopyKey + Drop, V: Drop>(
     append(members, name, value)
 }
 
-// Adds a member whose key is new. For lack of memory it is dropped.
+/// Adds a member whose key is new. For lack of memory it is dropped.
 pub(crate) fn append<K: ObjectKey + Drop, V: Drop>(
     members: &mut Object<K, V>,
     key: K,

@@ -31,14 +31,14 @@ impl<K: ObjectKey, D: Literal> Value<K, D> {
     }
 }
 
-// One level more, if there is such a number.
+/// One level more, if there is such a number.
 fn one_more(levels: usize) -> Result<usize, AllocError>
     ensures { IfOk result (λ n. n ≡ levels + 1) }
 {
     levels.checked_add(1).ok_or(AllocError)
 }
 
-// 0, as a scalar holds no other value. What its type says of its parts makes it valid.
+/// 0, as a scalar holds no other value. What its type says of its parts makes it valid.
 #[inline(always)]
 fn scalar_levels(scalar: Scalar<'_>) -> usize
     ensures levels { result ≡ 0 }

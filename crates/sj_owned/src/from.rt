@@ -204,7 +204,7 @@ impl<K: ObjectKey, D, T: Into<Value<K, D>>> From<Option<T>> for Value<K, D> {
     }
 }
 
-// The entries, with their keys converted.
+/// The entries, with their keys converted.
 fn entry_pairs<K: FromString + Drop, V: Drop>(
     alloc: Global,
     map: HashMap<String, V>,
@@ -218,7 +218,7 @@ fn entry_pairs<K: FromString + Drop, V: Drop>(
     Ok(pairs)
 }
 
-// Sorts the pairs by the bytes of their keys.
+/// Sorts the pairs by the bytes of their keys.
 fn sort_pairs<K: ObjectKey, V>(pairs: &mut [(K, V)])
     ensures moved { IsPermutation pairs.old pairs.new }
     ensures sorted { IsSortedByKey (λ p. K.text p.0) (slice_cmp nat_cmp) pairs.new }
@@ -226,7 +226,7 @@ fn sort_pairs<K: ObjectKey, V>(pairs: &mut [(K, V)])
     pairs.sort_unstable_by(|a, b| a.0.as_text().cmp(b.0.as_text()));
 }
 
-// Appends what the values are converted to, to an empty vector. For lack of memory they are dropped.
+/// Appends what the values are converted to, to an empty vector. For lack of memory they are dropped.
 fn convert_into<T: Drop, S: Into<T> + Drop, I: IntoIterator<Item = S>>(
     mut items: Vec<T>,
     values: I,
@@ -242,7 +242,7 @@ fn convert_into<T: Drop, S: Into<T> + Drop, I: IntoIterator<Item = S>>(
     Ok(items)
 }
 
-// Inserts a member. For lack of memory it is dropped.
+/// Inserts a member. For lack of memory it is dropped.
 fn insert<K: ObjectKey + Drop, V: Drop>(
     members: &mut Object<K, V>,
     key: K,

@@ -43,7 +43,7 @@ pub trait Comparand {
         ensures { IsTrue result ↔ equals self.now (value_tree K.text D.literal document.now) };
 }
 
-// Returns `true` if the document is this integer, in either carrier.
+/// Returns `true` if the document is this integer, in either carrier.
 fn is_signed<K: ObjectKey, D: Literal>(document: &Value<K, D>, n: i128) -> bool
     ensures { IsTrue result ↔ (value_tree K.text D.literal document.now ≡ integer n) }
 {

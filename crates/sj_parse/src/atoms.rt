@@ -41,7 +41,7 @@ fn is_atom(literal: &[u8], bytes: &[u8]) -> bool
     }
 }
 
-// Whether nothing, whitespace or an operator comes first.
+/// Whether nothing, whitespace or an operator comes first.
 #[inline(always)]
 pub(crate) fn ends_word(bytes: &[u8]) -> bool
     ensures { result ≡ ends_word bytes.now }

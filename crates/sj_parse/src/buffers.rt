@@ -19,7 +19,7 @@ pub struct Buffers {
     pub(crate) positions: Vec<u32>,
     pub(crate) stack: Vec<Frame>,
     pub(crate) max_depth: usize,
-    // The lengths of the texts that were read, in bytes.
+    /// The lengths of the texts that were read, in bytes.
     texts: Trace,
 }
 

@@ -34,7 +34,7 @@ pub(crate) fn read_escape(bytes: &[u8]) -> Result<Escaped, DescentKind>
     }
 }
 
-// The character of an escape by one letter.
+/// The character of an escape by one letter.
 fn short_character(letter: u8) -> Option<char>
     ensures { result ≡ short_character letter }
 {
@@ -51,7 +51,7 @@ fn short_character(letter: u8) -> Option<char>
     }
 }
 
-// These bytes begin after `\u`.
+/// These bytes begin after `\u`.
 fn read_unicode_escape(digits: &[u8]) -> Result<Escaped, DescentKind>
     ensures { MatchResult result
         (λ e. (unicode_escape digits.now ≡ Ok e.len)
@@ -91,7 +91,7 @@ fn is_low_surrogate(unit: u32) -> bool
     matches!(unit, 0xdc00..=0xdfff)
 }
 
-// A surrogate by itself is no character.
+/// A surrogate by itself is no character.
 fn character_of(number: u32, len: usize) -> Result<Escaped, DescentKind>
     ensures { MatchResult result
         (λ e. IsScalar number × (e.len ≡ len) × (e.character ≡ number))

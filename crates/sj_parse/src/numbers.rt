@@ -62,7 +62,7 @@ fn find_decimal(bytes: &[u8]) -> Option<(usize, Shape)>
     }
 }
 
-// The node of a whole number. One that is out of range is kept as its text.
+/// The node of a whole number. One that is out of range is kept as its text.
 #[inline(always)]
 fn integer<'a>(text: &'a [u8]) -> Node<'a>
     requires { is_whole (magnitude text.now) ≡ true }
@@ -74,7 +74,7 @@ fn integer<'a>(text: &'a [u8]) -> Node<'a>
     }
 }
 
-// A whole number in its carrier, where it is in range.
+/// A whole number in its carrier, where it is in range.
 #[inline(always)]
 fn in_range(text: &[u8]) -> Option<StaticNode>
     requires { is_whole (magnitude text.now) ≡ true }
@@ -119,7 +119,7 @@ fn plain_number(bytes: &[u8]) -> Option<(usize, Shape)>
     }
 }
 
-// The value of a whole number, where it is in range.
+/// The value of a whole number, where it is in range.
 #[inline(always)]
 fn whole(digits: &[u8]) -> Option<u64>
     requires { is_whole digits.now ≡ true }

@@ -32,7 +32,7 @@ pub(crate) fn decode<'a>(place: usize, plain: usize, body: &'a mut [u8]) -> Resu
     Ok(unsafe { std::str::from_utf8_unchecked(&text[..len]) })
 }
 
-// The number of bytes before the first backslash, or of all bytes if there is none.
+/// The number of bytes before the first backslash, or of all bytes if there is none.
 fn run_len(bytes: &[u8]) -> usize
     ensures within { result ≤ length bytes.now }
     ensures none { (k : ℕ) → k < result → slice_index bytes.now k ≢ 0x5c }
@@ -41,7 +41,7 @@ fn run_len(bytes: &[u8]) -> usize
     memchr(b'\\', bytes).unwrap_or(bytes.len())
 }
 
-// Decodes a body whose first backslash is not before `first`, and returns the length of its text.
+/// Decodes a body whose first backslash is not before `first`, and returns the length of its text.
 fn decode_from(first: usize, place: usize, body: &mut [u8]) -> Result<usize, Stop>
     requires within { first ≤ length body.old }
     requires none { (k : ℕ) → k < first → slice_index body.old k ≢ 0x5c }

@@ -19,7 +19,7 @@ fn found_scalar(found: Result<Option<Member<'_>>, TryTypeError>) -> Option<Scala
     }
 }
 
-// What a read of a member answers, where `read` is what it makes of the member's scalar.
+/// What a read of a member answers, where `read` is what it makes of the member's scalar.
 fn answer<T: Drop>(
     found: Result<Option<Member<'_>>, TryTypeError>,
     read: Option<T>,

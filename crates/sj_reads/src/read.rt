@@ -5,7 +5,7 @@ ghost use Rattle.sj_reads.specs.Reads.{null_read, bool_read, signed_read, unsign
 
 use sj_base::{Decimal, Scalar, StaticNode, TryTypeError, ValueType};
 
-// The value that a read found, or an error that names the type asked for and the type met.
+/// The value that a read found, or an error that names the type asked for and the type met.
 pub(crate) fn or_mismatch<T>(
     found: Option<T>,
     expected: ValueType,

@@ -47,7 +47,7 @@ fn find_positions(bytes: &[u8], out: &mut Vec<u32>) -> Result<End, AllocError>
     Ok(read_rest(bytes, out, walk))
 }
 
-// How far a walk has come, and what it found on the way.
+/// How far a walk has come, and what it found on the way.
 #[derive(Clone, Copy)]
 struct Walk {
     at: usize,
@@ -56,7 +56,7 @@ struct Walk {
     controls: u64,
 }
 
-// Reads whole blocks, and leaves from 1 to 64 bytes of a text that has some.
+/// Reads whole blocks, and leaves from 1 to 64 bytes of a text that has some.
 fn read_blocks(bytes: &[u8], out: &mut Vec<u32>) -> Walk
     requires empty { out.old.items ≡ [] }
     requires short { length bytes.now ≤ 4294967295 }
@@ -85,7 +85,7 @@ fn read_blocks(bytes: &[u8], out: &mut Vec<u32>) -> Walk
     walk
 }
 
-// Reads the bytes that are left.
+/// Reads the bytes that are left.
 fn read_rest(bytes: &[u8], out: &mut Vec<u32>, walk: Walk) -> End
     requires walked { HasWalked bytes.now walk out.old.items }
     requires rest { (walk.at ≤ length bytes.now - 1) × (length bytes.now ≤ walk.at + BLOCK) }
@@ -105,7 +105,7 @@ fn read_rest(bytes: &[u8], out: &mut Vec<u32>, walk: Walk) -> End
     }
 }
 
-// The classes of the bytes from `at` on, with spaces after them, and whether the text is UTF-8.
+/// The classes of the bytes from `at` on, with spaces after them, and whether the text is UTF-8.
 #[inline(always)]
 fn classify_rest(bytes: &[u8], at: usize, utf8: Checker) -> (Classes, bool)
     requires read { HasRead utf8 (take at bytes.now) }
@@ -129,7 +129,7 @@ fn classify_rest(bytes: &[u8], at: usize, utf8: Checker) -> (Classes, bool)
     (classes, is_utf8)
 }
 
-// The bytes, and spaces after them.
+/// The bytes, and spaces after them.
 fn filled_up(rest: &[u8]) -> u8x64
     requires { length rest.now ≤ BLOCK }
     ensures { result ≡ filled_up rest.now }

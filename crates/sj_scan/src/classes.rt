@@ -8,21 +8,21 @@ ghost use Rattle.sj_scan.specs.inside.Blocks.{IsClassified};
 
 use std::simd::prelude::*;
 
-// The whitespace with these four lowest bits, four times over. No other byte has the entry of its lowest bits.
+/// The whitespace with these four lowest bits, four times over. No other byte has the entry of its lowest bits.
 const WHITESPACE: [u8; 64] = [
     b' ', 0, 0, 0, 0, 0, 0, 0, 0, b'\t', b'\n', 0, 0, b'\r', 0, 0, b' ', 0, 0, 0, 0, 0, 0, 0, 0,
     b'\t', b'\n', 0, 0, b'\r', 0, 0, b' ', 0, 0, 0, 0, 0, 0, 0, 0, b'\t', b'\n', 0, 0, b'\r', 0, 0,
     b' ', 0, 0, 0, 0, 0, 0, 0, 0, b'\t', b'\n', 0, 0, b'\r', 0, 0,
 ];
 
-// The same of operators, where a bracket stands as the brace that differs from it in one bit.
+/// The same of operators, where a bracket stands as the brace that differs from it in one bit.
 const OPERATORS: [u8; 64] = [
     0, 0, 0, 0, 0, 0, 0, 0, 0, 0, b':', b'{', b',', b'}', 0, 0, 0, 0, 0, 0, 0, 0, 0, 0, 0, 0, b':',
     b'{', b',', b'}', 0, 0, 0, 0, 0, 0, 0, 0, 0, 0, 0, 0, b':', b'{', b',', b'}', 0, 0, 0, 0, 0, 0,
     0, 0, 0, 0, 0, 0, b':', b'{', b',', b'}', 0, 0,
 ];
 
-// The bytes of a block by kind.
+/// The bytes of a block by kind.
 #[derive(Clone, Copy)]
 pub(crate) struct Classes {
     pub(crate) backslashes: u64,
@@ -47,7 +47,7 @@ impl Classes {
         }
     }
 
-    // The classes without those of the first places, and those of as many spaces at the end.
+    /// The classes without those of the first places, and those of as many spaces at the end.
     #[inline(always)]
     pub(crate) fn skipped(self, count: u32) -> Classes
         requires { count < 64 }
@@ -63,7 +63,7 @@ impl Classes {
     }
 }
 
-// Whether all bytes of the block are ASCII.
+/// Whether all bytes of the block are ASCII.
 #[inline(always)]
 pub(crate) fn is_ascii(block: u8x64) -> bool
     ensures { IsTrue result → IsAscii block }
@@ -88,7 +88,7 @@ fn whitespace(block: u8x64) -> u64
     block.simd_eq(by_low_bits(WHITESPACE, block)).to_bitmask()
 }
 
-// The entry of the table at the four lowest bits of each ASCII byte.
+/// The entry of the table at the four lowest bits of each ASCII byte.
 #[inline(always)]
 fn by_low_bits(table: [u8; 64], block: u8x64) -> u8x64
     requires { IsFourfold table }

@@ -9,13 +9,13 @@ use crate::stage1::ScanFault;
 #[derive(Clone, Copy)]
 pub(crate) struct End {
     pub(crate) is_utf8: bool,
-    // A string is open.
+    /// A string is open.
     pub(crate) inside: bool,
     pub(crate) has_control: bool,
 }
 
 impl End {
-    // Makes the tests in their order, where `out` holds the positions. After a fault it is empty.
+    /// Makes the tests in their order, where `out` holds the positions. After a fault it is empty.
     pub(crate) fn answer(self, out: &mut Vec<u32>) -> Result<(), ScanFault>
         ensures scans { (bytes : List ℕ) → Ends bytes self → out.old.items ≡ positions bytes → Scans bytes result out.new.items }
         ensures fault { IfErr result (λ fault. fault ≢ ScanFault.Memory) }

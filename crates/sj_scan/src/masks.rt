@@ -12,18 +12,18 @@ use crate::classes::Classes;
 
 const ODD_PLACES: u64 = 0xaaaa_aaaa_aaaa_aaaa;
 
-// What a block has to know of the bytes before it, as words to combine with its masks.
+/// What a block has to know of the bytes before it, as words to combine with its masks.
 #[derive(Clone, Copy)]
 pub(crate) struct Carry {
-    // The first bit where the run of backslashes directly before has odd length, else none.
+    /// The first bit where the run of backslashes directly before has odd length, else none.
     odd_backslashes: u64,
-    // All bits where a string is open, else none.
+    /// All bits where a string is open, else none.
     inside: u64,
-    // The first bit where nothing, whitespace, an operator or a real quote stands directly before, else none.
+    /// The first bit where nothing, whitespace, an operator or a real quote stands directly before, else none.
     separated: u64,
 }
 
-// What is at each place of a block.
+/// What is at each place of a block.
 #[derive(Clone, Copy)]
 pub(crate) struct Masks {
     pub(crate) positions: u64,
@@ -41,14 +41,14 @@ impl Carry {
         }
     }
 
-    // Whether a string is open.
+    /// Whether a string is open.
     pub(crate) fn is_inside(self) -> bool
         ensures { (before : List ℕ) → Precedes before self → result ≡ is_odd (real_quotes before) }
     {
         self.inside != 0
     }
 
-    // The masks of the block, and what the next one has to know.
+    /// The masks of the block, and what the next one has to know.
     #[inline(always)]
     pub(crate) fn masks(self, classes: Classes) -> (Masks, Carry)
         ensures positions { (before block : List ℕ) → Precedes before self → IsClassified block classes → Marks result.0.positions (test_in is_position before block) }
@@ -73,7 +73,7 @@ impl Carry {
     }
 }
 
-// The real quotes, and the carry of backslashes of the next block.
+/// The real quotes, and the carry of backslashes of the next block.
 #[inline(always)]
 fn real_quotes(classes: Classes, carry: u64) -> (u64, u64)
     ensures quotes { (before block : List ℕ) → carry ≡ first_if (is_odd (backslashes before)) → IsClassified block classes → Marks result.0 (test_in is_real_quote before block) }
@@ -83,7 +83,7 @@ fn real_quotes(classes: Classes, carry: u64) -> (u64, u64)
     (classes.quotes & !escaped, next)
 }
 
-// The places directly after a run of backslashes of odd length, and the carry of the next block.
+/// The places directly after a run of backslashes of odd length, and the carry of the next block.
 #[inline(always)]
 fn escaped(backslashes: u64, carry: u64) -> (u64, u64)
     ensures places { (odd : Bool) → carry ≡ first_if odd → Marks result.0 (is_odd_run odd (is_set backslashes)) }
@@ -99,7 +99,7 @@ fn escaped(backslashes: u64, carry: u64) -> (u64, u64)
     (codes ^ (backslashes | carry), last(codes & backslashes))
 }
 
-// Each bit is the parity of the bits up to it.
+/// Each bit is the parity of the bits up to it.
 #[inline(always)]
 fn prefix_xor(mask: u64) -> u64
     ensures { Marks result (λ place. is_odd_count (is_set mask) (suc place)) }
@@ -112,7 +112,7 @@ fn prefix_xor(mask: u64) -> u64
     mask ^ (mask << 32)
 }
 
-// The mask moved by one place, with the carry at the first.
+/// The mask moved by one place, with the carry at the first.
 #[inline(always)]
 fn shifted(mask: u64, carry: u64) -> u64
     ensures { (test : ℕ → Bool) → carry ≡ first_if (test 0) → Marks mask (λ place. test (suc place)) → Marks result test }
@@ -120,7 +120,7 @@ fn shifted(mask: u64, carry: u64) -> u64
     (mask << 1) | carry
 }
 
-// The bit of the last place.
+/// The bit of the last place.
 #[inline(always)]
 fn last(mask: u64) -> u64
     ensures { result ≡ first_if (is_set mask 63) }
@@ -128,7 +128,7 @@ fn last(mask: u64) -> u64
     mask >> 63
 }
 
-// All bits where the first is set.
+/// All bits where the first is set.
 #[inline(always)]
 fn spread(bit: u64) -> u64
     ensures { (b : Bool) → bit ≡ first_if b → result ≡ all_if b }

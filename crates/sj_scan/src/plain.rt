@@ -28,7 +28,7 @@ impl Stage1 for PlainScan {
     }
 }
 
-// After an error `out` holds some of the positions.
+/// After an error `out` holds some of the positions.
 fn find_positions(bytes: &[u8], out: &mut Vec<u32>) -> Result<End, AllocError>
     requires empty { out.old.items ≡ [] }
     requires short { length bytes.now ≤ 4294967295 }
@@ -53,14 +53,14 @@ fn find_positions(bytes: &[u8], out: &mut Vec<u32>) -> Result<End, AllocError>
     })
 }
 
-// What the tests at a place need to know of the bytes before it.
+/// What the tests at a place need to know of the bytes before it.
 #[derive(Clone, Copy)]
 struct State {
-    // The run of backslashes directly before has odd length.
+    /// The run of backslashes directly before has odd length.
     odd_backslashes: bool,
-    // A string is open.
+    /// A string is open.
     inside: bool,
-    // Nothing, whitespace, an operator or a real quote stands directly before.
+    /// Nothing, whitespace, an operator or a real quote stands directly before.
     separated: bool,
 }
 

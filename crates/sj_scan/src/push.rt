@@ -2,8 +2,8 @@
 ghost use Rattle.std.specs.Prelude.{◌≡◌, ℕ, ◌+◌, ◌^◌, ◌<◌, ◌≤◌, ◌++◌, List, length, vec_len, vec_capacity, All};
 ghost use Rattle.sj_scan.specs.inside.Masks.{set_places, IsPrefix};
 
-// Appends the place of each bit. Eight are appended at a time, since most blocks have no more than eight, and then the vector
-// is truncated to the places that the mask has.
+/// Appends the place of each bit. Eight are appended at a time, since most blocks have no more than eight, and then the vector
+/// is truncated to the places that the mask has.
 #[inline(always)]
 pub(crate) fn push_places(out: &mut Vec<u32>, base: u32, mask: u64)
     requires room { vec_len out.old + 64 ≤ vec_capacity out.old }
@@ -45,7 +45,7 @@ fn push_four(out: &mut Vec<u32>, base: u32, mask: u64) -> u64
     push_lowest(out, base, rest)
 }
 
-// Appends the place of the lowest bit, or junk where the mask has none, and returns the other bits.
+/// Appends the place of the lowest bit, or junk where the mask has none, and returns the other bits.
 #[inline(always)]
 fn push_lowest(out: &mut Vec<u32>, base: u32, mask: u64) -> u64
     requires room { vec_len out.old < vec_capacity out.old }
@@ -58,7 +58,7 @@ fn push_lowest(out: &mut Vec<u32>, base: u32, mask: u64) -> u64
     mask & mask.wrapping_sub(1)
 }
 
-// Appends the place of each bit, with room for no more than these.
+/// Appends the place of each bit, with room for no more than these.
 pub(crate) fn push_each_place(out: &mut Vec<u32>, base: u32, mask: u64)
     requires room { vec_len out.old + length (set_places 64 base mask) ≤ vec_capacity out.old }
     requires fits { All (λ place. place < 2 ^ 32) (set_places 64 base mask) }

@@ -5,7 +5,7 @@ ghost use Rattle.sj_tape.specs.inside.Passing.{PassesTree, PassesContents, Passe
 
 use crate::node::Node;
 
-// Returns the index after the tree that begins at `start`.
+/// Returns the index after the tree that begins at `start`.
 #[cycle(check)]
 pub(crate) fn tree_end(nodes: &[Node<'_>], start: usize) -> Option<usize>
     ensures passes { PassesTree (drop start (entries nodes.now))
@@ -26,7 +26,7 @@ pub(crate) fn tree_end(nodes: &[Node<'_>], start: usize) -> Option<usize>
     }
 }
 
-// Returns the index after the `len` items, or members, that begin at `start`.
+/// Returns the index after the `len` items, or members, that begin at `start`.
 #[cycle(check)]
 fn contents_end(nodes: &[Node<'_>], start: usize, len: usize, has_keys: bool) -> Option<usize>
     requires { start ≤ length nodes.now }
@@ -41,7 +41,7 @@ fn contents_end(nodes: &[Node<'_>], start: usize, len: usize, has_keys: bool) ->
     Some(end)
 }
 
-// Returns the index after the item, or the member, that begins at `start`.
+/// Returns the index after the item, or the member, that begins at `start`.
 #[cycle(check)]
 fn part_end(nodes: &[Node<'_>], start: usize, has_keys: bool) -> Option<usize>
     ensures passes { PassesPart has_keys (drop start (entries nodes.now))
@@ -55,7 +55,7 @@ fn part_end(nodes: &[Node<'_>], start: usize, has_keys: bool) -> Option<usize>
     }
 }
 
-// Returns the index after the key at `start`.
+/// Returns the index after the key at `start`.
 fn key_end(nodes: &[Node<'_>], start: usize) -> Option<usize>
     ensures passes { PassesKey (drop start (entries nodes.now))
         (option_map (λ end. drop end (entries nodes.now)) result) }
@@ -75,7 +75,7 @@ fn node_at<'i>(nodes: &[Node<'i>], at: usize) -> Option<Node<'i>>
     Some(*nodes.get(at)?)
 }
 
-// Returns `end` if `count` nodes stand between `start` and `end`.
+/// Returns `end` if `count` nodes stand between `start` and `end`.
 fn counted(start: usize, end: usize, count: usize) -> Option<usize>
     requires { start ≤ end }
     ensures { MatchOption result (end - start ≢ count) (λ r. (r ≡ end) × (end - start ≡ count)) }

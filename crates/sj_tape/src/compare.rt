@@ -101,7 +101,7 @@ impl Eq for Value<'_, '_> {
     ghost laws = { value_eq_equiv };
 }
 
-// Returns `true` if the nodes stand for the same entries.
+/// Returns `true` if the nodes stand for the same entries.
 fn same_nodes(a: &[Node<'_>], b: &[Node<'_>]) -> bool
     ensures { IsTrue result ↔ (entries a.now ≡ entries b.now) }
 {
@@ -116,7 +116,7 @@ fn same_nodes(a: &[Node<'_>], b: &[Node<'_>]) -> bool
     true
 }
 
-// Returns `true` if the nodes stand for the same entry. An `I64` and a `U64` of one integer do.
+/// Returns `true` if the nodes stand for the same entry. An `I64` and a `U64` of one integer do.
 fn same_node(a: &Node<'_>, b: &Node<'_>) -> bool
     ensures { IsTrue result ↔ (node_entry a.now ≡ node_entry b.now) }
 {

@@ -72,7 +72,7 @@ fn print_members<O: Output>(
     object.close(out)
 }
 
-// The outermost level is 0, and each level of nesting is a node, so every level fits a `usize`.
+/// The outermost level is 0, and each level of nesting is a node, so every level fits a `usize`.
 fn print<O: Output>(value: Value<'_, '_>, layout: Layout, out: &mut O) -> Result<(), O::Fault>
     requires { level_of layout ≡ 0 }
     ensures { Prints O.appends O.begins result out.old out.new (laid_out layout (value_tree value.entry)) }
@@ -80,7 +80,7 @@ fn print<O: Output>(value: Value<'_, '_>, layout: Layout, out: &mut O) -> Result
     print_value(&value, layout, out)
 }
 
-// Appends the text, or nothing.
+/// Appends the text, or nothing.
 fn append(value: Value<'_, '_>, layout: Layout, out: &mut Vec<u8>) -> Result<(), AllocError>
     requires { level_of layout ≡ 0 }
     ensures { AppendsOrLeaves result out.old.items out.new.items (laid_out layout (value_tree value.entry)) }

@@ -39,7 +39,7 @@ impl<'i> Node<'i> {
         }
     }
 
-    // Returns the value of a node that isn't a container.
+    /// Returns the value of a node that isn't a container.
     #[inline(always)]
     pub(crate) fn scalar(&self) -> Option<Scalar<'i>>
         ensures tree { option_map scalar_tree result ≡ leaf_tree self.now }
@@ -57,7 +57,7 @@ impl<'i> Node<'i> {
         }
     }
 
-    // Returns the number of nodes beneath.
+    /// Returns the number of nodes beneath.
     #[inline(always)]
     pub(crate) fn count(&self) -> usize
         ensures { result ≡ node_count self.now }
@@ -69,7 +69,7 @@ impl<'i> Node<'i> {
     }
 }
 
-// Returns the first node and the nodes after it.
+/// Returns the first node and the nodes after it.
 #[inline(always)]
 pub(crate) fn take_node<'t, 'i>(nodes: &'t [Node<'i>]) -> Option<(Node<'i>, &'t [Node<'i>])>
     ensures { MatchOption result (nodes.now ≡ []) (λ p. nodes.now ≡ p.0 ∷ p.1.now) }

@@ -29,7 +29,7 @@ pub struct Repeat<'i> {
 }
 
 impl<'i> Repeat<'i> {
-    // Adds the part that leads to what was found from one level further out. The path is built from its end.
+    /// Adds the part that leads to what was found from one level further out. The path is built from its end.
     fn inside(mut self, part: RepeatPart<'i>) -> Result<Option<Repeat<'i>>, AllocError>
         ensures { IfOk result (λ found. option_map growing found ≡ Some (part_view part.entry ∷ (growing self.entry).0, (growing self.entry).1)) }
     {
@@ -59,7 +59,7 @@ impl<'i> Value<'_, 'i> {
     }
 }
 
-// `keys` has the keys that stand earlier in the objects around the value. It is as it was where nothing is found.
+/// `keys` has the keys that stand earlier in the objects around the value. It is as it was where nothing is found.
 #[cycle(search)]
 fn first_in<'i>(
     keys: &mut Vec<&'i str>,
@@ -121,14 +121,14 @@ fn first_in_members<'i>(
     Ok(None)
 }
 
-// The most members of an object whose keys are compared with each other one by one.
+/// The most members of an object whose keys are compared with each other one by one.
 const FEW_MEMBERS: usize = 48;
 
-// The keys of the members before one of an object, where a set lists them.
+/// The keys of the members before one of an object, where a set lists them.
 type Listed<'i> = Option<BTreeSet<&'i str>>;
 
-// Makes room for the keys of an object of this many members, and lists none yet. An object of more than `FEW_MEMBERS` members has
-// them in a set, since to compare each with all others takes time that grows with the square of their number.
+/// Makes room for the keys of an object of this many members, and lists none yet. An object of more than `FEW_MEMBERS` members has
+/// them in a set, since to compare each with all others takes time that grows with the square of their number.
 fn make_room<'i>(keys: &mut Vec<&'i str>, len: usize) -> Result<Listed<'i>, AllocError>
     ensures keys { OnOk result (keys.new.items ≡ keys.old.items) }
     ensures lists { IfOk result (λ listed. Lists listed []) }
@@ -141,7 +141,7 @@ fn make_room<'i>(keys: &mut Vec<&'i str>, len: usize) -> Result<Listed<'i>, Allo
     }
 }
 
-// Returns the key, if it stands earlier in the object whose keys begin at `start`. Else it stands there from now on.
+/// Returns the key, if it stands earlier in the object whose keys begin at `start`. Else it stands there from now on.
 fn add_key<'i>(
     keys: &mut Vec<&'i str>,
     start: usize,
@@ -161,7 +161,7 @@ fn add_key<'i>(
     Ok(None)
 }
 
-// Whether the key is one of those that stand earlier. It is listed from now on, where keys are.
+/// Whether the key is one of those that stand earlier. It is listed from now on, where keys are.
 fn is_met<'i>(
     key: &'i str,
     earlier: &[&'i str],

@@ -19,7 +19,7 @@ use sj_reads::{HasMembers, HasScalar, Member, TypedValue};
 /// the traits of `value_trait`.
 #[derive(Clone, Copy, Debug)]
 pub struct Value<'t, 'i> {
-    // The nodes of the value. A null that is in no tape has none.
+    /// The nodes of the value. A null that is in no tape has none.
     pub(crate) nodes: &'t [Node<'i>],
     ghost listed: { IsTape (entries nodes.now) },
     ghost is_valid: { ∥ IsValidTree (tree_of (entries nodes.now)) ∥₁ },
@@ -40,7 +40,7 @@ impl<'t, 'i> Value<'t, 'i> {
         Value { nodes: &[] }
     }
 
-    // Returns the first value of the nodes, and the nodes after it.
+    /// Returns the first value of the nodes, and the nodes after it.
     #[inline(always)]
     pub(crate) fn split_from(nodes: &'t [Node<'i>]) -> (Value<'t, 'i>, &'t [Node<'i>])
         requires { (t : Tree) × (rest : List Entry) × IsValidTree t × (entries nodes.now ≡ listing t ++ rest) }
