@@ -39,6 +39,11 @@ pub(crate) fn write_character(character: char, out: &mut [u8]) -> usize
     ensures len { result ≡ len_utf8 character }
     ensures written { out.new ≡ encode_utf8 character ++ drop (len_utf8 character) out.old }
 {
+    // Most escapes stand for an ASCII character.
+    if character.is_ascii() {
+        out[0] = character as u8;
+        return 1;
+    }
     let mut bytes = [0; 4];
     let text = character.encode_utf8(&mut bytes);
     out[..text.len()].copy_from_slice(text.as_bytes());
