@@ -134,7 +134,7 @@ fn take_list<'de, V: BuildValue<'de, K> + Drop, K: MakeKey<'de> + Drop>(
 const FEW_MEMBERS: usize = 1024;
 
 /// The number of marks.
-const MARKS: usize = 64;
+const MARKS: usize = 128;
 
 /// The keys that were met.
 #[derive(Drop)]
@@ -171,7 +171,7 @@ fn mark_of(key: &str) -> usize
     let (Some(first), Some(last)) = (bytes.first(), bytes.last()) else {
         return 0;
     };
-    (3 * (bytes.len() % MARKS) + usize::from(*first) + 8 * usize::from(*last)) % MARKS
+    (7 * (bytes.len() % MARKS) + usize::from(*first) + 11 * usize::from(*last)) % MARKS
 }
 
 /// Whether a member has the key, which counts as met from now on. `hash` is the key's hash, if it is known.

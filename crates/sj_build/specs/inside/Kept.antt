@@ -27,11 +27,11 @@ gathered ks (member k t ms) = gathered (add_member ks k t) ms
 
 -- the mark of a key, by its length and its first and its last byte
 abbrev pub mark_of : List ℕ → ℕ
-mark_of k = (3 * (length k % 64) + get_or k 0 0 + 8 * get_or k (length k - 1) 0) % 64
+mark_of k = (7 * (length k % 128) + get_or k 0 0 + 11 * get_or k (length k - 1) 0) % 128
 
 -- the keys that were met, if they are listed, are those of the members, and else the members' keys are marked
 abbrev pub Knows : MetKeys → Members → Type 0
 Knows met ms =
     IfSome met.listed (λ keys. (k : List ℕ) → contains_by (λ key. slice_cmp nat_cmp k key.now) keys ≡ has_key ms k)
-    × (length met.marks ≡ 64)
+    × (length met.marks ≡ 128)
     × (met.listed ≡ None → (k : List ℕ) → has_key ms k ≡ true → get_or met.marks (mark_of k) false ≡ true)
