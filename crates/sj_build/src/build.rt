@@ -2,11 +2,10 @@
 //!
 //! A document is built from the last node of its tape to the first. So a container finds its parts on a stack, and a deep text
 //! needs no recursion.
-ghost use Rattle.std.specs.Prelude.{◌≡◌, ◌+◌, ◌<◌, ◌↔◌, true, false, [], ◌∷◌, ◌++◌, IsSome, IfSome, IfOk, OnOk, None, Some, MatchOption, drop, length, map, reverse};
+ghost use Rattle.std.specs.Prelude.{◌≡◌, ◌+◌, ◌<◌, ◌↔◌, true, false, [], ◌∷◌, ◌++◌, IsSome, IfOk, OnOk, None, Some, MatchOption, drop, length, map, reverse};
 ghost use Rattle.std.specs.Vec.{vec_capacity};
 ghost use Rattle.sj_base.specs.Tree.{Tree, no_members};
 ghost use Rattle.sj_base.specs.Keep.{keep};
-ghost use Rattle.sj_object.specs.Hash.{text_hash};
 ghost use Rattle.sj_object.specs.Members.{AreMembers, HasRoomForOne};
 ghost use Rattle.sj_tape.specs.Nodes.{node_entry};
 ghost use Rattle.sj_tape.specs.Views.{tape_nodes, nodes_tree, value_tree as view_tree};
@@ -174,16 +173,14 @@ fn mark_of(key: &str) -> usize
     (7 * (bytes.len() % MARKS) + usize::from(*first) + 11 * usize::from(*last)) % MARKS
 }
 
-/// Whether a member has the key, which counts as met from now on. `hash` is the key's hash, if it is known.
+/// Whether a member has the key, which counts as met from now on.
 #[inline(always)]
 fn meet<'de, V: BuildValue<'de, K> + Drop, K: MakeKey<'de> + Drop>(
-    hash: Option<u64>,
     key: &'de str,
     met: &mut MetKeys<'de>,
     members: &Members<K, V>,
 ) -> Result<bool, AllocError>
     requires members { AreMembers K.text members.now }
-    requires hash { IfSome hash (λ known. known ≡ text_hash key.now) }
     requires knows { Knows met.old (members_shown K.text V.tree members.now) }
     ensures found { IfOk result (λ found. found ≡ has_key (members_shown K.text V.tree members.now) key.now) }
     ensures knows { (t : Tree) → OnOk result (Knows met.new (add_member (members_shown K.text V.tree members.now) key.now t)) }
@@ -194,42 +191,38 @@ fn meet<'de, V: BuildValue<'de, K> + Drop, K: MakeKey<'de> + Drop>(
             let mark = mark_of(key);
             let is_marked = met.marks[mark];
             met.marks[mark] = true;
-            Ok(is_marked && members.contains_key(hash, key))
+            Ok(is_marked && members.contains_key(key))
         }
     }
 }
 
-/// Puts a member last, whose key no member has, and for which there is room. `hash` is the key's hash, if it is known.
+/// Puts a member last, whose key no member has, and for which there is room.
 #[inline(always)]
 fn put_new<'de, V: BuildValue<'de, K> + Drop, K: MakeKey<'de> + Drop>(
-    hash: Option<u64>,
     key: K,
     value: V,
     members: &mut Members<K, V>,
 )
     requires members { AreMembers K.text members.old }
     requires room { HasRoomForOne members.old }
-    requires hash { IfSome hash (λ known. known ≡ text_hash (K.text key)) }
     requires new_key { has_key (members_shown K.text V.tree members.old) (K.text key) ≡ false }
     ensures added { members_shown K.text V.tree members.new
         ≡ with_last (members_shown K.text V.tree members.old) (K.text key) (V.tree value) }
     ensures members { AreMembers K.text members.new }
 {
-    members.push_reserved(hash, key, value);
+    members.push_reserved(key, value);
 }
 
 /// Puts a member last as `put_new` does, with the value of the next part. Each value is put in its place where it is made.
 #[inline(always)]
 fn put_part<'de, V: BuildValue<'de, K> + Drop, K: MakeKey<'de> + Drop>(
     alloc: Global,
-    hash: Option<u64>,
     key: K,
     parts: &mut Parts<'de, V>,
     members: &mut Members<K, V>,
 ) -> Result<(), AllocError>
     requires members { AreMembers K.text members.old }
     requires room { HasRoomForOne members.old }
-    requires hash { IfSome hash (λ known. known ≡ text_hash (K.text key)) }
     requires new_key { has_key (members_shown K.text V.tree members.old) (K.text key) ≡ false }
     ensures added { OnOk result (members_shown K.text V.tree members.new
         ≡ with_last (members_shown K.text V.tree members.old) (K.text key) (shown_tree (first_part (stack V.tree parts.old)))) }
@@ -238,12 +231,12 @@ fn put_part<'de, V: BuildValue<'de, K> + Drop, K: MakeKey<'de> + Drop>(
 {
     // As in `take_item`, a null would stand for a part that isn't there.
     match parts.nodes.pop().unwrap_or(Node::Static(StaticNode::Null)) {
-        Node::String(text) => put_new(hash, key, V::from_text(alloc, text)?, members),
-        Node::Static(scalar) => put_new(hash, key, V::from_static(alloc, scalar)?, members),
-        Node::Decimal(literal) => put_new(hash, key, V::from_decimal(alloc, literal)?, members),
+        Node::String(text) => put_new(key, V::from_text(alloc, text)?, members),
+        Node::Static(scalar) => put_new(key, V::from_static(alloc, scalar)?, members),
+        Node::Decimal(literal) => put_new(key, V::from_decimal(alloc, literal)?, members),
         Node::Array { .. } | Node::Object { .. } => match parts.built.pop() {
-            Some(value) => put_new(hash, key, value, members),
-            None => put_new(hash, key, V::from_static(alloc, StaticNode::Null)?, members),
+            Some(value) => put_new(key, value, members),
+            None => put_new(key, V::from_static(alloc, StaticNode::Null)?, members),
         },
     }
     Ok(())
@@ -253,13 +246,11 @@ fn put_part<'de, V: BuildValue<'de, K> + Drop, K: MakeKey<'de> + Drop>(
 #[inline(always)]
 fn add_part<'de, V: BuildValue<'de, K> + Drop, K: MakeKey<'de> + Drop>(
     alloc: Global,
-    hash: Option<u64>,
     key: &'de str,
     parts: &mut Parts<'de, V>,
     members: &mut Members<K, V>,
 ) -> Result<(), AllocError>
     requires members { AreMembers K.text members.old }
-    requires hash { IfSome hash (λ known. known ≡ text_hash key.now) }
     requires new_key { has_key (members_shown K.text V.tree members.old) key.now ≡ false }
     ensures added { OnOk result (members_shown K.text V.tree members.new
         ≡ with_last (members_shown K.text V.tree members.old) key.now (shown_tree (first_part (stack V.tree parts.old)))) }
@@ -268,7 +259,7 @@ fn add_part<'de, V: BuildValue<'de, K> + Drop, K: MakeKey<'de> + Drop>(
 {
     members.make_room()?;
     let key = K::from_text(alloc, key)?;
-    put_part(alloc, hash, key, parts, members)
+    put_part(alloc, key, parts, members)
 }
 
 /// Moves the next two parts, a key and a value, to the members, unless there is a member with that key. After an error the key may
@@ -292,12 +283,11 @@ fn take_member<'de, V: BuildValue<'de, K> + Drop, K: MakeKey<'de> + Drop>(
         skip_part::<V, K>(parts);
         return Ok(());
     };
-    let hash = members.hash_for_table(key);
-    if meet(hash, key, met, members)? {
+    if meet(key, met, members)? {
         skip_part::<V, K>(parts);
         return Ok(());
     }
-    add_part(alloc, hash, key, parts, members)
+    add_part(alloc, key, parts, members)
 }
 
 /// Makes an object of the next parts, a key and a value for each member.

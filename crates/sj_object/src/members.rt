@@ -1,6 +1,5 @@
 //! The pairs of which an object is made.
-ghost use Rattle.std.specs.Prelude.{◌≡◌, [], None, is_some, IfSome, IfOk, OnOk};
-ghost use Rattle.sj_object.specs.Hash.{text_hash};
+ghost use Rattle.std.specs.Prelude.{◌≡◌, [], None, is_some, IfOk, OnOk};
 ghost use Rattle.sj_object.specs.Members.{member_pairs, AreMembers, HasRoomForOne};
 ghost use Rattle.sj_object.specs.Pairs.{value_at, put_key};
 
@@ -37,22 +36,12 @@ impl<K: ObjectKey, V> Members<K, V> {
         })
     }
 
-    /// Returns the key's hash if the pairs have a hash table, and `None` if they have none. [`Members::contains_key`] and
-    /// [`Members::push_reserved`] take it, so that it is computed once for both.
-    #[inline(always)]
-    pub fn hash_for_table(&self, key: &str) -> Option<u64>
-        ensures { IfSome result (λ hash. hash ≡ text_hash key.now) }
-    {
-        self.pairs.hash_for_table(key)
-    }
-
-    /// Returns `true` if a pair has the key. `hash` is the key's [`hash_key`](crate::hash_key), if it is known.
-    pub fn contains_key(&self, hash: Option<u64>, key: &str) -> bool
-        requires members { AreMembers K.text self.now }
-        requires hash { IfSome hash (λ known. known ≡ text_hash key.now) }
+    /// Returns `true` if a pair has the key.
+    pub fn contains_key(&self, key: &str) -> bool
+        requires { AreMembers K.text self.now }
         ensures { result ≡ is_some (value_at K.text (member_pairs self.now) key.now) }
     {
-        self.pairs.place(hash, key).is_some()
+        self.pairs.place(None, key).is_some()
     }
 
     /// Makes room for one more pair. The 33rd one needs a hash table, which is made here.
@@ -74,17 +63,15 @@ impl<K: ObjectKey, V> Members<K, V> {
     }
 
     /// Puts a pair last, for which there is room ([`Members::make_room`]). No pair may have its key, which isn't looked for.
-    /// `hash` is the key's [`hash_key`](crate::hash_key), if it is known.
     #[inline(always)]
-    pub fn push_reserved(&mut self, hash: Option<u64>, key: K, value: V)
+    pub fn push_reserved(&mut self, key: K, value: V)
         requires members { AreMembers K.text self.old }
-        requires hash { IfSome hash (λ known. known ≡ text_hash (K.text key)) }
         requires room { HasRoomForOne self.old }
         requires new_key { value_at K.text (member_pairs self.old) (K.text key) ≡ None }
         ensures pairs { member_pairs self.new ≡ put_key K.text (member_pairs self.old) key value }
         ensures members { AreMembers K.text self.new }
     {
-        self.pairs.push(hash, Entry { key, value });
+        self.pairs.push(None, Entry { key, value });
     }
 }
 

@@ -6,6 +6,7 @@ ghost use Rattle.sj_object.specs.Hash.{text_hash};
 ghost use Rattle.sj_object.specs.Pairs.{keys_of, value_at, place_of, put_key, drop_key, put_at, AreDistinct};
 
 use crate::entry::{Entry, Refused};
+use crate::hash::hash_key;
 use crate::iter::{IntoIter, Iter, Keys, Values};
 use crate::key::ObjectKey;
 use crate::members::Members;
@@ -180,8 +181,18 @@ impl<K: ObjectKey, V> Object<K, V> {
         ensures unchanged { OnErr result (self.new ≡ self.old) }
         ensures handed_back { IfErr result (λ pair. (pair.key ≡ key) × (pair.value ≡ value)) }
     {
-        let hash = self.pairs.hash_for_table(key.as_text());
+        let hash = self.hash_for_table(key.as_text());
         self.insert_by(hash, key, value)
+    }
+
+    /// The key's hash, if there is a table, so that an insertion computes it once.
+    fn hash_for_table(&self, key: &str) -> Option<u64>
+        ensures { IfSome result (λ hash. hash ≡ text_hash key.now) }
+    {
+        match self.pairs {
+            Pairs::Hashed(_) => Some(hash_key(key)),
+            Pairs::Listed(_) => None,
+        }
     }
 
     /// As `insert`. `hash` is the key's hash, if it is known.

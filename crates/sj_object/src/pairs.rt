@@ -49,16 +49,6 @@ impl<K, V> Pairs<K, V> {
             Pairs::Hashed(pairs) => Box::into_inner(pairs).entries,
         }
     }
-
-    /// The key's hash, if there is a table, so that a caller computes it once.
-    pub(crate) fn hash_for_table(&self, key: &str) -> Option<u64>
-        ensures { IfSome result (λ hash. hash ≡ text_hash key.now) }
-    {
-        match self {
-            Pairs::Hashed(_) => Some(hash_key(key)),
-            Pairs::Listed(_) => None,
-        }
-    }
 }
 
 impl<K: ObjectKey, V> Pairs<K, V> {
