@@ -1,5 +1,5 @@
 //! Stage two by itself, after a scan and the reservation of its room.
-use super::{expect_eq, expect_shown, expect_text};
+use super::{expect_debug, expect_eq, expect_shown};
 use sj_base::Reads;
 use sj_parse::laws::{Frame, descend};
 use sj_parse::{DescentFault, DescentKind};
@@ -49,6 +49,5 @@ fn stage_two_alone(rt: HostRuntime) {
 fn reads_show_nothing(rt: HostRuntime) {
     let mut reads = Reads::new(&[7u32]);
     reads.at(0);
-    let text = format!(in rt.alloc(); "{reads:?}").expect(&rt, "memory");
-    expect_text(&rt, text, "Reads { .. }");
+    expect_debug(&rt, rt.alloc(), &reads, "Reads { .. }");
 }

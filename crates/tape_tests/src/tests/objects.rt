@@ -1,8 +1,9 @@
 //! Of `sj_object`: worked rows, and calls with ample memory.
-use super::{expect_at, expect_eq, expect_shown, expect_text, expect_that};
+use super::{expect_at, expect_debug, expect_eq, expect_shown, expect_text, expect_that};
 use sj_base::{StaticNode, TryCopy};
 use sj_object::{
-    CopyKey, Iter, MakeKey, NotSoRandomState, Object, ObjectHasher, ObjectKey, Refused, hash_key,
+    CopyKey, Iter, MakeKey, Members, NotSoRandomState, Object, ObjectHasher, ObjectKey, Refused,
+    hash_key,
 };
 use std::alloc::{AllocError, Global};
 use std::borrow::CowStr;
@@ -148,9 +149,17 @@ fn pairs_in_order(rt: HostRuntime) {
         *value = 5;
     }
     expect_eq(&rt, object.get_mut("d"), None);
-    let text = format!(in rt.alloc(); "{object:?}").expect(&rt, "memory");
-    expect_text(&rt, text, r#"{"b": 2, "a": 5}"#);
+    expect_debug(&rt, rt.alloc(), &object, r#"{"b": 2, "a": 5}"#);
     expect_pairs(&rt, rt.alloc(), object);
+}
+
+// Members show their pairs as the object does that is made of them.
+#[test]
+fn debug_of_members(rt: HostRuntime) {
+    let mut members = Members::with_capacity(rt.alloc(), 1).expect(&rt, "memory");
+    members.make_room().expect(&rt, "memory");
+    members.push_reserved(CowStr::Borrowed("b"), 2u64);
+    expect_debug(&rt, rt.alloc(), &members, r#"{"b": 2}"#);
 }
 
 // The keys k0 to k32, without k0 if `first` is 1, each with its number as its value.

@@ -1,6 +1,6 @@
 //! Of `sj_base` and `sj_reads`: printed texts, the display texts of errors, worked rows, and that there is memory for what
 //! is asked.
-use super::{expect_at, expect_bytes, expect_eq, expect_shown, expect_that};
+use super::{expect_at, expect_bytes, expect_debug, expect_eq, expect_shown, expect_that};
 use sj_base::{
     AccessError, Counted, Decimal, DecimalBuf, DecimalCow, Error, ErrorType, Layout, Reads, Scalar,
     StaticNode, TextBuffer, Trace, TryCopy, TryTypeError, ValueType, WriteFault, print_text,
@@ -89,6 +89,14 @@ fn error_texts(rt: HostRuntime) {
         expect_shown(&rt, alloc, fault, text);
     }
     expect_shown(&rt, alloc, &WriteFault, "WriteFault");
+}
+
+// A buffer shows its text, and not the room behind it.
+#[test]
+fn debug_of_buffer(rt: HostRuntime) {
+    let mut buffer = TextBuffer::new(Vec::new(rt.alloc()));
+    print_text(&mut buffer, &Scalar::Static(StaticNode::I64(-3))).expect(&rt, "memory");
+    expect_debug(&rt, rt.alloc(), &buffer, "TextBuffer([45, 51])");
 }
 
 fn copy_of<T: TryCopy>(rt: &impl Abort, value: &T) -> T {
