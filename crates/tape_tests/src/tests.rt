@@ -47,7 +47,11 @@ fn expect_text(rt: &impl Abort, found: String, text: &str) {
 
 // Fails unless this is the value's `Debug` text.
 fn expect_debug(rt: &impl Abort, alloc: Global, value: &impl Debug, text: &str) {
-    expect_text(rt, format!(in alloc; "{value:?}").expect(rt, "memory"), text);
+    expect_text(
+        rt,
+        format!(in alloc; "{value:?}").expect(rt, "memory"),
+        text,
+    );
 }
 
 // Fails unless this is how the value is displayed.
