@@ -28,7 +28,8 @@ use std::alloc::{AllocError, Global};
 /// The write calls are `insert`, `remove`, `push`, `pop` and `set_at`. Those that take `depth` refuse a value that would nest
 /// more levels than that in the document. With `Undo::Possible` each returns what takes the write back, or `None` if it is
 /// refused. With `Undo::Impossible` it returns `None`, refused or not. After an error the document is unchanged, or the write has
-/// been made in full, or, in the form `Lazy`, only the repeated members have been dropped.
+/// been made in full, or, in the form `Lazy`, only the repeated members have been dropped. No inverse is handed out then, also
+/// where the write has been made.
 pub trait Document {
     // The tree that the document stands for.
     ghost tree: { Self → Tree };

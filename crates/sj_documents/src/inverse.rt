@@ -50,7 +50,8 @@ impl Inverse {
 
 /// A change of a part of a document.
 ///
-/// It can't be made if the part is another kind of value than its variant changes, or isn't as the variant says it has to be.
+/// It can't be made if the path of the inverse selects nothing, whatever the variant, nor if the part is another kind of value than
+/// its variant changes, or isn't as the variant says it has to be.
 #[derive(Debug, Drop)]
 pub enum Change {
     /// Changes nothing. Takes back a `remove` or a `pop` that found nothing.

@@ -53,11 +53,13 @@ impl<'t, 'i> Value<'_, 't, 'i> {
         }
     }
 
-    /// Returns the string, or `None` if the value isn't a string. A string of a document that is only borrowed is copied.
+    /// Returns the string, or `None` if the value isn't a string. If the value only borrows its document, a text that this document
+    /// owns is copied. A text that is borrowed from the input stays borrowed.
     ///
     /// # Errors
     ///
-    /// `AllocError` if there is no memory for the copy. Only a borrowed string is copied. The value is dropped.
+    /// `AllocError` if there is no memory for that copy. The value is dropped. A part of a tape needs no memory, nor does a value
+    /// that owns its document.
     pub fn into_string(self) -> Result<Option<CowStr<'i>>, AllocError>
         ensures ok { IfOk result (λ s. option_map cow_str_bytes s ≡ str_read (scalar_in (lazy_tree self.entry))) }
         ensures succeeds { borrows self.entry ≡ false → IsOk result }

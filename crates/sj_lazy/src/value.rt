@@ -112,7 +112,8 @@ impl<'b, 't, 'i> Value<'b, 't, 'i> {
         Ok(Value::owned(BorrowedValue::array_with_capacity(alloc, capacity)?))
     }
 
-    /// Creates an object without members, as a document that has room for this many.
+    /// Creates an object without members, as a document that has room for this many. The hash table isn't made yet: the 33rd
+    /// member still needs memory.
     ///
     /// # Errors
     ///

@@ -21,7 +21,8 @@ pub struct FormatterOutput<'f, W: fmt::Write> {
     pub formatter: &'f mut fmt::Formatter<W>,
 }
 
-/// An append fails with an `AllocError` if the formatter does, or if the bytes aren't UTF-8.
+/// An append fails with an `AllocError` if the formatter does, or if the bytes aren't UTF-8. What the formatter has taken then is
+/// unspecified.
 impl<W: fmt::Write> Output for FormatterOutput<'_, W> {
     type Fault = AllocError;
 

@@ -59,7 +59,8 @@ impl<K: ObjectKey, D: Literal> Value<K, D> {
         Ok(Value::Array(Vec::with_capacity(alloc, capacity)?))
     }
 
-    /// Creates an object without members that has room for this many.
+    /// Creates an object without members that has room for this many. The hash table isn't made yet: the 33rd member still needs
+    /// memory.
     ///
     /// # Errors
     ///

@@ -267,9 +267,9 @@ pub fn run<R: Source, W: Sink>(
 /// Does what [`run`] does, under the limit of levels of the buffers, whose room is used for each line. Runs that use the same
 /// buffers one after the other take room for them once.
 ///
-/// On `Ok` the buffers have read one text for each line, and one for each reload that replied `true`, and they have the positions
-/// that the last one left: those of before where there was no text, or where the last one had more than 4294967295 bytes. Room for
-/// more than 2^20 positions is given back before the next text is read.
+/// On `Ok` the buffers have read one text for each line, and one for each reload that replied `true`. They have the positions that
+/// the last text left, or those of before if there was no text. If the last text had more than 4294967295 bytes, nothing is said of
+/// the positions. Room for more than 2^20 positions, and the positions in it, are given back before the next text is read.
 ///
 /// # Errors
 ///

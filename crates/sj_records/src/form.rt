@@ -8,8 +8,8 @@ pub enum Form {
     /// A document that borrows its texts from the line, or, after a reload, from the printed text. Of members with equal keys
     /// only the first is kept.
     Borrowed,
-    /// The tape of the line, or, after a reload, of the printed text, until the next command that writes, refused or not. From
-    /// then on a document as that of [`Form::Borrowed`]. All of members with equal keys are there in the tape, and only the first
-    /// in the document.
+    /// The tape of the line, or, after a reload, of the printed text, until the next write command, refused or not, or the next
+    /// `undo` that takes a write back. From then on it is a document as that of [`Form::Borrowed`]. The tape has all members with
+    /// equal keys, and the document only the first.
     Lazy,
 }

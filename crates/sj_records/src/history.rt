@@ -18,7 +18,9 @@ use std::alloc::AllocError;
 /// `history` has what takes the document's writes back, the newest last. With [`Undo::Possible`] a write that isn't refused adds
 /// its inverse. With [`Undo::Impossible`] no write adds one, which takes less time and memory. `Command::Undo` takes the newest
 /// inverse off and makes its change, and replies `false` if there is none, or if the change can't be made. So after a write with
-/// `Undo::Impossible` it would take back an older one. `depth` is the most levels that the document may nest after a write.
+/// `Undo::Impossible` it would take back an older one.
+///
+/// A value that would nest deeper than `depth` levels in the document is refused. What is there already isn't measured.
 ///
 /// The law [`histories_stand`](crate::laws::histories_stand) says what `undo` brings back, for commands whose values repeat no key.
 ///

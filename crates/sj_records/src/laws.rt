@@ -1,4 +1,6 @@
 //! Laws of the definitions. The contract of each function is the law. A body is empty, or calls laws that the proof needs.
+//!
+//! The base of a write is the tree that it is made on, which `undo` brings back.
 ghost use Rattle.sj_records.specs.Laws.{OneRecord, OneReading, DepthStays, NoneIsRepeated, BasesAreKept, TreesAreKept, FormsAgree, RefusingFormsAgree, NoLineFeed, ChangesNothing, ScriptsContinue};
 ghost use Rattle.sj_records.specs.Laws.{InsertUndone, RemoveUndone, PushUndone, PopUndone, SetUndone, HistoriesStand};
 ghost use Rattle.sj_scripts.specs.Command.{reload, reload_pp};
@@ -37,8 +39,8 @@ pub fn kept_along()
 /// Two scripts can be run one after the other. The second, on the document that the first printed, gives the replies and the
 /// document that it gives after the first, under the same limit of levels, form and rule for repeated keys.
 ///
-/// `Script::read` accepts the first script, its line isn't refused for a repeated key, the second script has no `undo`, and the
-/// printed document has at most 4294967295 bytes.
+/// This holds if `Script::read` accepts the first script, its line isn't refused for a repeated key, the second script has no
+/// `undo`, and the printed document has at most 4294967295 bytes.
 pub fn scripts_continue()
     ensures { ScriptsContinue }
 {
