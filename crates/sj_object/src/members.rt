@@ -37,6 +37,8 @@ impl<K: ObjectKey, V> Members<K, V> {
     }
 
     /// Returns `true` if a pair has the key.
+    // The builder of documents looks few keys up, and its loop is faster without this code.
+    #[inline(never)]
     pub fn contains_key(&self, key: &str) -> bool
         requires { AreMembers K.text self.now }
         ensures { result ≡ is_some (value_at K.text (member_pairs self.now) key.now) }

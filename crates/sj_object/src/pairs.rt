@@ -101,12 +101,32 @@ impl<K: ObjectKey, V> Pairs<K, V> {
                 if entries.len() < LIST_MAX {
                     return Ok(());
                 }
-                let pairs = HashedPairs::take(entries)?;
-                *self = Pairs::Hashed(pairs);
-                Ok(())
+                self.make_table()
             }
             Pairs::Hashed(pairs) => pairs.make_room(),
         }
+    }
+
+    /// Makes a table for listed pairs, whose vector has room for one more.
+    #[cold]
+    #[inline(never)]
+    fn make_table(&mut self) -> Result<(), AllocError>
+    where
+        K: Drop,
+        V: Drop,
+        requires listed { IsListed self.old }
+        requires found { IsFound K.text self.old }
+        requires room { length (stored self.old).items < vec_capacity (stored self.old) }
+        ensures pairs { (stored self.new).items ≡ (stored self.old).items }
+        ensures found { IsFound K.text self.new }
+        ensures room { OnOk result (HasRoom self.new) }
+    {
+        let Pairs::Listed(entries) = self else {
+            unreachable!();
+        };
+        let pairs = HashedPairs::take(entries)?;
+        *self = Pairs::Hashed(pairs);
+        Ok(())
     }
 
     /// Puts a pair last, for which there is room. `hash` is the hash of its key, if that is known.
@@ -200,6 +220,8 @@ impl<K: ObjectKey, V> HashedPairs<K, V> {
     }
 
     /// Makes room for one more pair.
+    // Few objects have a table, and a loop that fills others is faster without this code.
+    #[inline(never)]
     fn make_room(&mut self) -> Result<(), AllocError>
         requires { IsTable self.old.table (keys_of K.text self.old.entries.items) }
         ensures pairs { self.new.entries.items ≡ self.old.entries.items }
