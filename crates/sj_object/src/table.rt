@@ -1,8 +1,8 @@
 //! A hash table from the hashes of keys to the places of their pairs.
 //!
-//! The hash of a key says in which chain its pair stands. A chain begins at its newest pair, and each link leads to the pair that
-//! came before it. Where a pair has the hash that is looked for, the texts of the keys decide. A new pair goes to the head of its
-//! chain, which takes one step however many keys share its hash.
+//! The hash of a key says in which chain its pair stands. A chain begins at the last of its pairs in the list, and each link leads
+//! to the one before it. Where a pair has the hash that is looked for, the texts of the keys decide. A new pair that goes last goes
+//! to the head of its chain, which takes one step however many keys share its hash.
 ghost use Rattle.std.specs.Prelude.{◌≡◌, ◌+◌, ◌<◌, ◌≤◌, ℕ, List, [], ◌∷◌, ◌++◌, length, set, true, Some, None, IfSome, IfOk, OnOk};
 ghost use Rattle.std.specs.List.{insert, remove};
 ghost use Rattle.std.specs.Vec.{vec_capacity};
@@ -22,7 +22,7 @@ use std::mem;
 struct Link {
     /// The hash of its key.
     hash: u64,
-    /// The place of the pair that came before it in its chain.
+    /// The place of the pair before it in its chain.
     next: Option<usize>,
 }
 
@@ -34,7 +34,7 @@ pub(crate) struct Table {
     links: Vec<Link>,
 }
 
-/// 2^64 by the golden ratio, as an odd number. A product with it depends in its high bits on all bits of a hash, whose own high
+/// 2^64 divided by the golden ratio, as an odd number. A product with it depends in its high bits on all bits of a hash, whose own high
 /// bits are 0 for a short key.
 const MIX: u64 = 0x9e37_79b9_7f4a_7c15;
 
