@@ -34,8 +34,8 @@ pub(crate) struct Table {
     links: Vec<Link>,
 }
 
-/// 2^64 divided by the golden ratio, as an odd number. A product with it depends in its high bits on all bits of a hash, whose own high
-/// bits are 0 for a short key.
+/// 2^64 divided by the golden ratio, as an odd number. A product with it depends in its high bits on all bits of a hash, whose own
+/// high bits are 0 for a short key.
 const MIX: u64 = 0x9e37_79b9_7f4a_7c15;
 
 /// Returns `true` if the pair at this place has the key.
