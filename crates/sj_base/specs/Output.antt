@@ -4,14 +4,14 @@ use Rattle.std.specs.Io.KnownBytes.{Appends}
 use Rattle.sj_base.specs.Calls.{Calls, unsuccessful}
 
 -- What it takes to append bytes in pieces. `A s t xs`: the state t is s with xs appended. `B s t xs`: the state t is what a
--- fault left of appending xs to s, so a prefix of them is appended.
+-- fault may leave of appending xs to s.
 pub record Continues {S : Type 0} (A B : S → S → List ℕ → Type 0) : Type 0 where
   pub none : (s : S) → A s s []
   pub then : (s t u : S) (xs ys : List ℕ) → A s t xs → A t u ys → A s u (xs ++ ys)
   pub fails : (s t u : S) (xs ys : List ℕ) → A s t xs → B t u ys → B s u (xs ++ ys)
   pub before : (s t : S) (xs ys : List ℕ) → B s t xs → B s t (xs ++ ys)
 
--- Bytes are printed to an output with the relations A and B: on an error a prefix of them.
+-- Bytes are printed to an output with the relations A and B.
 abbrev pub Prints : {S X E : Type 0} → (S → S → List ℕ → Type 0) → (S → S → List ℕ → Type 0) → Result X E → S → S → List ℕ → Type 0
 Prints A B (Ok done) old new bytes = A old new bytes
 Prints A B (Err e) old new bytes = B old new bytes

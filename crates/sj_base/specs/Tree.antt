@@ -23,7 +23,7 @@ mutual
     no_members : Members
     member : List ℕ → Tree → Members → Members
 
--- Each integer is in range, each decimal literal follows the grammar of numbers, and each string and key is UTF-8.
+-- Each integer is in range, each decimal literal is one by IsDecimal, and each string and key is UTF-8.
 abbrev mutual
   pub IsValidTree : Tree → Type 0
   IsValidTree null = ⊤

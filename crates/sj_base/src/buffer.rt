@@ -7,8 +7,10 @@ use crate::place::{place_plain_key, place_quoted, place_text};
 use std::alloc::AllocError;
 use std::fmt::{self, Debug};
 
+/// The first step, in bytes.
 const FIRST_STEP: usize = 256;
 
+/// The longest step, in bytes.
 const LAST_STEP: usize = 4096;
 
 static ZEROS: [u8; LAST_STEP] = [0; LAST_STEP];
@@ -20,7 +22,8 @@ static ZEROS: [u8; LAST_STEP] = [0; LAST_STEP];
 pub struct TextBuffer {
     bytes: Vec<u8>,
     len: usize,
-    /// How much room is made next. It doubles, so that a short text doesn't pay for the room of a long one.
+    /// How many bytes of room are initialized next. It doubles up to `LAST_STEP`, so that a short text doesn't pay for the room of
+    /// a long one.
     step: usize,
     ghost within: { len ≤ length bytes.items },
     ghost step_fits: { (0 < step) × (step ≤ 4096) },

@@ -43,8 +43,8 @@ impl<'a> Decimal<'a> {
         }
     }
 
-    /// Returns `bytes` as a decimal literal, for a caller that has tested them, as [`Decimal::from_bytes`] does: they have to be a
-    /// JSON number with a fraction or an exponent, or an integer out of range.
+    /// Returns `bytes` as a decimal literal, without a test. They have to be one, which [`Decimal::from_bytes`] tells: a JSON
+    /// number with a fraction or an exponent, or an integer out of range.
     #[inline(always)]
     pub fn from_bytes_unchecked(bytes: &'a [u8]) -> Decimal<'a>
         requires { IsDecimal bytes.now }

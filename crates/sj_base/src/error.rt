@@ -14,7 +14,7 @@ pub enum ErrorType {
     Unexpected,
     /// An input longer than `u32::MAX` bytes.
     InputTooLarge,
-    /// A padded input with fewer than 64 bytes after its text.
+    /// A padded input with fewer than 64 bytes after its text, or one that ends within it.
     InsufficientPadding,
     /// Kept from `simd_json`; no function returns it.
     BadKeyType,
@@ -179,7 +179,8 @@ impl Error {
         }
     }
 
-    /// Returns the index of the byte in the input, in bytes from 0. Port of `simd_json::Error::index`.
+    /// Returns the index of the byte in the input, in bytes from 0. It is 0 also if the error is about no byte. Port of
+    /// `simd_json::Error::index`.
     pub fn index(&self) -> usize
         ensures { result ≡ self.now.index }
     {
@@ -200,7 +201,7 @@ impl Error {
         self.error
     }
 
-    /// Returns `true` if a read or a write failed. Port of `simd_json::Error::is_io`. There is no such kind, so it is `false`.
+    /// Returns `true` if a read or a write failed. Port of `simd_json::Error::is_io`. No kind says so, so it returns `false`.
     pub fn is_io(&self) -> bool
         ensures { IsTrue result ↔ (class_of self.now.error ≡ io_class) }
     {

@@ -6,11 +6,13 @@ use crate::static_node::ValueType;
 use std::alloc::AllocError;
 use thiserror::Error;
 
-/// A read that asked for another type than the value has. Port of `value_trait::TryTypeError`.
+/// A read that the value doesn't answer: it is of another type, or an integer that doesn't fit. Port of
+/// `value_trait::TryTypeError`.
 #[derive(Clone, Copy, Debug, PartialEq, Eq, Error)]
 #[error("TryTypeError")]
 pub struct TryTypeError {
-    /// The type that was asked for.
+    /// The type that was asked for: `I64` for each signed type of integers, `U64` for each unsigned one. It is that of the value
+    /// where an integer doesn't fit.
     pub expected: ValueType,
     /// The type of the value.
     pub got: ValueType,

@@ -21,7 +21,7 @@ use crate::put::{print_break, print_pieces, print_string};
 /// A layout of JSON text.
 #[derive(Clone, Copy, Debug)]
 pub enum Layout {
-    /// The whole text on one line, without spaces.
+    /// The whole text on one line, without whitespace between tokens.
     Compact,
     /// Each item and each member on a line of its own, with two spaces a level before it. The field is the level of the
     /// line that the value begins on.
@@ -33,7 +33,7 @@ impl Layout {
     ///
     /// # Errors
     ///
-    /// The fault of the output. Nothing is printed then.
+    /// The fault of the output, which leaves of the bracket what [`Output::put`] does.
     #[inline(always)]
     pub fn open_list<O: Output>(self, out: &mut O) -> Result<Container, O::Fault>
         requires { level_of self + 1 < 2 ^ 64 }
@@ -53,7 +53,7 @@ impl Layout {
     ///
     /// # Errors
     ///
-    /// The fault of the output. Nothing is printed then.
+    /// The fault of the output, which leaves of the bracket what [`Output::put`] does.
     #[inline(always)]
     pub fn open_object<O: Output>(self, out: &mut O) -> Result<Container, O::Fault>
         requires { level_of self + 1 < 2 ^ 64 }
@@ -142,7 +142,7 @@ impl Container {
     ///
     /// # Errors
     ///
-    /// The fault of the output. Only a prefix is then printed.
+    /// The fault of the output, which leaves of this text what [`Output::put`] does. The container counts as not empty then.
     #[inline(always)]
     pub fn next<O: Output>(&mut self, out: &mut O) -> Result<(), O::Fault>
         ensures container { self.new ≡ filled self.old }
@@ -159,7 +159,7 @@ impl Container {
     ///
     /// # Errors
     ///
-    /// The fault of the output. Only a prefix is then printed.
+    /// The fault of the output, which leaves of this text what [`Output::put`] does. The container counts as not empty then.
     #[inline(always)]
     pub fn key<O: Output>(&mut self, key: &str, out: &mut O) -> Result<(), O::Fault>
         ensures container { self.new ≡ filled self.old }
@@ -194,7 +194,7 @@ impl Container {
     ///
     /// # Errors
     ///
-    /// The fault of the output. Only a prefix is then printed.
+    /// The fault of the output, which leaves of this text what [`Output::put`] does.
     #[inline(always)]
     pub fn close<O: Output>(self, out: &mut O) -> Result<(), O::Fault>
         ensures { Prints O.appends O.begins result out.old out.new (end_text self) }

@@ -37,8 +37,8 @@ pub use stream::{Counted, Sink, Source};
 pub use trace::Trace;
 pub use try_copy::TryCopy;
 
-/// The limit of nesting, in levels, of calls that aren't given one. A scalar has level 0.
+/// The limit of nesting, in levels, of calls that aren't given one. A scalar has depth 0, an empty array or object depth 1.
 pub const DEFAULT_MAX_DEPTH: usize = 1024;
 
-/// The number of bytes that must follow the text in a padded input. Port of `simd_json::SIMDJSON_PADDING`.
+/// The least number of bytes that must follow the text in a padded input.
 pub const INPUT_PADDING: usize = 64;

@@ -1,4 +1,4 @@
-//! What text is printed to: a vector, a buffer, or a sink.
+//! What text is printed to, as a vector, a buffer or a sink.
 ghost use Rattle.std.specs.Prelude.{◌≡◌, List, ℕ, [], ◌++◌, if◌then◌else◌, IfOk, OnErr};
 ghost use Rattle.sj_base.specs.Output.{Continues, Prints, WritesAll, WritesPrefix};
 ghost use Rattle.sj_base.specs.Layout.{compact_key};
@@ -9,7 +9,7 @@ use crate::fault::WriteFault;
 use crate::stream::Sink;
 use std::alloc::AllocError;
 
-/// An output that bytes are appended to: a vector of bytes, a [`TextBuffer`](crate::TextBuffer), or any [`Sink`].
+/// An output that bytes are appended to, as a vector of bytes, a [`TextBuffer`](crate::TextBuffer) or any [`Sink`].
 pub trait Output {
     /// The error of an append.
     type Fault;
@@ -17,14 +17,15 @@ pub trait Output {
     // The second state is the first with all of the bytes appended.
     ghost appends: { Self → Self → List ℕ → Type 0 };
 
-    // The second state is what a fault leaves: a prefix of the bytes is appended.
+    // The second state is what a fault may leave of appending the bytes.
     ghost begins: { Self → Self → List ℕ → Type 0 };
 
     /// Appends the bytes.
     ///
     /// # Errors
     ///
-    /// The fault of the output. A prefix of the bytes is then appended.
+    /// The fault of the output. What it leaves is said by the impl: in a vector, a buffer or a sink, a prefix of the bytes is
+    /// appended.
     fn put(&mut self, bytes: &[u8]) -> Result<(), Self::Fault>
         ensures { Prints appends begins result self.old self.new bytes.now };
 
@@ -35,7 +36,7 @@ pub trait Output {
     ///
     /// # Errors
     ///
-    /// The fault of the output. A prefix of the text between quotes is then appended.
+    /// The fault of the output, which leaves of the text between quotes what [`put`](Output::put) does.
     fn put_plain(&mut self, text: &[u8]) -> Result<bool, Self::Fault>
         ensures ok { IfOk result (λ done. appends self.old self.new (if done then quoted text.now else [])) }
         ensures err { OnErr result (begins self.old self.new (quoted text.now)) }
@@ -51,7 +52,7 @@ pub trait Output {
     ///
     /// # Errors
     ///
-    /// The fault of the output. A prefix of the comma, the key and the colon is then appended.
+    /// The fault of the output, which leaves of the comma, the key and the colon what [`put`](Output::put) does.
     fn put_plain_key(&mut self, with_comma: bool, key: &[u8]) -> Result<bool, Self::Fault>
         ensures ok { IfOk result (λ done. appends self.old self.new (if done then compact_key with_comma key.now else [])) }
         ensures err { OnErr result (begins self.old self.new (compact_key with_comma key.now)) }

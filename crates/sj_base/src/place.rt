@@ -1,6 +1,7 @@
 //! Stores bytes at a place of a slice, most of them in pieces of a fixed size, each of which is one load and one store.
 //!
-//! Each piece is also tested for bytes that need an escape. A text is one piece, or several that overlap.
+//! Pieces are also tested for bytes that need an escape. A text of up to 32 bytes is one piece, or two that may overlap. A longer
+//! one is pieces of 32 bytes, or one copy where no test is wanted.
 ghost use Rattle.std.specs.Prelude.{◌≡◌, ◌+◌, ◌≤◌, ◌<◌, ◌++◌, [], ◌∷◌, length, take, slice_range, IsTrue, flat_map};
 ghost use Rattle.std.specs.Int.{from_bool};
 ghost use Rattle.sj_base.specs.Layout.{compact_key};
@@ -53,6 +54,7 @@ pub(crate) fn place_text(buf: &mut [u8], at: usize, text: &[u8])
     if text.len() > 32 {
         buf[at..at + text.len()].copy_from_slice(text);
     } else {
+        // The test isn't used here, and goes away once the call is inlined.
         place_short(buf, at, text);
     }
 }
@@ -121,6 +123,7 @@ fn place_short(buf: &mut [u8], at: usize, text: &[u8]) -> bool
     }
 }
 
+/// Stores the first N bytes and the last N, which overlap where the text is shorter than both.
 #[inline(always)]
 fn place_ends<const N: usize>(buf: &mut [u8], at: usize, text: &[u8]) -> bool
     requires lanes { N ≤ 64 }

@@ -1,7 +1,7 @@
 //! JSON text of strings, integers and scalars.
 //!
-//! The `put_` functions append to a vector, all of the text or nothing. [`print_text`] appends to any [`Output`], and
-//! leaves a prefix of the text if the output fails.
+//! The `put_` functions append to a vector, all of the text or nothing. [`print_text`] appends to any [`Output`]. If that fails,
+//! what it leaves is what [`Output::put`] leaves.
 ghost use Rattle.std.specs.Prelude.{◌≡◌, ◌*◌, ◌<◌, OnOk, OnErr, take, flat_map, replicate};
 ghost use Rattle.sj_base.specs.Output.{Prints, AppendsOrLeaves};
 ghost use Rattle.std.specs.Char.{digit_char};
@@ -19,7 +19,7 @@ use std::alloc::AllocError;
 
 static SPACES: [u8; 64] = [b' '; 64];
 
-/// Appends the string between quotes, with an escape for each quote, backslash and control character.
+/// Appends the string between quotes, with an escape for each quote, each backslash and each character below U+0020.
 ///
 /// # Errors
 ///
@@ -96,7 +96,7 @@ pub fn whole_or_none(
 ///
 /// # Errors
 ///
-/// The fault of the output. A prefix of the text is then printed.
+/// The fault of the output, which leaves of the text what [`Output::put`] does.
 #[inline(always)]
 pub fn print_text<O: Output>(out: &mut O, scalar: &Scalar<'_>) -> Result<(), O::Fault>
     ensures { Prints O.appends O.begins result out.old out.new (text (scalar_tree scalar.now)) }

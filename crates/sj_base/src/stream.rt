@@ -42,6 +42,8 @@ pub trait Sink {
 
     /// Writes some bytes from the front of `buf`, and returns their number (`std::io::Write::write`).
     ///
+    /// If `buf` isn't empty, 0 means that the writer took no byte. As an [`Output`](crate::Output) a sink fails then.
+    ///
     /// # Errors
     ///
     /// The error of the writer. No byte is then written.
@@ -53,7 +55,8 @@ pub trait Sink {
         ensures err_counts { IfErr result (CountsErr (calls self.old) (calls self.new)) };
 }
 
-/// The calls that were made, and those of each outcome that moved nothing, each with the number of bytes that it moved.
+/// Lists of the calls that were made, failed, were interrupted and moved no byte. The entry of a call is the number of bytes that
+/// it moved.
 #[derive(Debug, Drop)]
 struct Tally {
     made: Trace,

@@ -34,6 +34,7 @@ impl TryCopy for String {
     ghost tree = { string };
 
     fn try_clone(&self) -> Result<String, AllocError> {
+        // This type has a `clone` of its own, which answers a `Result`.
         self.clone()
     }
 }

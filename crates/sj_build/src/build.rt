@@ -31,7 +31,7 @@ struct Parts<'de, V> {
 /// The most nodes for which a stack has room at first. The C library serves requests of that size from its cache.
 const FIRST_NODES: usize = 42;
 
-/// No parts, with room for this many nodes, or for `FIRST_NODES` if that is fewer.
+/// No parts, with room for this many nodes, but for no more than `FIRST_NODES`.
 fn no_parts<'de, V: BuildValue<'de, K> + Drop, K: MakeKey<'de> + Drop>(
     alloc: Global,
     count: usize,
@@ -86,7 +86,8 @@ fn take_key<'de, V: BuildValue<'de, K> + Drop, K: MakeKey<'de> + Drop>(
     }
 }
 
-/// Moves the next part to the items, which have room. Each value is put in its place where it is made.
+/// Moves the next part to the items, which have room. Each branch puts its own value, so that none is copied on its way out of the
+/// `match`.
 #[inline(always)]
 fn take_item<'de, V: BuildValue<'de, K> + Drop, K: MakeKey<'de> + Drop>(
     alloc: Global,
@@ -138,7 +139,7 @@ const MARKS: usize = 128;
 /// The keys that were met.
 #[derive(Drop)]
 struct MetKeys<'de> {
-    /// For each mark, whether a key has it, where no set lists the keys. A key of a new mark is new.
+    /// For each mark, whether a key with it was met. It isn't used where a set lists the keys. A key whose mark wasn't met is new.
     marks: [bool; MARKS],
     /// The keys, where a set lists them.
     listed: Option<BTreeSet<&'de str>>,
@@ -213,7 +214,7 @@ fn put_new<'de, V: BuildValue<'de, K> + Drop, K: MakeKey<'de> + Drop>(
     members.push_reserved(key, value);
 }
 
-/// Puts a member last as `put_new` does, with the value of the next part. Each value is put in its place where it is made.
+/// Puts a member last as `put_new` does, with the value of the next part, which each branch puts itself as in `take_item`.
 #[inline(always)]
 fn put_part<'de, V: BuildValue<'de, K> + Drop, K: MakeKey<'de> + Drop>(
     alloc: Global,
@@ -304,6 +305,7 @@ fn take_object<'de, V: BuildValue<'de, K> + Drop, K: MakeKey<'de> + Drop>(
     for _i in 0..len {
         take_member(alloc, parts, &mut met, &mut members)?;
     }
+    // The set is given back before the object is made.
     drop(met);
     V::from_object(alloc, members)
 }
@@ -363,13 +365,13 @@ fn place<'de, V: BuildValue<'de, K> + Drop, K: MakeKey<'de> + Drop>(
     }
 }
 
-/// Builds a value of a view of a tape. Of members with equal keys the first one is kept. Room for the items of an array
+/// Builds the value that a view of a tape shows. Of members with equal keys the first one is kept. Room for the items of an array
 /// and for the members of an object is taken once. A view without nodes gives a null.
 ///
 /// # Errors
 ///
-/// `AllocError` if there is no memory for the value, or for the set of the keys of an object with more than 1,024 members. What
-/// was built is dropped.
+/// `AllocError` if there is no memory for the value, for the stack of its parts, or for the set of the keys of an object with more
+/// than 1,024 members. What was built is dropped.
 pub fn build_value<'de, V: BuildValue<'de, K> + Drop, K: MakeKey<'de> + Drop>(
     alloc: Global,
     view: TapeValue<'_, 'de>,
@@ -377,7 +379,8 @@ pub fn build_value<'de, V: BuildValue<'de, K> + Drop, K: MakeKey<'de> + Drop>(
     ensures { IfOk result (λ v. V.tree v ≡ keep (view_tree view.entry)) }
 {
     let nodes = view.nodes();
-    let mut parts = no_parts(alloc, nodes.len())?;
+    // The first node is never a part.
+    let mut parts = no_parts(alloc, nodes.len().saturating_sub(1))?;
     let mut left = nodes.len();
     while left > 0 {
         left -= 1;
@@ -404,12 +407,13 @@ fn release(nodes: &mut Vec<Node<'_>>)
 
 /// Builds the value of a tape, as [`build_value`] does of a view. Of a tape without nodes it is a null.
 ///
-/// The room of the nodes is given back on the way, so a large tape and its value are never both in memory as a whole.
+/// The room of the tape's nodes is given back on the way. The nodes of items and members stand on a stack until their container is
+/// built.
 ///
 /// # Errors
 ///
-/// `AllocError` if there is no memory for the value, or for the set of the keys of an object with more than 1,024 members. What
-/// was built is dropped.
+/// `AllocError` if there is no memory for the value, for the stack of its parts, or for the set of the keys of an object with more
+/// than 1,024 members. What was built is dropped.
 pub fn build_tape<'de, V: BuildValue<'de, K> + Drop, K: MakeKey<'de> + Drop>(
     alloc: Global,
     tape: Tape<'de>,
@@ -417,7 +421,7 @@ pub fn build_tape<'de, V: BuildValue<'de, K> + Drop, K: MakeKey<'de> + Drop>(
     ensures { IfOk result (λ v. V.tree v ≡ keep (nodes_tree (tape_nodes tape.entry))) }
 {
     let mut nodes = tape.into_nodes();
-    let mut parts = no_parts(alloc, nodes.len())?;
+    let mut parts = no_parts(alloc, nodes.len().saturating_sub(1))?;
     while let Some(node) = nodes.pop() {
         if nodes.is_empty() {
             return build(alloc, node, &mut parts);

@@ -43,7 +43,7 @@ impl<'de, V: BuildValue<'de, K> + Drop, K: MakeKey<'de> + Drop> ValueDeserialize
     ///
     /// # Errors
     ///
-    /// `AllocError` if there is no memory for it. The same node comes next then.
+    /// `AllocError` if there is no memory for the value, or to build it. The same node comes next then.
     pub fn parse(&mut self, alloc: Global) -> Result<V, AllocError>
         requires { deserializer_next (left self.old) < length (deserializer_nodes (left self.old)) }
         ensures value { IfOk result (λ v. Takes (deserializer_nodes (left self.old)) (deserializer_next (left self.old))

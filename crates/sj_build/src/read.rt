@@ -24,7 +24,7 @@ use std::alloc::Global;
 ///
 /// # Errors
 ///
-/// Those of [`to_tape`], unchanged. `OutOfMemory` also comes if there is no memory for the document.
+/// Those of [`to_tape`], unchanged. `OutOfMemory` also comes if there is no memory for the document, or to build it.
 pub fn deserialize<'de, V: BuildValue<'de, K> + Drop, K: MakeKey<'de> + Drop>(
     alloc: Global,
     s: &'de mut [u8],
@@ -40,8 +40,8 @@ pub fn deserialize<'de, V: BuildValue<'de, K> + Drop, K: MakeKey<'de> + Drop>(
 ///
 /// # Errors
 ///
-/// Those of [`to_tape_with_buffers`], unchanged, which leave the buffers as they do there. `OutOfMemory` also comes if
-/// there is no memory for the document. The buffers then have the positions of the text.
+/// Those of [`to_tape_with_buffers`], unchanged, which says what they leave of the buffers. `OutOfMemory` also comes if there is
+/// no memory for the document, or to build it. The buffers then have the positions of the text.
 pub fn deserialize_with_buffers<'de, V: BuildValue<'de, K> + Drop, K: MakeKey<'de> + Drop>(
     alloc: Global,
     s: &'de mut [u8],

@@ -1,4 +1,4 @@
-//! Documents, which are written through the object that they may be.
+//! Documents as targets of known keys. A document that is an object is written through that object.
 //!
 //! In a document the value of a member has the document's own type, and there the prover can't tell what a write through a
 //! reference to it leaves. In [`KnownKeyDocument`] the two are different type parameters, so it can.

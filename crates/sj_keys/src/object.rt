@@ -73,6 +73,8 @@ impl<K: FromString + Drop, V: Drop> KnownKeyTargetMut for Object<K, V> {
         key: &KnownKey<'_>,
         with: F,
     ) -> Result<&mut V, KnownKeyError> {
+        // A key that is there needs no copy of the known key, which takes memory. It is looked up twice, as the object couldn't be
+        // written to where the reference of the first look-up may be returned.
         if self.get_known(key).is_some() {
             return Ok(self.get_known_mut(key).unwrap());
         }

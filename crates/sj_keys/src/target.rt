@@ -1,4 +1,4 @@
-//! What members are looked up in by known keys.
+//! The types in which known keys look up and write members.
 ghost use Rattle.std.specs.Prelude.{◌≡◌, ℕ, List, Option, Some, false, bytes_eq, IsSome, IsOk, IfOk, IfErr, OnOk, OnErr, MatchOption};
 ghost use Rattle.std.specs.Borrow.{LendsIf, LendsSoOk, sem};
 ghost use Rattle.std.specs.Cow.{cow_str_bytes};

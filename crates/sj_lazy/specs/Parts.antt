@@ -33,7 +33,8 @@ use Rattle.sj_lazy.specs.declared.object.Object.TheVariants as object
 use Rattle.sj_lazy.specs.declared.object.Values.{Values}
 use Rattle.sj_lazy.specs.declared.object.Values.TheVariants as values
 
--- The items of an array and the members of an object: of a tape their number and nodes, and of a document the values.
+-- The items of an array and the members of an object: of a tape their number and nodes, and of a document the items, or the
+-- pairs of a key and a value.
 pub data Inside (A : Type 0) : Type 0 where
   tape_inside : ℕ × List Node → Inside A
   document_inside : A → Inside A

@@ -56,6 +56,8 @@ impl<'t, 'i> Value<'_, 't, 'i> {
     }
 
     /// Returns the value of the first member with this key, or `None` if there is none or the value isn't an object.
+    ///
+    /// In a tape, it skips the members before it one by one.
     pub fn get(&self, name: &str) -> Option<Value<'_, 't, 'i>>
         ensures tree { option_map lazy_tree result ≡ child (lazy_tree self.now) (key name.now) }
         ensures part { option_map contents result ≡ part_of (contents self.now) (key name.now) }
@@ -75,6 +77,8 @@ impl<'t, 'i> Value<'_, 't, 'i> {
     }
 
     /// Returns the item at this index, or `None` if there is none or the value isn't an array.
+    ///
+    /// In a tape, it skips the items before it one by one.
     pub fn get_idx(&self, index: usize) -> Option<Value<'_, 't, 'i>>
         ensures tree { option_map lazy_tree result ≡ child (lazy_tree self.now) (place index) }
         ensures part { option_map contents result ≡ part_of (contents self.now) (place index) }
@@ -156,7 +160,8 @@ impl<'t, 'i> Value<'_, 't, 'i> {
         }
     }
 
-    /// Returns the items of the array in the first member with this key, or `None` if there is none or it isn't an array.
+    /// Returns the items of the array in the first member with this key, or `None` if there is none, it isn't an array, or the
+    /// value isn't an object.
     pub fn get_array(&self, name: &str) -> Option<Array<'_, 't, 'i>>
         ensures { option_map array_contents result ≡ option_and_then array_in (part_of (contents self.now) (key name.now)) }
     {
@@ -166,8 +171,8 @@ impl<'t, 'i> Value<'_, 't, 'i> {
         }
     }
 
-    /// Returns the members of the object in the first member with this key, or `None` if there is none or it isn't an
-    /// object.
+    /// Returns the members of the object in the first member with this key, or `None` if there is none, it isn't an object, or
+    /// the value isn't one.
     pub fn get_object(&self, name: &str) -> Option<Object<'_, 't, 'i>>
         ensures { option_map object_contents result ≡ option_and_then object_in (part_of (contents self.now) (key name.now)) }
     {
@@ -231,7 +236,8 @@ impl<'b, 't, 'i> Value<'b, 't, 'i> {
     ghost use Rattle.sj_lazy.specs.Parts.{array_contents, array_in, object_contents, object_in};
     ghost use Rattle.sj_lazy.specs.Upgrade.{owns};
 
-    /// As `as_array`, of a part of a tape or of a document.
+    /// As `as_array`, for a value that owns no document. The items borrow from the tape or the document, and not from the
+    /// value.
     fn into_array(self) -> Option<Array<'b, 't, 'i>>
         requires { owns self ≡ false }
         ensures { option_map array_contents result ≡ array_in (contents self.entry) }
@@ -243,7 +249,8 @@ impl<'b, 't, 'i> Value<'b, 't, 'i> {
         }
     }
 
-    /// As `as_object`, of a part of a tape or of a document.
+    /// As `as_object`, for a value that owns no document. The members borrow from the tape or the document, and not from the
+    /// value.
     fn into_object(self) -> Option<Object<'b, 't, 'i>>
         requires { owns self ≡ false }
         ensures { option_map object_contents result ≡ object_in (contents self.entry) }
@@ -256,7 +263,7 @@ impl<'b, 't, 'i> Value<'b, 't, 'i> {
     }
 }
 
-/// Whether there is a value, which is dropped.
+/// Returns `true` if there is a value, and drops it.
 pub(crate) fn is_there<T: Drop>(found: Option<T>) -> bool
     ensures { result ≡ is_some found }
 {

@@ -81,7 +81,7 @@ fn same_front(members: &TapeObject<'_, '_>, others: &Object<'_, '_, '_>) -> usiz
     members.len()
 }
 
-/// Returns the members behind the next one with this key, or `None` if no member has it.
+/// Returns the members behind the first of these with this key, or `None` if none has it.
 fn members_behind<'t, 'i>(members: TapeObject<'t, 'i>, name: &str) -> Option<TapeObject<'t, 'i>>
     ensures found { is_some result ≡ is_some (member_at (tape_members members.entry) name.now) }
     ensures within { IfSome result (λ rest. (all : Members) → keys_within (tape_members members.entry) all ≡ true → keys_within (tape_members rest) all ≡ true) }

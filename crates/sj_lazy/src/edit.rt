@@ -90,7 +90,7 @@ impl<T: ToDocument<D> + Drop, B: ToDocument<D> + Drop, D: Drop> TapeOrDocument<T
         }
     }
 
-    /// Makes the value a document of its own.
+    /// Makes the value own its document.
     fn upgrade(&mut self, alloc: Global) -> Result<(), AllocError>
         ensures ok { OnOk result (OwnsSuch (UpgradesBy T.makes B.makes self.old) self.new) }
         ensures unchanged { OnErr result (self.new ≡ self.old) }
@@ -103,7 +103,10 @@ impl<T: ToDocument<D> + Drop, B: ToDocument<D> + Drop, D: Drop> TapeOrDocument<T
         Ok(())
     }
 
-    /// Makes the value a document of its own, and returns that for writing.
+    /// Makes the value own its document, and returns that for writing. A tape is built into a document, and a borrowed document is
+    /// copied.
+    ///
+    /// The copy recurses as deep as the document nests. To build one from a tape needs no recursion.
     ///
     /// # Errors
     ///
@@ -231,7 +234,8 @@ impl<'i> Value<'_, '_, 'i> {
 
     /// Makes the value a document, and returns its items for writing, or `None` if it isn't an array.
     ///
-    /// Also where it returns `None`, the value is a document afterwards, without repeated members.
+    /// Also where it returns `None`, the value is a document afterwards, without repeated members. What a write
+    /// through the reference leaves is said by the contract of [`TapeOrDocument::value_mut`], and not by this one.
     ///
     /// # Errors
     ///
@@ -249,7 +253,8 @@ impl<'i> Value<'_, '_, 'i> {
 
     /// Makes the value a document, and returns its members for writing, or `None` if it isn't an object.
     ///
-    /// Also where it returns `None`, the value is a document afterwards, without repeated members.
+    /// Also where it returns `None`, the value is a document afterwards, without repeated members. What a write
+    /// through the reference leaves is said by the contract of [`TapeOrDocument::value_mut`], and not by this one.
     ///
     /// # Errors
     ///
@@ -265,7 +270,8 @@ impl<'i> Value<'_, '_, 'i> {
     /// Makes the value a document, and returns the value of its member with this key for writing, or `None` if there is none
     /// or the value isn't an object.
     ///
-    /// Also where it returns `None`, the value is a document afterwards, without repeated members.
+    /// Also where it returns `None`, the value is a document afterwards, without repeated members. What a write
+    /// through the reference leaves is said by the contract of [`TapeOrDocument::value_mut`], and not by this one.
     ///
     /// # Errors
     ///
@@ -285,7 +291,8 @@ impl<'i> Value<'_, '_, 'i> {
     /// Makes the value a document, and returns its item at this index for writing, or `None` if there is none or the value
     /// isn't an array.
     ///
-    /// Also where it returns `None`, the value is a document afterwards, without repeated members.
+    /// Also where it returns `None`, the value is a document afterwards, without repeated members. What a write
+    /// through the reference leaves is said by the contract of [`TapeOrDocument::value_mut`], and not by this one.
     ///
     /// # Errors
     ///

@@ -113,7 +113,7 @@ impl<'i> Value<'_, '_, 'i> {
     ///
     /// # Errors
     ///
-    /// `AllocError` if there is no memory for the arrays and objects. The document is dropped.
+    /// `AllocError` if there is no memory for the arrays and objects. The given document is dropped.
     pub fn from_owned(alloc: Global, value: OwnedValue) -> Result<Self, AllocError>
         ensures tree { IfOk result (OwnsSuch (λ d. document_tree d ≡ value_tree string_bytes decimal_buf_text value)) }
         ensures leaves { IfOk result (OwnsSuch (λ d. leaves held_text held_literal d

@@ -17,6 +17,8 @@ impl<'t, 'i> Value<'_, 't, 'i> {
 
     /// Turns the value into a document. A tape is built into one, a borrowed document is copied, and an owned one is moved.
     ///
+    /// The copy recurses as deep as the document nests. To build one from a tape needs no recursion.
+    ///
     /// # Errors
     ///
     /// The value comes back if there is no memory for the document. A value that owns its document needs no memory.
@@ -35,6 +37,8 @@ impl<'t, 'i> Value<'_, 't, 'i> {
     }
 
     /// Turns the value into one that borrows no document: what is only borrowed is copied. A tape stays a tape.
+    ///
+    /// The copy recurses as deep as the document nests.
     ///
     /// # Errors
     ///
@@ -79,7 +83,7 @@ impl<'t, 'i> Value<'_, 't, 'i> {
 }
 
 /// A copy of a part of a tape, or of a document that is only borrowed, is that part or that document. An owned document is
-/// copied.
+/// copied, by a recursion as deep as it nests.
 impl TryCopy for Value<'_, '_, '_> {
     ghost use Rattle.sj_lazy.specs.Copies.{Copied, copied, copied_tree};
 

@@ -124,7 +124,7 @@ impl<'b, 't, 'i> Value<'b, 't, 'i> {
         Ok(Value::owned(BorrowedValue::object_with_capacity(alloc, capacity)?))
     }
 
-    /// Returns `true` if the value is a part of a tape.
+    /// Returns `true` if the value is a part of a tape, or a null that [`Value::null`] made.
     pub fn is_tape(&self) -> bool
         ensures { result ≡ is_tape (contents self.now) }
     {

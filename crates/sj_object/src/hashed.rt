@@ -33,8 +33,8 @@ impl<K: ObjectKey, V> Object<K, V> {
         self.value_mut_by(Some(hash), key)
     }
 
-    /// Puts the value in the place of the value of this key, as [`Object::insert`] does. `hash` has to be the key's
-    /// [`hash_key`](crate::hash_key).
+    /// Replaces the value of this key and returns the old one, or puts a new pair last, as [`Object::insert`] does. `hash` has to
+    /// be the key's [`hash_key`](crate::hash_key).
     ///
     /// # Errors
     ///
@@ -56,7 +56,8 @@ impl<K: ObjectKey, V> Object<K, V> {
     /// Returns the value of this key for writing. A new key goes last, with the value that `with` returns. `hash` has to be
     /// the key's [`hash_key`](crate::hash_key).
     ///
-    /// `with` is called for a new key alone, after room has been made for it.
+    /// `with` is called for a new key alone, after room has been made for it. A key that is there stays as it is, and the given
+    /// one is dropped.
     ///
     /// # Errors
     ///

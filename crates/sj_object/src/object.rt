@@ -166,7 +166,7 @@ impl<K: ObjectKey, V> Object<K, V> {
 
     /// Replaces the value of this key and returns the old one. A new key goes last, and the result is `None`.
     ///
-    /// A key that is there stays as it is, and replacing its value needs no memory.
+    /// A key that is there stays as it is, and the given one is dropped. Replacing its value needs no memory.
     ///
     /// # Errors
     ///
@@ -279,8 +279,8 @@ impl<K: ObjectKey, V> Object<K, V> {
         Ok(())
     }
 
-    /// Removes the pair of this key and returns its value, or `None` if there is none. The pairs after it close up. If
-    /// there is a hash table, all of it is linked anew, unless the pair is the last.
+    /// Removes the pair of this key and returns its value, or `None` if there is none. The stored key is dropped, and the pairs
+    /// after it close up. If there is a hash table, all of it is linked anew, unless the pair is the last. Takes no memory.
     pub fn remove(&mut self, key: &str) -> Option<V>
     where
         K: Drop,

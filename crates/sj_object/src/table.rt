@@ -22,7 +22,7 @@ use std::mem;
 struct Link {
     /// The hash of its key.
     hash: u64,
-    /// The place of the pair before it in its chain.
+    /// The place of the next pair of its chain, which stands before it in the list.
     next: Option<usize>,
 }
 
@@ -178,7 +178,7 @@ impl Table {
         }
     }
 
-    /// Puts the next pair into the table, which is the one at this place. Its key has this hash.
+    /// Puts a pair into the table. Its place is the number of pairs before it, and its key has this hash.
     pub(crate) fn put(&mut self, hash: u64, place: usize)
         requires room { HasRoomFor (length self.old.links.items + 1) self.old }
         requires place { place ≡ length self.old.links.items }
@@ -227,7 +227,7 @@ impl Table {
     }
 }
 
-/// The hash of the key, which may be known.
+/// The hash of the key: the known one, or else it is computed.
 pub(crate) fn hash_of(known: Option<u64>, key: &str) -> u64
     requires { IfSome known (λ hash. hash ≡ text_hash key.now) }
     ensures { result ≡ text_hash key.now }

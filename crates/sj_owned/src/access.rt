@@ -98,7 +98,8 @@ impl<K: ObjectKey, D: Literal> Value<K, D> {
         }
     }
 
-    /// Returns the items of the array in the member with this key, or `None` if there is none or it isn't an array.
+    /// Returns the items of the array in the member with this key, or `None` if there is none, it isn't an array, or the value
+    /// isn't an object.
     pub fn get_array(&self, name: &str) -> Option<&Vec<Value<K, D>>>
         ensures { option_map (λ v. v.now.items) result
             ≡ option_and_then items_inside (member_of K.text self.now name.now) }
@@ -106,7 +107,8 @@ impl<K: ObjectKey, D: Literal> Value<K, D> {
         self.get(name)?.as_array()
     }
 
-    /// Returns the members of the object in the member with this key, or `None` if there is none or it isn't an object.
+    /// Returns the members of the object in the member with this key, or `None` if there is none, it isn't an object, or the value
+    /// isn't one.
     pub fn get_object(&self, name: &str) -> Option<&Object<K, Value<K, D>>>
         ensures { option_map (λ o. o.now) result
             ≡ option_and_then members_inside (member_of K.text self.now name.now) }
@@ -225,7 +227,7 @@ impl<K: ObjectKey, D: Literal> Value<K, D> {
     }
 }
 
-/// No part of a value, which is dropped.
+/// Drops the value and returns `None`.
 fn nothing_of<T: Drop, P>(_value: T) -> Option<P>
     ensures { result ≡ None }
 {

@@ -1,4 +1,4 @@
-//! Documents are built of their parts.
+//! Documents as values that are built from a tape.
 ghost use Rattle.std.specs.Prelude.{◌≡◌, Ok, IsOk, IfOk, map};
 ghost use Rattle.sj_base.specs.Tree.{decimal, string, list, object};
 ghost use Rattle.sj_base.specs.Scalar.{static_tree, decimal_text};

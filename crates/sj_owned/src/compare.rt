@@ -90,7 +90,7 @@ fn same_members<K: ObjectKey, D: Literal, L: ObjectKey, E: Literal>(
 }
 
 /// Two documents are equal if their trees are. Objects are compared as maps, so the order of members doesn't count, and
-/// integers by number, whichever carrier holds them. Decimal literals are compared by text.
+/// integers by number, so an `I64` can equal a `U64`. Decimal literals are compared by text.
 ///
 /// The recursion is as deep as the first document nests.
 impl<K: ObjectKey, D: Literal> PartialEq for Value<K, D> {

@@ -230,13 +230,14 @@ fn append_converted<K: IntoKey<L> + Drop, L: ObjectKey + Drop, V: Drop>(
 }
 
 impl<'v> Value<CowStr<'v>, DecimalCow<'v>> {
-    /// Converts an owned document to one that may borrow (`From` of `simd_json::BorrowedValue`). Its texts are moved.
+    /// Converts an owned document to one that may borrow. Its texts are moved. Port of the `From` of
+    /// `simd_json::BorrowedValue`.
     ///
     /// The recursion is as deep as the value nests.
     ///
     /// # Errors
     ///
-    /// `AllocError` if there is no memory for the arrays and objects. The document is dropped.
+    /// `AllocError` if there is no memory for the arrays and objects. The given document is dropped.
     pub fn from_owned(alloc: Global, value: OwnedValue) -> Result<Borrowed<'v>, AllocError>
         ensures tree { IfOk result (λ v. value_tree cow_str_bytes decimal_cow_text v ≡ value_tree string_bytes decimal_buf_text value) }
         ensures leaves { IfOk result (λ v. leaves held_text held_literal v ≡ map (on_leaf owned_text owned_text) (leaves string_bytes decimal_buf_text value)) }
@@ -251,7 +252,7 @@ impl<'v> Value<CowStr<'v>, DecimalCow<'v>> {
     ///
     /// # Errors
     ///
-    /// `AllocError` if there is no memory for the new document. The document is dropped.
+    /// `AllocError` if there is no memory for the new document. The given one is dropped.
     pub fn into_static(self, alloc: Global) -> Result<Borrowed<'static>, AllocError>
         ensures tree { IfOk result (λ v. value_tree cow_str_bytes decimal_cow_text v ≡ value_tree cow_str_bytes decimal_cow_text self.entry) }
         ensures leaves { IfOk result (λ v. leaves held_text held_literal v
@@ -261,6 +262,8 @@ impl<'v> Value<CowStr<'v>, DecimalCow<'v>> {
     }
 
     /// Copies the document to one that owns its texts. Port of `simd_json::BorrowedValue::clone_static`.
+    ///
+    /// Each text is copied once. Arrays and objects are made twice, and the first copy is dropped after the second is made.
     ///
     /// The recursion is as deep as the value nests.
     ///
@@ -276,13 +279,13 @@ impl<'v> Value<CowStr<'v>, DecimalCow<'v>> {
     }
 }
 
-/// Converts a borrowed document to an owned one (`From` of `simd_json::OwnedValue`). Borrowed texts are copied.
+/// Converts a borrowed document to an owned one. Borrowed texts are copied. Port of the `From` of `simd_json::OwnedValue`.
 ///
 /// The recursion is as deep as the value nests.
 ///
 /// # Errors
 ///
-/// `AllocError` if there is no memory for the new document. The document is dropped.
+/// `AllocError` if there is no memory for the new document. The given one is dropped.
 pub fn from_borrowed(alloc: Global, value: Borrowed<'_>) -> Result<OwnedValue, AllocError>
     ensures tree { IfOk result (λ v. value_tree string_bytes decimal_buf_text v ≡ value_tree cow_str_bytes decimal_cow_text value.entry) }
     ensures leaves { IfOk result (λ v. leaves string_bytes decimal_buf_text v

@@ -27,7 +27,7 @@ impl CopyLiteral for DecimalCow<'_> {
     ghost keeps_literal = { λ a b same. ap (λ p. p.1) same };
 }
 
-/// A copy has the same tree, and copies of the strings, keys and literals. An integer stays in its carrier.
+/// A copy has the same tree, and copies of the strings, keys and literals. An `I64` stays an `I64`, and a `U64` a `U64`.
 ///
 /// The recursion is as deep as the value nests.
 impl<K: CopyKey + Drop, D: CopyLiteral + Drop> TryCopy for Value<K, D> {
@@ -110,7 +110,7 @@ fn append_copy<K: CopyKey + Drop, V: Drop>(
     append(members, name, value)
 }
 
-/// Adds a member whose key is new. For lack of memory it is dropped.
+/// Adds a member whose key is new. If there is no memory for it, it is dropped.
 pub(crate) fn append<K: ObjectKey + Drop, V: Drop>(
     members: &mut Object<K, V>,
     key: K,

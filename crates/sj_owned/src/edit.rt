@@ -12,7 +12,8 @@ impl<K: ObjectKey, D: Literal> Value<K, D> {
     ghost use Rattle.sj_owned.specs.Parts.{member_of};
     ghost use Rattle.sj_owned.specs.Edits.{with_member, without_member, with_item, without_last, refusal, last_of, before_last};
 
-    /// Replaces the value of this key and returns the old one. A new key goes last, and the result is `None`.
+    /// Replaces the value of this key and returns the old one. A new key goes last, and the result is `None`. Port of
+    /// `value_trait::MutableObject::insert`.
     ///
     /// Replacing a value needs no memory.
     ///
@@ -48,7 +49,8 @@ impl<K: ObjectKey, D: Literal> Value<K, D> {
         }
     }
 
-    /// Removes the member of this key and returns its value, or `None` if there is none. The members after it close up.
+    /// Removes the member of this key and returns its value, or `None` if there is none. The members after it close up. Port of
+    /// `value_trait::MutableObject::remove`.
     ///
     /// # Errors
     ///
@@ -70,7 +72,7 @@ impl<K: ObjectKey, D: Literal> Value<K, D> {
         }
     }
 
-    /// Appends the value as the last item.
+    /// Appends the value as the last item. Port of `value_trait::MutableArray::push`.
     ///
     /// # Errors
     ///
@@ -102,7 +104,7 @@ impl<K: ObjectKey, D: Literal> Value<K, D> {
         }
     }
 
-    /// Removes the last item and returns it, or `None` if there is none.
+    /// Removes the last item and returns it, or `None` if there is none. Port of `value_trait::MutableArray::pop`.
     ///
     /// # Errors
     ///

@@ -14,7 +14,7 @@ use sj_object::{Object, ObjectKey};
 use std::alloc::AllocError;
 use std::mem;
 
-/// An output that may refuse before anything is appended.
+/// An output whose calls may end with a fault before anything is appended.
 pub(crate) trait Refuses: Output<Fault = AllocError> {
     ghost refuses: { (old : Self) (bytes : List ℕ) → Self.begins old old bytes };
 }
@@ -23,7 +23,7 @@ impl Refuses for TextBuffer {
     ghost refuses = { refuses_all };
 }
 
-/// Tests that the next level has a number. A text with more levels has more bytes than there can be.
+/// Ends with an error if the number of the next level would overflow. A text that deep would have more bytes than memory can hold.
 #[inline(always)]
 fn test_level(layout: Layout) -> Result<(), AllocError>
     ensures { OnOk result (level_of layout + 1 < 2 ^ 64) }

@@ -80,6 +80,7 @@ impl<K: ObjectKey, D> From<bool> for Value<K, D> {
     }
 }
 
+/// The value is an `I64`.
 impl<K: ObjectKey, D> From<i8> for Value<K, D> {
     ghost from_gives = { λ n v. v ≡ Static (I64 n) };
 
@@ -88,6 +89,7 @@ impl<K: ObjectKey, D> From<i8> for Value<K, D> {
     }
 }
 
+/// The value is an `I64`.
 impl<K: ObjectKey, D> From<i16> for Value<K, D> {
     ghost from_gives = { λ n v. v ≡ Static (I64 n) };
 
@@ -96,6 +98,7 @@ impl<K: ObjectKey, D> From<i16> for Value<K, D> {
     }
 }
 
+/// The value is an `I64`.
 impl<K: ObjectKey, D> From<i32> for Value<K, D> {
     ghost from_gives = { λ n v. v ≡ Static (I64 n) };
 
@@ -104,6 +107,7 @@ impl<K: ObjectKey, D> From<i32> for Value<K, D> {
     }
 }
 
+/// The value is an `I64`.
 impl<K: ObjectKey, D> From<i64> for Value<K, D> {
     ghost from_gives = { λ n v. v ≡ Static (I64 n) };
 
@@ -112,6 +116,7 @@ impl<K: ObjectKey, D> From<i64> for Value<K, D> {
     }
 }
 
+/// The value is a `U64`.
 impl<K: ObjectKey, D> From<u8> for Value<K, D> {
     ghost from_gives = { λ n v. v ≡ Static (U64 n) };
 
@@ -120,6 +125,7 @@ impl<K: ObjectKey, D> From<u8> for Value<K, D> {
     }
 }
 
+/// The value is a `U64`.
 impl<K: ObjectKey, D> From<u16> for Value<K, D> {
     ghost from_gives = { λ n v. v ≡ Static (U64 n) };
 
@@ -128,6 +134,7 @@ impl<K: ObjectKey, D> From<u16> for Value<K, D> {
     }
 }
 
+/// The value is a `U64`.
 impl<K: ObjectKey, D> From<u32> for Value<K, D> {
     ghost from_gives = { λ n v. v ≡ Static (U64 n) };
 
@@ -136,6 +143,7 @@ impl<K: ObjectKey, D> From<u32> for Value<K, D> {
     }
 }
 
+/// The value is a `U64`.
 impl<K: ObjectKey, D> From<u64> for Value<K, D> {
     ghost from_gives = { λ n v. v ≡ Static (U64 n) };
 
@@ -144,6 +152,7 @@ impl<K: ObjectKey, D> From<u64> for Value<K, D> {
     }
 }
 
+/// The value is a `U64`.
 impl<K: ObjectKey, D> From<usize> for Value<K, D> {
     ghost from_gives = { λ n v. v ≡ Static (U64 n) };
 
@@ -226,7 +235,7 @@ fn sort_pairs<K: ObjectKey, V>(pairs: &mut [(K, V)])
     pairs.sort_unstable_by(|a, b| a.0.as_text().cmp(b.0.as_text()));
 }
 
-/// Appends what the values are converted to, to an empty vector. For lack of memory they are dropped.
+/// Converts the values and appends them to `items`, which is empty. If there is no memory, all of them are dropped.
 fn convert_into<T: Drop, S: Into<T> + Drop, I: IntoIterator<Item = S>>(
     mut items: Vec<T>,
     values: I,
@@ -242,7 +251,7 @@ fn convert_into<T: Drop, S: Into<T> + Drop, I: IntoIterator<Item = S>>(
     Ok(items)
 }
 
-/// Inserts a member. For lack of memory it is dropped.
+/// Inserts a member. If there is no memory for it, it is dropped.
 fn insert<K: ObjectKey + Drop, V: Drop>(
     members: &mut Object<K, V>,
     key: K,
@@ -250,10 +259,8 @@ fn insert<K: ObjectKey + Drop, V: Drop>(
 ) -> Result<(), AllocError>
     ensures { OnOk result (members.new ≡ put_key K.text members.old key value) }
 {
-    match members.insert(key, value) {
-        Ok(_) => Ok(()),
-        Err(_) => Err(AllocError),
-    }
+    members.insert(key, value)?;
+    Ok(())
 }
 
 impl<K: FromString, D: Literal> Value<K, D> {

@@ -7,7 +7,7 @@ use crate::value::Value;
 use sj_object::ObjectKey;
 use std::ops::{Index, IndexMut};
 
-/// The member with this key has to be there. [`Value::get`] tests that.
+/// The value of the member with this key, which has to be there. [`Value::get`] tests that.
 impl<K: ObjectKey, D: Literal> Index<&str> for Value<K, D> {
     type Output = Value<K, D>;
 
@@ -22,7 +22,9 @@ impl<K: ObjectKey, D: Literal> Index<&str> for Value<K, D> {
     }
 }
 
-/// The member with this key has to be there. [`Value::get`] tests that.
+/// The value of the member with this key, which has to be there. [`Value::get`] tests that.
+///
+/// The contract doesn't say what a write leaves of the document; that of [`MutableValue::get_mut`] does.
 impl<K: ObjectKey, D: Literal> IndexMut<&str> for Value<K, D> {
     ghost use Rattle.sj_owned.specs.Parts.{member_of};
 
@@ -34,7 +36,7 @@ impl<K: ObjectKey, D: Literal> IndexMut<&str> for Value<K, D> {
     }
 }
 
-/// The item at this index has to be there. [`Value::get_idx`] tests that.
+/// The item at this index, which has to be there. [`Value::get_idx`] tests that.
 impl<K: ObjectKey, D: Literal> Index<usize> for Value<K, D> {
     type Output = Value<K, D>;
 
@@ -49,7 +51,9 @@ impl<K: ObjectKey, D: Literal> Index<usize> for Value<K, D> {
     }
 }
 
-/// The item at this index has to be there. [`Value::get_idx`] tests that.
+/// The item at this index, which has to be there. [`Value::get_idx`] tests that.
+///
+/// The contract doesn't say what a write leaves of the document; that of [`MutableValue::get_idx_mut`] does.
 impl<K: ObjectKey, D: Literal> IndexMut<usize> for Value<K, D> {
     ghost use Rattle.sj_owned.specs.Parts.{item_of};
 

@@ -103,8 +103,8 @@ pub trait LendsParts {
 
 /// Parts of a value for writing, by key and by index.
 ///
-/// The clauses `writes_back` say what the value is after a write through the reference. Of a document, that part alone has
-/// changed. If a call returns `None`, the value is unchanged.
+/// The clauses `writes_back` say what the value is after a write through the reference: in a document only that part changes.
+/// If a call returns `None`, the value is unchanged.
 pub trait MutableValue: LendsParts {
     /// Returns the value of the member with this key for writing, or `None` if there is none or the value isn't an object.
     /// Port of `value_trait::MutableObject::get_mut`.

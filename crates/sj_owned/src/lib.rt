@@ -1,6 +1,6 @@
 //! JSON documents that are edited and printed.
 //!
-//! A document is a tree: a scalar, a list of documents, or an object, in which no key stands twice. [`Value`] is that
+//! A document is a tree: a scalar, an array of documents, or an object, in which no key stands twice. [`Value`] is that
 //! tree over any type of strings and of decimal literals. In [`owned::Value`] both own their texts. A document
 //! that is built from a tape keeps the first of members with equal keys. Documents are also made of Rust's values.
 #![tactic(auto)]

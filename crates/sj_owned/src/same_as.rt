@@ -252,7 +252,9 @@ fn equals_member<U: Comparand, K: ObjectKey, D: Literal>(
     }
 }
 
-/// Documents are equal if their trees are, whatever holds their texts.
+/// Documents are compared as by `==`, whatever holds their texts.
+///
+/// The recursion is as deep as the first document nests.
 impl<L: ObjectKey, E: Literal> Comparand for Value<L, E> {
     ghost equals = { λ w t. alike t (value_tree L.text E.literal w) ≡ true };
 

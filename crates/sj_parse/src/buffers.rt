@@ -9,7 +9,7 @@ use std::alloc::{AllocError, Global};
 /// The number of bytes of input for which room for one position and one open container is reserved at once.
 const BYTES_PER_POSITION: usize = 128;
 
-/// Room that one text after another is read in, and the limit of depth under which they are read. Port of
+/// The working memory for reading texts one after another, and the limit of depth for them, in levels. Port of
 /// `simd_json::Buffers`.
 ///
 /// Buffers can be used again after any error. Reading never shrinks their room. Contracts list the lengths of the texts that
@@ -26,9 +26,10 @@ pub struct Buffers {
 impl Buffers {
     /// Creates buffers with the limit [`DEFAULT_MAX_DEPTH`], in levels. Port of `simd_json::Buffers::new`.
     ///
-    /// `input_len` is the expected length of a text in bytes. Room for one position in 128 bytes is reserved at once, and for
-    /// as many open containers, but for no more than the limit. Reading a text reserves room for as many positions as it has
-    /// bytes.
+    /// `input_len` is the expected length of a text in bytes. For each 128 bytes of it room for one position is reserved at
+    /// once, and for one open container, but for no more of these than the limit. Reading a text reserves what it needs beyond
+    /// that: room for as many positions as the text has bytes, and for as many open containers as it has positions, but for no
+    /// more than the limit.
     ///
     /// # Errors
     ///

@@ -5,12 +5,16 @@ ghost use Rattle.sj_parse.specs.Fault.{error_type, descent_error};
 use sj_base::{Error, ErrorType};
 
 /// The kind of a [`DescentFault`]. Lack of memory is none of them.
+///
+/// The byte of the fault is the first of the token that is wrong, where nothing else is said. For the three kinds of escapes it
+/// is the backslash of the bad escape, and for a pair of surrogates that of the first.
 #[derive(Clone, Copy, Debug, PartialEq, Eq)]
 pub enum DescentKind {
     /// A byte that begins no value, or a token after the root container. In the second case the byte is that container's
     /// closing bracket.
     InternalError,
-    /// A container beyond the limit of levels, or a text that is cut short, where the byte is that of its last token.
+    /// A container beyond the limit of levels, or a text that is cut short. In the second case the byte is the first of the
+    /// last token.
     Syntax,
     /// Neither a value nor `]` after `[`.
     ExpectedArrayContent,
@@ -74,13 +78,13 @@ impl DescentKind {
 pub struct DescentFault {
     /// What is wrong.
     pub kind: DescentKind,
-    /// Where the byte stands in the text, in bytes from 0.
+    /// Where the byte stands in the text, in bytes from 0. [`DescentKind`] says which byte it is.
     pub index: usize,
     /// The byte.
     pub byte: u8,
 }
 
-/// The error says the same. It is never about lack of memory.
+/// The error has the kind of the same name, the index, and the byte as its character.
 impl From<DescentFault> for Error {
     ghost from_gives = { λ f e. e ≡ descent_error f };
 

@@ -128,7 +128,7 @@ impl<'de> Deserializer<'de> {
         self.tape.as_value()
     }
 
-    /// Returns a view of the value whose first node comes next, and stays before it. A node has to be left, which
+    /// Returns a view of the value whose first node comes next, and doesn't go past it. A node has to be left, which
     /// [`Deserializer::is_at_end`] tells. The key of a member has a node of its own, a string.
     pub fn next_value(&self) -> Value<'_, 'de>
         requires { deserializer_next self.now < length (deserializer_nodes self.now) }
@@ -138,7 +138,7 @@ impl<'de> Deserializer<'de> {
         self.tape.value_at(self.next)
     }
 
-    /// Goes past this many nodes, which have to be left: those of [`Deserializer::next_value`] are.
+    /// Goes past the next `count` nodes. So many have to be left, as those of [`Deserializer::next_value`] are.
     pub fn skip(&mut self, count: usize)
         requires { deserializer_next self.old + count ≤ length (deserializer_nodes self.old) }
         ensures nodes { deserializer_nodes self.new ≡ deserializer_nodes self.old }

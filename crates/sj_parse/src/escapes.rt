@@ -23,6 +23,7 @@ pub(crate) fn read_escape(bytes: &[u8]) -> Result<Escaped, DescentKind>
         (λ kind. escape bytes.now ≡ Err kind) }
 {
     let Some((letter, digits)) = bytes.split_first() else {
+        // A body that ends with its closing quote has a byte after each backslash.
         return Err(DescentKind::InvalidEscape);
     };
     if *letter == b'u' {
@@ -51,7 +52,8 @@ fn short_character(letter: u8) -> Option<char>
     }
 }
 
-/// These bytes begin after `\u`.
+/// Reads the rest of an escape by number, or of a pair of them that stands for one character. `digits` begins after the first
+/// `\u`.
 fn read_unicode_escape(digits: &[u8]) -> Result<Escaped, DescentKind>
     ensures { MatchResult result
         (λ e. (unicode_escape digits.now ≡ Ok e.len)
@@ -91,7 +93,7 @@ fn is_low_surrogate(unit: u32) -> bool
     matches!(unit, 0xdc00..=0xdfff)
 }
 
-/// A surrogate by itself is no character.
+/// The character with this number, whose escape has `len` bytes after the backslash. A surrogate by itself is no character.
 fn character_of(number: u32, len: usize) -> Result<Escaped, DescentKind>
     ensures { MatchResult result
         (λ e. IsScalar number × (e.len ≡ len) × (e.character ≡ number))

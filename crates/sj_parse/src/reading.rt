@@ -25,22 +25,24 @@ use std::mem;
 /// Reads a text into a tape, under the limit of [`sj_base::DEFAULT_MAX_DEPTH`] levels. Port of `simd_json::to_tape`.
 ///
 /// Strings are decoded where they stand, so the bytes of the text may be rewritten, also where the call ends with an
-/// error. What the clauses say of the tape's nodes is that they list the text's tree; a proof that needs the tree itself calls
-/// the law [`sj_tape::laws::listing_back`].
+/// error. The contract says that the tape's nodes list the text's tree. A proof that needs the tree itself calls the law
+/// [`sj_tape::laws::listing_back`].
 ///
 /// # Errors
 ///
 /// The first fault of the text. These are about the whole text, with index 0 and no character: `InputTooLarge` if it has
 /// more than `u32::MAX` bytes, `InvalidUtf8`, `Syntax` for a string that isn't closed or holds a byte below 0x20, and
-/// `Eof` for a text without a token. The others have the index and the character of the byte at fault: `Syntax` for a
-/// container beyond the limit of levels and for a text that is cut short, and the kinds that name what was expected or
-/// what is invalid there. `OutOfMemory`, about the whole text too, may come in place of any answer but `InputTooLarge`,
-/// if there is no memory.
+/// `Eof` for a text without a token. The others name a byte, by its index and as their character: `Syntax` for a container
+/// beyond the limit of levels and for a text that is cut short; `InternalError` for a byte that begins no value, and for a
+/// token after a root container; `TrailingData` for a token after a root scalar; and the kinds that say what was expected or
+/// what is invalid. [`DescentKind`](crate::DescentKind) says which byte each of them names. `OutOfMemory`, about the whole
+/// text too, may come in place of any answer but `InputTooLarge`, if there is no memory.
 pub fn to_tape<'de>(alloc: Global, s: &'de mut [u8]) -> Result<Tape<'de>>
     ensures answers { Answers tape_nodes s.entry.now DEFAULT_MAX_DEPTH (fault s.entry.now DEFAULT_MAX_DEPTH) result }
     ensures not_empty { IfOk result (λ tape. tape_nodes tape ≢ []) }
     ensures too_large { longest < length s.entry.now → result ≡ Err (generic ErrorType.InputTooLarge) }
 {
+    // Tested before the buffers are made, so that `OutOfMemory` never comes in place of `InputTooLarge`.
     test_len(s.len())?;
     let mut buffers = Buffers::new(alloc, 0)?;
     to_tape_with_buffers(alloc, s, &mut buffers)
@@ -54,9 +56,9 @@ pub fn to_tape<'de>(alloc: Global, s: &'de mut [u8]) -> Result<Tape<'de>>
 ///
 /// Those of [`to_tape`], under the limit of the buffers. The bytes of the text may be rewritten then.
 ///
-/// The buffers keep their limit and can be used again. After `InputTooLarge` they have the positions that they had;
-/// after another fault of the whole text none; after one that names a byte those of the text; and after `OutOfMemory`
-/// those of the text, or none if the scan lacked the memory.
+/// The buffers keep their limit and can be used again. After `InputTooLarge` their positions are as before. After another
+/// fault of the whole text they have none. After a fault that names a byte they have the positions of the text. After
+/// `OutOfMemory` they have those of the text, or none if the scan lacked the memory.
 pub fn to_tape_with_buffers<'de>(
     alloc: Global,
     s: &'de mut [u8],
@@ -91,8 +93,8 @@ pub fn to_tape_with_buffers<'de>(
 ///
 /// # Errors
 ///
-/// Those of [`to_tape_with_buffers`], which leave the bytes and the buffers as they do there. The tape is empty then, and
-/// keeps its room.
+/// Those of [`to_tape_with_buffers`], which says what they leave of the bytes and the buffers. The tape is empty after each
+/// of them, and keeps its room.
 pub fn fill_tape<'de>(s: &'de mut [u8], buffers: &mut Buffers, tape: &mut Tape<'de>) -> Result<()>
     ensures answers { let limit = buffer_limit buffers.old in
         Answers (λ _. tape_nodes tape.new) s.entry.now limit (fault s.entry.now limit) result }
@@ -112,7 +114,8 @@ pub fn fill_tape<'de>(s: &'de mut [u8], buffers: &mut Buffers, tape: &mut Tape<'
     fill_tape_by(&mut BlockScan, s, buffers, tape)
 }
 
-/// Reads a text into the given tape as [`fill_tape`] does, with its positions from the given scan.
+/// Reads a text into the given tape as [`fill_tape`] does, with its positions from the given scan in place of those of
+/// [`BlockScan`].
 ///
 /// # Errors
 ///
@@ -154,10 +157,10 @@ pub fn fill_tape_by<'de, S: Stage1>(
 ///
 /// # Errors
 ///
-/// `InputTooLarge` if `len` is more than `u32::MAX`, then `InsufficientPadding` if fewer bytes stand after the first
-/// `len` ones, or `s` is shorter than that. Nothing is read then: the bytes stay, and the buffers keep their positions.
+/// `InputTooLarge` if `len` is more than `u32::MAX`, then `InsufficientPadding` if `s` has fewer than `len + INPUT_PADDING`
+/// bytes. Nothing is read then: the bytes stay, and the buffers keep their positions.
 ///
-/// Then those of [`fill_tape`] for the first `len` bytes, which leave these bytes and the buffers as they do there.
+/// Then those of [`fill_tape`] for the first `len` bytes, with what it leaves of them and of the buffers.
 ///
 /// After each of them the tape is empty, and keeps its room.
 pub fn fill_tape_padded<'de>(

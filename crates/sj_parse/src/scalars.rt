@@ -12,7 +12,8 @@ use crate::numbers::{Shape, find_number};
 use crate::search::plain_len;
 use crate::strings::decode;
 
-/// The length of the body that begins the bytes: up to its closing quote, or the end.
+/// The length of the string body that the bytes begin with: the number of bytes before its closing quote, or of all bytes if there
+/// is none. Called for bodies with a backslash alone, which are few.
 #[cold]
 #[inline(never)]
 fn body_len(bytes: &[u8]) -> usize
@@ -34,7 +35,7 @@ fn body_len(bytes: &[u8]) -> usize
     len
 }
 
-/// The length of the body that begins the bytes, and the length of a front of it that has no backslash. Both are equal if the
+/// The length of the string body that the bytes begin with, and that of a front of it without a backslash. Both are equal if the
 /// body has none.
 #[inline(always)]
 fn find_body(bytes: &[u8]) -> (usize, usize)
@@ -50,8 +51,8 @@ fn find_body(bytes: &[u8]) -> (usize, usize)
     (plain + body_len(&bytes[plain..]), plain)
 }
 
-/// The text of the string whose opening quote stands at `skip`, and the bytes from `cut` on, which is behind the string. `place` is
-/// where `skip` is in the whole text.
+/// The text of the string whose opening quote stands at `skip`, and the bytes from `cut` on. `cut` lies behind the string, and
+/// `place` is the place of the quote in the whole text.
 #[inline(always)]
 pub(crate) fn split_string<'i>(
     place: usize,
@@ -77,8 +78,8 @@ pub(crate) fn split_string<'i>(
     Ok((text, behind))
 }
 
-/// The number that begins at `skip`, its shape, and the bytes from `cut` on, which is behind the number. `place` is where `skip` is
-/// in the whole text.
+/// The number that begins at `skip`, its shape, and the bytes from `cut` on. `cut` lies behind the number, and `place` is the
+/// place of its first byte in the whole text.
 #[inline(always)]
 pub(crate) fn split_number<'i>(
     place: usize,

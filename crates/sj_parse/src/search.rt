@@ -1,5 +1,5 @@
-//! The search for the ends of strings and of runs of digits, in the first 32 bytes at once and then in the rest, and of words,
-//! byte by byte.
+//! Searches for the ends of strings, of runs of digits and of words. For strings and digits the first 32 bytes are searched at
+//! once, if there are as many, and the rest by `memchr` or byte by byte; for words all is searched byte by byte.
 ghost use Rattle.std.specs.Prelude.{◌≡◌, ◌==◌, ◌||◌, true, nat_lt, ℕ, ◌<◌, ◌≤◌, length, take, slice_index};
 ghost use Rattle.sj_base.specs.NumberTests.{front_digits};
 ghost use Rattle.sj_parse.specs.Token.{word};

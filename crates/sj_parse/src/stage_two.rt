@@ -330,7 +330,8 @@ fn read_token<'i>(
     }
 }
 
-/// Reads the next token if `state` is `expected`, and else none. An inlined copy with a constant there needs no choice by the state.
+/// Reads the next token if `state` is `expected`, and otherwise nothing. Where `expected` is a constant, an inlined copy needs no
+/// `match` on the state.
 ///
 /// # Errors
 ///
@@ -353,7 +354,7 @@ fn read_in<'i>(
     ensures items { reads_items places.new ≡ reads_items places.old }
     ensures room { (vec_capacity nodes.new ≡ vec_capacity nodes.old) × (vec_capacity stack.new ≡ vec_capacity stack.old) }
     ensures count { OnOk result (cursor.old.count ≤ cursor.new.count) }
-    // No caller needs this. It rules out a body that never reads, which the other clauses let through and which costs time.
+    // No caller needs this. It rules out a body that never reads, which the other clauses allow and which would be slower.
     ensures takes { state.old ≡ expected → OnOk result (cursor.new.count ≡ cursor.old.count + 1) }
 {
     if *state == expected {
@@ -484,7 +485,7 @@ pub fn descend<'i>(
     };
     match read_root(limit, places, &mut cursor, nodes, stack) {
         Ok(()) => Ok(()),
-        // Made anew from its fields. Handed on whole, it keeps the bytes between them, which the loop then copies at each token.
+        // Made anew from its fields. Handed on whole, it would keep its padding bytes, and the loop would copy them at each token.
         Err(DescentFault { kind, index, byte }) => Err(DescentFault { kind, index, byte }),
     }
 }

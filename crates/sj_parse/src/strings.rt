@@ -9,7 +9,7 @@ use crate::escapes::read_escape;
 use memchr::memchr;
 
 /// Decodes the body of a string in place and returns its text, which borrows from these bytes. The body begins at
-/// `place`, in bytes from the start of the input, and its first `plain` bytes are no backslashes.
+/// `place`, in bytes from the start of the input, and its first `plain` bytes hold no backslash.
 ///
 /// # Errors
 ///

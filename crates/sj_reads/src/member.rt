@@ -34,8 +34,8 @@ fn answer<T: Drop>(
     }
 }
 
-/// A type whose values may be objects. A type that implements it has the reads of [`ValueGetScalar`]. It isn't in
-/// `value_trait`.
+/// A type whose values may be objects. A type that implements it has the reads of [`ValueGetScalar`]. The trait
+/// isn't in `value_trait`.
 pub trait HasMembers: TypedValue {
     // The member with a key, where the value is an object.
     ghost member: { Self → List ℕ → Option Seen };

@@ -19,8 +19,8 @@ pub trait TypedValue {
         ensures { result ≡ kind self.now };
 }
 
-/// A type whose values may be scalars. A type that implements it has the reads of [`ValueAsScalar`]. It isn't in
-/// `value_trait`.
+/// A type whose values may be scalars. A type that implements it has the reads of [`ValueAsScalar`]. The trait
+/// isn't in `value_trait`.
 pub trait HasScalar: TypedValue {
     // The tree of the value, where it is a scalar.
     ghost scalar: { Self → Option Tree };

@@ -20,7 +20,7 @@ const BLOCK: usize = 64;
 
 /// A scan that reads 64 bytes at a time.
 ///
-/// It makes room for as many positions as the text has bytes.
+/// It makes room for as many positions as the text has bytes, at four bytes of memory for each.
 #[derive(Clone, Copy, Debug, Default)]
 pub struct BlockScan;
 
@@ -53,6 +53,7 @@ struct Walk {
     at: usize,
     utf8: Checker,
     carry: Carry,
+    /// Not 0 if a string of the blocks has a control character.
     controls: u64,
 }
 
@@ -122,6 +123,7 @@ fn classify_rest(bytes: &[u8], at: usize, utf8: Checker) -> (Classes, bool)
     let block = u8x64::from_slice(&bytes[bytes.len() - BLOCK..]);
     let classes = Classes::of(block).skipped((BLOCK - rest.len()) as u32);
     let is_utf8 = if is_ascii(block) {
+        // No step is needed: a sequence that the bytes before begin and don't end is a fault also for `finish`.
         utf8.finish()
     } else {
         utf8.step(filled_up(rest)).finish()

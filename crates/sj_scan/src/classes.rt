@@ -8,14 +8,15 @@ ghost use Rattle.sj_scan.specs.inside.Blocks.{IsClassified};
 
 use std::simd::prelude::*;
 
-/// The whitespace with these four lowest bits, four times over. No other byte has the entry of its lowest bits.
+/// For each four lowest bits the whitespace that has them, or 0, four times over. A byte is whitespace if it is the entry of its
+/// own lowest bits.
 const WHITESPACE: [u8; 64] = [
     b' ', 0, 0, 0, 0, 0, 0, 0, 0, b'\t', b'\n', 0, 0, b'\r', 0, 0, b' ', 0, 0, 0, 0, 0, 0, 0, 0,
     b'\t', b'\n', 0, 0, b'\r', 0, 0, b' ', 0, 0, 0, 0, 0, 0, 0, 0, b'\t', b'\n', 0, 0, b'\r', 0, 0,
     b' ', 0, 0, 0, 0, 0, 0, 0, 0, b'\t', b'\n', 0, 0, b'\r', 0, 0,
 ];
 
-/// The same of operators, where a bracket stands as the brace that differs from it in one bit.
+/// The same for operators. A bracket is looked up as the brace that differs from it in one bit.
 const OPERATORS: [u8; 64] = [
     0, 0, 0, 0, 0, 0, 0, 0, 0, 0, b':', b'{', b',', b'}', 0, 0, 0, 0, 0, 0, 0, 0, 0, 0, 0, 0, b':',
     b'{', b',', b'}', 0, 0, 0, 0, 0, 0, 0, 0, 0, 0, 0, 0, b':', b'{', b',', b'}', 0, 0, 0, 0, 0, 0,
@@ -47,7 +48,7 @@ impl Classes {
         }
     }
 
-    /// The classes without those of the first places, and those of as many spaces at the end.
+    /// The classes of the block without its first `count` bytes, and with as many spaces at its end.
     #[inline(always)]
     pub(crate) fn skipped(self, count: u32) -> Classes
         requires { count < 64 }
@@ -88,7 +89,7 @@ fn whitespace(block: u8x64) -> u64
     block.simd_eq(by_low_bits(WHITESPACE, block)).to_bitmask()
 }
 
-/// The entry of the table at the four lowest bits of each ASCII byte.
+/// The entry of the table at the four lowest bits of each ASCII byte, and 0 for other bytes, whose highest bit the mask keeps.
 #[inline(always)]
 fn by_low_bits(table: [u8; 64], block: u8x64) -> u8x64
     requires { IsFourfold table }

@@ -1,8 +1,8 @@
 //! Stage one of reading JSON: it finds the positions of a text, the byte offsets at which its tokens begin.
 //!
-//! A quote is real, which means that it opens or closes a string, unless an odd number of backslashes stands before it. Outside
-//! strings a token begins, valid JSON or not, at each operator, at each real quote that opens a string, and at any other byte that
-//! is no whitespace and stands first, or after whitespace, an operator or a real quote.
+//! A quote is real, which means that it opens or closes a string, unless an odd number of backslashes stands directly before it.
+//! Outside strings a token begins, valid JSON or not, at each operator, at each real quote that opens a string, and at any other
+//! byte that is no whitespace and stands first, or after whitespace, an operator or a real quote.
 //! A scan also tests the text as a whole: it must be UTF-8, with each string closed, no control character in a string, and
 //! at least one token.
 //!

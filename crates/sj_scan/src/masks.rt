@@ -1,7 +1,6 @@
 //! The masks of a block: which of its 64 bytes are positions, and which are control characters in a string.
 //!
-//! A mask has one bit for each byte, the lowest for the first. The tricks on masks are simdjson's (Langdale and Lemire,
-//! "Parsing Gigabytes of JSON per Second").
+//! A mask has one bit for each byte, the lowest for the first. The tricks on masks are those of simdjson.
 ghost use Rattle.std.specs.Prelude.{◌≡◌, ℕ, suc, List, [], Bool};
 ghost use Rattle.sj_scan.specs.Positions.{is_odd, backslashes, real_quotes, is_real_quote, is_position};
 ghost use Rattle.sj_scan.specs.Scan.{is_control};
@@ -23,7 +22,7 @@ pub(crate) struct Carry {
     separated: u64,
 }
 
-/// What is at each place of a block.
+/// The positions of a block, and its control characters in strings.
 #[derive(Clone, Copy)]
 pub(crate) struct Masks {
     pub(crate) positions: u64,
@@ -57,6 +56,7 @@ impl Carry {
     {
         let (quotes, odd_backslashes) = real_quotes(classes, self.odd_backslashes);
         let inside_after = prefix_xor(quotes) ^ self.inside;
+        // An opening quote isn't inside, and a closing one is, so it is no position.
         let inside = inside_after ^ quotes;
         let separators = classes.whitespace | classes.operators | quotes;
         let separated = shifted(separators, self.separated);
@@ -73,7 +73,7 @@ impl Carry {
     }
 }
 
-/// The real quotes, and the carry of backslashes of the next block.
+/// The real quotes, and the carry of backslashes for the next block.
 #[inline(always)]
 fn real_quotes(classes: Classes, carry: u64) -> (u64, u64)
     ensures quotes { (before block : List ℕ) → carry ≡ first_if (is_odd (backslashes before)) → IsClassified block classes → Marks result.0 (test_in is_real_quote before block) }
@@ -83,7 +83,7 @@ fn real_quotes(classes: Classes, carry: u64) -> (u64, u64)
     (classes.quotes & !escaped, next)
 }
 
-/// The places directly after a run of backslashes of odd length, and the carry of the next block.
+/// The places directly after a run of backslashes of odd length, and the carry for the next block.
 #[inline(always)]
 fn escaped(backslashes: u64, carry: u64) -> (u64, u64)
     ensures places { (odd : Bool) → carry ≡ first_if odd → Marks result.0 (is_odd_run odd (is_set backslashes)) }
@@ -94,12 +94,13 @@ fn escaped(backslashes: u64, carry: u64) -> (u64, u64)
     }
     // A backslash that is escaped escapes nothing.
     let live = backslashes & !carry;
-    // The subtraction borrows along each run, and its result differs at the backslashes that escape and after them.
+    // The subtraction borrows along each run. Its result differs from `ODD_PLACES` at the backslashes that escape, and directly
+    // after each run of odd length.
     let codes = ((live << 1) | ODD_PLACES).wrapping_sub(live) ^ ODD_PLACES;
     (codes ^ (backslashes | carry), last(codes & backslashes))
 }
 
-/// Each bit is the parity of the bits up to it.
+/// Each bit is the parity of the bits up to and including its own.
 #[inline(always)]
 fn prefix_xor(mask: u64) -> u64
     ensures { Marks result (λ place. is_odd_count (is_set mask) (suc place)) }
@@ -128,7 +129,7 @@ fn last(mask: u64) -> u64
     mask >> 63
 }
 
-/// All bits where the first is set.
+/// All bits if `bit` is 1, and none if it is 0.
 #[inline(always)]
 fn spread(bit: u64) -> u64
     ensures { (b : Bool) → bit ≡ first_if b → result ≡ all_if b }

@@ -1,4 +1,4 @@
-//! The test whether nodes are the preorder of a tree. It recurses once for each level of nesting and keeps nothing else.
+//! The test whether nodes are the preorder of a tree. It recurses once for each level of nesting, and takes no memory.
 ghost use Rattle.std.specs.Prelude.{◌≡◌, ◌≢◌, ◌+◌, ◌-◌, ◌<◌, ◌≤◌, true, false, [], ◌∷◌, length, drop, IfSome, option_map, MatchOption};
 ghost use Rattle.sj_tape.specs.Nodes.{node_entry, entries};
 ghost use Rattle.sj_tape.specs.inside.Passing.{PassesTree, PassesContents, PassesPart, PassesKey};

@@ -127,7 +127,7 @@ impl Value<'_, '_> {
     ///
     /// # Errors
     ///
-    /// The fault of the output. A prefix of the text is then printed.
+    /// The fault of the output, which leaves of the text what [`Output::put`] does.
     pub fn print<O: Output>(&self, out: &mut O) -> Result<(), O::Fault>
         ensures { Prints O.appends O.begins result out.old out.new (text (value_tree self.now)) }
     {
@@ -136,8 +136,8 @@ impl Value<'_, '_> {
 
     /// Writes the compact text of the value to `writer`. Port of `value_trait::Writable::write`.
     ///
-    /// Each bracket, quote and run of text is a write of its own, so a file or a pipe wants a buffer in between. The recursion is
-    /// as deep as the value nests.
+    /// Each piece, down to a comma or a quote, is a write of its own, so a file or a pipe wants a buffer in between. The recursion
+    /// is as deep as the value nests.
     ///
     /// # Errors
     ///
@@ -151,8 +151,8 @@ impl Value<'_, '_> {
     /// Writes the text of the value to `writer`, with each item and member on a line of its own, indented by two spaces a
     /// level. Port of `value_trait::Writable::write_pp`.
     ///
-    /// Each bracket, quote and run of text is a write of its own, so a file or a pipe wants a buffer in between. The recursion is
-    /// as deep as the value nests.
+    /// Each piece, down to a comma or a quote, is a write of its own, so a file or a pipe wants a buffer in between. The recursion
+    /// is as deep as the value nests.
     ///
     /// # Errors
     ///

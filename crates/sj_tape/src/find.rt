@@ -1,4 +1,4 @@
-//! Look-ups that read nodes one at a time.
+//! The look-up by key, which reads nodes one at a time.
 ghost use Rattle.std.specs.Prelude.{◌≡◌, ◌*◌, ◌<◌, ◌≤◌, IfSome, length, option_map, slice_range};
 ghost use Rattle.sj_base.specs.Containers.{members_len};
 ghost use Rattle.sj_base.specs.Reads.{reads_items, reads_places};
@@ -12,8 +12,8 @@ use crate::node::Node;
 use sj_base::Reads;
 use std::ops::Range;
 
-/// Returns the range of the indices of the nodes of the value that the first member with this key has, or `None` if no member
-/// has it.
+/// Looks for the first member with this key. Returns the range of the indices of the nodes of its value, or `None` if no member
+/// has the key.
 ///
 /// The nodes are those of `len` members, such as the nodes beneath an object. Each member costs two reads at most, its key and the
 /// first node of its value, whose count tells where the next member begins. No node is read twice.

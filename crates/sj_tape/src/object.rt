@@ -70,7 +70,7 @@ impl<'t, 'i> Object<'t, 'i> {
         self.len() == 0
     }
 
-    /// Returns the value of the first member with this key.
+    /// Returns the value of the first member with this key, or `None` if there is none.
     ///
     /// Skips the members before it one by one. [`find`](crate::laws::find) says how many nodes are read.
     pub fn get(&self, name: &str) -> Option<Value<'t, 'i>>

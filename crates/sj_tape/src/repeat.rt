@@ -141,7 +141,8 @@ fn make_room<'i>(keys: &mut Vec<&'i str>, len: usize) -> Result<Listed<'i>, Allo
     }
 }
 
-/// Returns the key, if it stands earlier in the object whose keys begin at `start`. Else it stands there from now on.
+/// Returns a [`Repeat`] with an empty path if the key stands earlier in the object whose keys begin at `start`. Else it stands
+/// there from now on.
 fn add_key<'i>(
     keys: &mut Vec<&'i str>,
     start: usize,
@@ -161,7 +162,7 @@ fn add_key<'i>(
     Ok(None)
 }
 
-/// Whether the key is one of those that stand earlier. It is listed from now on, where keys are.
+/// Whether the key is one of those that stand earlier. Where a set lists these, it has the key from now on.
 fn is_met<'i>(
     key: &'i str,
     earlier: &[&'i str],

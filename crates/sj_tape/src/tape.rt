@@ -24,8 +24,8 @@ impl<'i> Tape<'i> {
 
     /// Creates a tape from nodes, or returns `None` if they aren't the preorder of one document.
     ///
-    /// Each `len` and each `count` is checked. The tape keeps the vector. Takes no memory, and recurses once for each level of
-    /// nesting.
+    /// Each `len` and each `count` is checked. The tape keeps the vector, which is otherwise dropped. Takes no memory, and
+    /// recurses once for each level of nesting.
     pub fn new(nodes: Vec<Node<'i>>) -> Option<Tape<'i>>
         ensures accepts { IsSome result ↔ ((t : Tree) × (entries nodes.entry.items ≡ listing t)) }
         ensures nodes { IfSome result (λ tape. tape_nodes tape ≡ nodes.entry.items) }

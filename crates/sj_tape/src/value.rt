@@ -200,7 +200,8 @@ impl<'t, 'i> Value<'t, 'i> {
         self.as_array()?.get(index)
     }
 
-    /// Returns the array in the first member with this key, or `None` if there is none or it isn't an array.
+    /// Returns the array in the first member with this key, or `None` if there is none, it isn't an array, or the value isn't an
+    /// object.
     pub fn get_array(&self, name: &str) -> Option<Array<'t, 'i>>
         ensures tree { option_map array_items result
             ≡ option_and_then items_in (child (value_tree self.now) (key name.now)) }
@@ -210,7 +211,8 @@ impl<'t, 'i> Value<'t, 'i> {
         self.get(name)?.as_array()
     }
 
-    /// Returns the object in the first member with this key, or `None` if there is none or it isn't an object.
+    /// Returns the object in the first member with this key, or `None` if there is none, it isn't an object, or the value isn't
+    /// one.
     pub fn get_object(&self, name: &str) -> Option<Object<'t, 'i>>
         ensures tree { option_map object_members result
             ≡ option_and_then members_in (child (value_tree self.now) (key name.now)) }

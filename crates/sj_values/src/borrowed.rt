@@ -1,4 +1,4 @@
-//! Documents that borrow their texts. Port of the module `simd_json::borrowed`.
+//! Documents that may borrow their texts. Port of the module `simd_json::borrowed`.
 ghost use Rattle.std.specs.Prelude.{◌≡◌, ◌<◌, ◌≤◌, [], ◌∷◌, ◌++◌, Err, length};
 ghost use Rattle.std.specs.Cow.{cow_str_bytes};
 ghost use Rattle.sj_base.specs.Scalar.{decimal_cow_text};

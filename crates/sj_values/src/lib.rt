@@ -1,7 +1,7 @@
 //! JSON documents that may borrow their texts from the bytes that they were read from.
 //!
-//! A borrowed document is the same tree as an owned one of `sj_owned`, and is read, edited and printed by the same calls.
-//! Its strings, keys and decimal literals are borrowed or owned.
+//! A borrowed document is a [`sj_owned::Value`], as an owned one is, with other types of strings and literals: these are borrowed
+//! or owned. So it is read, edited and printed by the same calls.
 #![tactic(auto)]
 
 pub mod borrowed;

@@ -1,4 +1,4 @@
-//! Borrowed documents that are built of the nodes of a view, one after another.
+//! Borrowed documents that are built, one after another, from the nodes of a view.
 ghost use Rattle.std.specs.Prelude.{◌≡◌, ◌↔◌, ◌+◌, ◌<◌, ◌≤◌, Some, IsTrue, IfOk, OnErr, length, slice_get};
 ghost use Rattle.std.specs.Cow.{cow_str_bytes};
 ghost use Rattle.sj_base.specs.Scalar.{decimal_cow_text};
@@ -12,7 +12,7 @@ use sj_tape::{Node, Value as TapeValue};
 use std::alloc::{AllocError, Global};
 use std::borrow::CowStr;
 
-/// Builds borrowed documents of the nodes of a view of a tape, one after another. Port of
+/// Builds borrowed documents, one after another, from the nodes of a view of a tape. Port of
 /// `simd_json::value::borrowed::BorrowSliceDeserializer`, which reads a slice of nodes.
 #[derive(Debug, Drop)]
 pub struct BorrowSliceDeserializer<'t, 'v> {
