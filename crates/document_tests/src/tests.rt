@@ -1,7 +1,7 @@
 //! Documents: read, edited, copied, converted, compared and shown; known keys; and lazy values.
 //!
-//! What a test owns is handed to `drop`, which is proved once. Of a value that goes out of scope each form is proved to be
-//! dropped, at each place where the function returns.
+//! What a test owns is handed to `drop`, which is proved once. For a value that goes out of scope the drop of each of its variants
+//! is proved, at each place where the function returns.
 mod cookbook;
 mod copies;
 mod depths;
@@ -22,7 +22,7 @@ use std::borrow::CowStr;
 use std::fmt::Debug;
 use std::process::Abort;
 
-// Fails unless both are equal. It is proved once, and an `assert_eq!` with all that its test holds.
+// Fails unless both are equal. It is proved once, where an `assert_eq!` is proved together with all that its test holds.
 fn expect_eq<T: PartialEq + Debug + Drop>(rt: &impl Abort, found: T, expected: T) {
     assert_eq!(rt; found, expected);
 }

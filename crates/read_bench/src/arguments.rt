@@ -70,7 +70,7 @@ pub(crate) struct Arguments<'a> {
     pub(crate) task: Task,
     /// The name of the file.
     pub(crate) file: &'a str,
-    /// For how long passes begin.
+    /// For how long new passes are begun.
     pub(crate) duration: Duration,
 }
 
@@ -136,5 +136,5 @@ fn milliseconds_argument<'a>(alloc: Global) -> Arg<'a> {
         .required(true)
         .action(ArgAction::Set)
         .value_parser(value_parser!(u64))
-        .help("For how long passes begin")
+        .help("How long to go on beginning passes")
 }

@@ -11,11 +11,11 @@ use std::alloc::{AllocError, Global};
 /// Up to here a document is cut at each byte.
 const EACH: usize = 300;
 
-/// About how many cuts there are after these.
+/// The most cuts after these.
 const CUTS: usize = 200;
 
-/// Cuts each document at each of its first 300 bytes and at about 200 further places, and returns at how many cuts the two
-/// scans of what stands before differ.
+/// Cuts each document at each of its first 300 bytes and at up to 200 further places, as far from each other, and returns at how
+/// many cuts the two scans of what stands before differ.
 pub(crate) fn count_differences(alloc: Global, documents: &[Vec<u8>]) -> Result<usize, AllocError>
     ensures { IfOk result (λ n. n ≡ 0) }
 {
@@ -49,7 +49,8 @@ fn count_in(
     Ok(count)
 }
 
-/// Returns `true` if the two scans of the text differ, in the fault or in the positions.
+/// Returns `true` if the two scans of the text differ, in the fault or in the positions. A text of more than `u32::MAX` bytes
+/// isn't scanned.
 fn differ(text: &[u8], plain: &mut Vec<u32>, block: &mut Vec<u32>) -> Result<bool, AllocError>
     ensures { IfOk result (λ d. d ≡ false) }
 {

@@ -1,4 +1,5 @@
-//! Times the reading of JSON texts, or their printing, again and again, and prints the median and the least time.
+//! Times the reading of JSON texts, or their printing, again and again, and prints the median and the least time. Or compares the
+//! two scans on the beginnings of the texts.
 //!
 //! The contracts say which documents are refused, what bytes are printed, and what the figures are of the times. They say
 //! nothing of how long a pass takes.

@@ -106,7 +106,7 @@ fn repeat<R: Clock, P: Pass>(
     })
 }
 
-/// The duration in nanoseconds, or the most that there are.
+/// The duration in nanoseconds, or `u64::MAX` if it is longer.
 fn nanoseconds(duration: Duration) -> u64 {
     u64::try_from(duration.as_nanos()).unwrap_or(u64::MAX)
 }

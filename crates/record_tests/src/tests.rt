@@ -41,7 +41,7 @@ fn split_row<'a>(rt: &impl Abort, row: &'a str) -> (&'a str, &'a str) {
     row.split_once(" => ").expect(rt, "a row with ` => `")
 }
 
-// Fails unless both are equal. It is proved once, and an `assert_eq!` with all that its test holds.
+// Fails unless both are equal. It is proved once, where an `assert_eq!` is proved together with all that its test holds.
 fn expect_eq<T: PartialEq + Debug + Drop>(rt: &impl Abort, found: T, expected: T) {
     assert_eq!(rt; found, expected);
 }
@@ -229,7 +229,7 @@ fn expect_refused(rt: &impl Abort, alloc: Global, script: &str, text: &str) {
     expect_at(rt, &script, std::str::from_utf8(&out[3..]), Ok(text));
 }
 
-// A script nests at most 1024 levels. One that nests so many is read, and has no command.
+// A script nests at most 1024 levels. One that nests so many is read, and its command has no name.
 #[test]
 fn deep_scripts(rt: HostRuntime) {
     for (levels, text) in &[(1024, "command 0: NoName"), (1025, "Syntax at 1024")] {

@@ -28,7 +28,7 @@ Commands of a script:
   [\"pop\", PATH]                 removes the last item; [item], or []
   [\"set\", PATH, VALUE]          replaces the value; [old value]
   [\"undo\"]                      takes back the newest write; true, or false if there is none
-  [\"reload\"]                    prints the document and reads that text in its place; true
+  [\"reload\"]                    prints the document and reads that text in its place; true, or false if it is too long
   [\"reload_pp\"]                 the same with the indented text
 
 PATH is an array of keys and of indexes from 0; [] is the whole document.
@@ -38,8 +38,10 @@ Records, one for each line:
   {\"replies\":[REPLY,...],\"document\":VALUE}       a document, as it is after the commands
   {\"error\":KIND,\"index\":BYTE,\"character\":TEXT}   the first fault of a line that is no document
   {\"error\":\"RepeatedKey\",\"path\":PATH,\"key\":KEY}  a repeated key, with --repeats refuse
+TEXT is null if the fault is one of the whole line.
 
-Exit status: 0, or 1 if memory, the input or the output failed, or 2 if the arguments or the script are refused.";
+Exit status: 0, or 1 if memory, the input or the output failed, or 2 if the arguments or the script are refused,
+or SCRIPT can't be read.";
 
 /// What the arguments ask for.
 #[derive(Debug, Drop)]
@@ -87,7 +89,8 @@ fn parse_words<'a, S: AsStr>(alloc: Global, words: &'a [S]) -> Result<ArgMatches
     command(alloc)?.try_get_matches_from(words)
 }
 
-/// Returns the run that the words ask for, from `clap`'s matches, or a fault if a name is none of a form or a rule.
+/// Returns the run that the words ask for, from `clap`'s matches, or the fault of a `--form` that names no form or a `--repeats`
+/// that names no rule.
 fn run_or_fault<'a>(alloc: Global, matches: &ArgMatches<'a>) -> Result<Arguments<'a>, Fault>
     ensures { (words : List (List ℕ)) → kinds_of words ≡ [] → rows_of (found_of matches.now) ≡ rows_in words → AreParsedAs words result }
 {
@@ -167,6 +170,7 @@ fn form_argument<'a>(alloc: Global) -> Arg<'a>
         .value_name("FORM")
         .action(ArgAction::Set)
         .default_value("owned")
+        // `run_of` tests the names: with a parser for them the command would hold references, and be no constant.
         .help("The form of each document: owned, borrowed or lazy")
 }
 
@@ -238,7 +242,7 @@ fn unknown(alloc: Global, value: &str, argument: &str, names: &str) -> Result<St
     refusal(alloc, &message)
 }
 
-/// The text of `clap` for a value that the program refuses.
+/// The text of `clap` for values and words that the program refuses itself.
 fn refusal(alloc: Global, message: &str) -> Result<String, AllocError> {
     let mut command = command(alloc)?;
     let error = command.error(ErrorKind::InvalidValue, message)?;
@@ -258,7 +262,7 @@ pub fn command_line<R: Env + AllocGlobal>(rt: &R) -> Result<Vec<String>, Fault> 
     Ok(words.collect(rt.alloc())?)
 }
 
-/// The fault of words that can't be read, as those that are not UTF-8.
+/// The fault of words that can't be read: lack of memory, or else a word that isn't UTF-8.
 fn unreadable_words(alloc: Global, error: &io::Error) -> Fault {
     if error.kind() == io::ErrorKind::OutOfMemory {
         return Fault::Memory;

@@ -14,7 +14,7 @@ use std::io;
 use std::io::{Read, Write};
 use std::marker::{Brand, PhantomData};
 
-/// A `&mut` reference, by its ghost name, so that a type can say which reference a value holds.
+/// A type that stands for the ghost name of a `&mut` reference, so that the type of a value can say which reference it holds.
 pub(crate) trait Named {
     ghost name: { ℕ };
 }

@@ -82,6 +82,7 @@ pub fn read_rest<R: Read>(
             Ok(0) => return Ok(()),
             Ok(taken) => bytes.extend_from_slice(&piece[..taken])?,
             Err(error) if error.kind() == ErrorKind::Interrupted => {}
+            // Also with the kind `OutOfMemory`: a read takes no memory of this program.
             Err(_) => return Err(LoadFault::Unreadable),
         }
     }

@@ -22,10 +22,13 @@ use std::io::{Read, Write};
 use std::marker::Brand;
 
 /// Does what the words ask for: runs the script that `load` returns for the name of its file on the input, or writes the help.
-/// `load` has to return for every name, as a function without `requires` does.
+/// The first of the words is the program's name. `load` has to be callable with every name, as a function without `requires` is.
+///
+/// The output is flushed at the end, also after a run that failed. A flush that fails counts as an output that failed.
 ///
 /// Returns the exit status: 0 if that was done, 1 if memory, the input or the output failed, and 2 if the arguments or the
-/// script are refused, or the file can't be read. What [`Fault::line`] has of a fault is written to `faults`.
+/// script are refused, or the file can't be read. What [`Fault::line`] has of a fault is written to `faults`. If
+/// that fails, the status stays.
 pub fn program<S, L, I, O, E>(
     alloc: Global,
     words: &[S],

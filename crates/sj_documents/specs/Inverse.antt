@@ -73,6 +73,6 @@ found_of drop_item = None
 found_of (add_item t) = Some t
 found_of (set_part t) = Some t
 
--- the place of the key k in the part that a path selects, and 0 where it selects nothing
+-- the place of the key k in the part that a path selects, and 0 where it selects no object
 abbrev pub place_at : Tree → List Part → List ℕ → ℕ
 place_at t path k = unwrap_or (option_map (λ part. place_in part k) (at t path)) 0

@@ -1,4 +1,4 @@
-//! Documents of lines: their reads and writes by paths, and the replies that show them.
+//! Documents: their reads and writes by paths, and the replies to them.
 ghost use Rattle.std.specs.Prelude.{◌≡◌, ◌++◌, option_map, IfOk, OnErr};
 ghost use Rattle.sj_base.specs.Tree.{Tree};
 ghost use Rattle.sj_base.specs.Path.{at};
@@ -22,8 +22,9 @@ use sj_owned::{Literal, OwnedValue, Value};
 use sj_scripts::{MemoryOr, PathPart, ScriptValue};
 use std::alloc::{AllocError, Global};
 
-/// A document in one of the forms that a run keeps it in. A call that takes `out` appends to it, and on an error appends
-/// nothing.
+/// A document in one of the forms that a run keeps it in: owned, borrowed, or lazy as [`LazyDocument`](crate::LazyDocument). A
+/// call that takes `out` appends to it, and on an error appends nothing. The recursion is as deep as the document or the value
+/// nests, or as the path is long.
 ///
 /// The write calls are `insert`, `remove`, `push`, `pop` and `set_at`. Those that take `depth` refuse a value that would nest
 /// more levels than that in the document. With `Undo::Possible` each returns what takes the write back, or `None` if it is
@@ -361,8 +362,8 @@ fn own_found<K: ScriptText<D> + Drop, D: Literal + Drop>(
     }
 }
 
-/// Returns the place of a key in the object that the path selects, from 0, or the number of its members if it isn't there. Where
-/// the path selects no object, that is 0.
+/// Returns the place, from 0, of a key in the object that the path selects, or the number of members if the key isn't there.
+/// Returns 0 if the path selects no object.
 fn place_at<K: ObjectKey, D: Literal>(document: &Value<K, D>, path: &[PathPart], key: &str) -> usize
     ensures { result ≡ place_at (value_tree K.text D.literal document.now) (path_view path.now) key.now }
 {

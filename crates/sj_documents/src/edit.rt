@@ -73,7 +73,7 @@ impl<'v> ScriptText<DecimalCow<'v>> for CowStr<'v> {
 
 /// What is done to the part of a document that a path selects.
 pub(crate) trait Edit: Sized {
-    // The tree that it leaves of one, and what it finds there.
+    // What it makes of the tree of the part: the reply and the tree that it leaves, or the word of a refusal.
     ghost rewrite: { Self → Rewrite };
 
     /// Edits the part, and returns the value that was replaced or taken out, if any.

@@ -14,8 +14,8 @@ use std::alloc::{AllocError, Global};
 /// Whether a write may be taken back later.
 #[derive(Clone, Copy, Debug, PartialEq, Eq)]
 pub enum Undo {
-    /// It may. The write call makes its [`Inverse`]: it copies the path, and the key if the change needs it, and keeps the value that
-    /// was replaced or taken out.
+    /// It may. The write call makes its [`Inverse`]: it copies the path, and the key if the change needs it, and keeps the value
+    /// that was replaced or taken out as an owned one. Texts that this value borrows are copied.
     Possible,
     /// It won't be. The write call makes no inverse, and so takes less time and memory.
     Impossible,
@@ -50,8 +50,8 @@ impl Inverse {
 
 /// A change of a part of a document.
 ///
-/// It can't be made if the path of the inverse selects nothing, whatever the variant, nor if the part is another kind of value than
-/// its variant changes, or isn't as the variant says it has to be.
+/// It can't be made if the path of the inverse selects nothing, also with `Nothing`; if the part is of another kind than its
+/// variant changes; or if the key, the place or the array isn't as the variant says.
 #[derive(Debug, Drop)]
 pub enum Change {
     /// Changes nothing. Takes back a `remove` or a `pop` that found nothing.

@@ -14,8 +14,9 @@ use sj_scripts::{PathPart, ScriptValue};
 use sj_tape::Value as TapeValue;
 use std::alloc::{AllocError, Global};
 
-/// A document in the form `Lazy`: a value of a tape until the first call that writes, refused or not, and from then on a document
-/// that keeps only the first of members with equal keys.
+/// A document in the form `Lazy`: a value of a tape until the first write call, refused or not, or the first `take_back`, and from
+/// then on a document that keeps only the first of members with equal keys. A call that has no memory for the document leaves the
+/// tape.
 #[derive(Debug, Drop)]
 pub struct LazyDocument<'t, 'i> {
     value: LazyValue<'t, 't, 'i>,
@@ -23,7 +24,7 @@ pub struct LazyDocument<'t, 'i> {
 }
 
 impl<'t, 'i> LazyDocument<'t, 'i> {
-    /// Creates one of a value of a tape. Builds nothing.
+    /// Creates a document that is this value of a tape. Builds nothing.
     pub fn new(value: TapeValue<'t, 'i>) -> LazyDocument<'t, 'i>
         ensures tree { lazy_tree result.value ≡ view_tree value.entry }
         ensures tape { is_tape (contents result.value) ≡ true }
@@ -129,7 +130,7 @@ impl Document for LazyDocument<'_, '_> {
     }
 
     fn take_back(&mut self, alloc: Global, inverse: Inverse) -> Result<bool, AllocError> {
-        // The document that is put back has to be known to repeat no key.
+        // The value that is put back has to be known to repeat no key.
         inverse.change.walk()?;
         let document = self.value.value_mut(alloc)?;
         Document::take_back(document, alloc, inverse)

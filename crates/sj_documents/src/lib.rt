@@ -1,7 +1,7 @@
 //! The documents that the commands of a script read and write.
 //!
-//! A [`Document`], in one of three forms, has a call for each command but `undo` and the reloads: it appends the reply that
-//! the command defines, and leaves the tree that it defines. A write call can also return the [`Inverse`] that takes it back.
+//! A [`Document`], in one of three forms, has a call for each command but `undo` and the reloads: it appends the reply to
+//! the command, and leaves the tree after it. A write call can also return the [`Inverse`] that takes it back.
 #![tactic(auto)]
 
 mod document;

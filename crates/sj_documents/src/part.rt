@@ -24,7 +24,7 @@ use std::alloc::AllocError;
 pub(crate) trait Part: Copy {
     ghost tree: { Self → Tree };
 
-    /// Returns the part that the first step of a path selects.
+    /// Returns the part that one step of a path selects.
     fn child(self, step: &PathPart) -> Option<Self>
         ensures { option_map tree result ≡ child (tree self) (part_view step.now) };
 
@@ -40,8 +40,8 @@ pub(crate) trait Part: Copy {
     fn count(self) -> Option<usize>
         ensures { ok_or (option_map (λ n. integer (pos n)) result) (codes "NotAContainer") ≡ count (tree self) };
 
-    /// Appends an array of the keys in order, or returns `None` if the part isn't an object. A part of it is appended before
-    /// an error.
+    /// Appends an array of the keys in order, or returns `None` if the part isn't an object. After an error a part of the array
+    /// may stay.
     fn put_keys(self, out: &mut Vec<u8>) -> Option<Result<(), AllocError>>
         ensures { PutsKeys (tree self) result out.old.items out.new.items };
 
@@ -142,7 +142,7 @@ fn scalar_name(scalar: &Scalar<'_>) -> &'static str
     }
 }
 
-/// Appends an array of the keys. A part of it is appended before an error.
+/// Appends an array of the keys. After an error a part of it may stay.
 fn put_keys<'k, I: Iterator<Item = &'k str> + Drop>(
     keys: I,
     out: &mut Vec<u8>,

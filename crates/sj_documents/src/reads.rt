@@ -31,7 +31,7 @@ fn select<P: Part>(document: P, path: &[PathPart]) -> Result<P, Refusal>
     find(document, path).ok_or(Refusal::NoSuchPath)
 }
 
-/// Returns `true` if the path selects an object with this key.
+/// Returns whether the path selects an object with this key, as a scalar, or `NoSuchPath`.
 pub(crate) fn contains_at<'s, P: Part>(
     document: P,
     path: &[PathPart],
@@ -43,7 +43,7 @@ pub(crate) fn contains_at<'s, P: Part>(
     Ok(Scalar::Static(StaticNode::Bool(part.contains_key(key))))
 }
 
-/// Returns the word for the type of what the path selects.
+/// Returns the word for the type of what the path selects, or `NoSuchPath`.
 pub(crate) fn type_at<'s, P: Part>(document: P, path: &[PathPart]) -> Result<Scalar<'s>, Refusal>
     ensures { reply_view result ≡ type_reply (P.tree document) (path_view path.now) }
 {
@@ -51,7 +51,7 @@ pub(crate) fn type_at<'s, P: Part>(document: P, path: &[PathPart]) -> Result<Sca
     Ok(Scalar::Text(part.type_name()))
 }
 
-/// Returns the number of items or members of what the path selects.
+/// Returns the number of items or members of what the path selects, or `NoSuchPath` or `NotAContainer`.
 pub(crate) fn len_at<'s, P: Part>(document: P, path: &[PathPart]) -> Result<Scalar<'s>, Refusal>
     ensures { reply_view result ≡ len_reply (P.tree document) (path_view path.now) }
 {

@@ -231,8 +231,12 @@ fn run_task<R: Source, W: Sink>(
 
 /// Runs a script on each line of a stream, and writes one record for each line, in order.
 ///
-/// The record of a JSON document that nests at most `depth` levels has the replies to the script's commands and the document
-/// after them. With `Repeats::Refuse` the script doesn't run on a document that repeats a key, and the record names the
+/// A line ends at a line feed. What stands after the last one is a line too, unless it is empty. Each record is a line:
+/// `{"replies":[..],"document":..}`, or `{"error":..,"index":..,"character":..}`, or
+/// `{"error":"RepeatedKey","path":[..],"key":..}`.
+///
+/// The record of a JSON document of at most `u32::MAX` bytes and `depth` levels has the replies to the script's commands and the
+/// document after them. With `Repeats::Refuse` the script doesn't run on a document that repeats a key, and the record names the
 /// first such key. The record of any other line says why it is not a document. An interrupted read is tried again. An
 /// interrupted write is not. Each record is handed to the writer as a whole, so a writer to a file or a pipe should be buffered.
 /// Nothing is flushed. The recursion is as deep as a line's document nests.
@@ -269,7 +273,8 @@ pub fn run<R: Source, W: Sink>(
 ///
 /// On `Ok` the buffers have read one text for each line, and one for each reload that replied `true`. They have the positions that
 /// the last text left, or those of before if there was no text. If the last text had more than 4294967295 bytes, nothing is said of
-/// the positions. Room for more than 2^20 positions, and the positions in it, are given back before the next text is read.
+/// the positions. If there is room for more than 2^20 positions, all room and the positions are given back before the next
+/// text is read.
 ///
 /// # Errors
 ///
@@ -307,7 +312,7 @@ pub fn run_with<R: Source, W: Sink>(
 ///
 /// # Errors
 ///
-/// See [`RunError`] for each error and what is written before it. `TooManyReads` comes if so many reads gave no end.
+/// See [`RunError`] for each error and what is written before it. `TooManyReads` comes if none of `max_reads` reads gave the end.
 pub fn run_within<R: Source, W: Sink>(
     alloc: Global,
     reader: &mut R,

@@ -13,7 +13,8 @@ use sj_documents::{Document, Inverse, Undo, WriteResult};
 use sj_scripts::Command;
 use std::alloc::AllocError;
 
-/// Runs a command that is no reload on a document, and appends its reply.
+/// Runs a command on a document, and appends its reply. The command must not be a reload, which only [`run`](crate::run) and
+/// its kin make.
 ///
 /// `history` has what takes the document's writes back, the newest last. With [`Undo::Possible`] a write that isn't refused adds
 /// its inverse. With [`Undo::Impossible`] no write adds one, which takes less time and memory. `Command::Undo` takes the newest

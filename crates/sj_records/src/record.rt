@@ -142,24 +142,24 @@ fn put_record<'de>(
 /// The most positions for which room is kept from one text to the next.
 const KEPT_POSITIONS: usize = 1 << 20;
 
-/// Reads a line into the tape, under the limit of the buffers. The line is rewritten. The buffers keep its positions until the
-/// next one is read.
+/// Reads a text, a line or that of a reload, into the tape, under the limit of the buffers. The text is rewritten. The buffers keep
+/// its positions until the next one is read.
 fn read_tape<'de>(
     buffers: &mut Buffers,
     tape: &mut Tape<'de>,
-    line: &'de mut [u8],
+    text: &'de mut [u8],
 ) -> Result<(), MemoryOr<Error>>
-    ensures found { OnOk result (IsTapeOf line.entry.now (buffer_limit buffers.old) (tape_nodes tape.new)) }
+    ensures found { OnOk result (IsTapeOf text.entry.now (buffer_limit buffers.old) (tape_nodes tape.new)) }
     ensures not_empty { OnOk result (tape_nodes tape.new ≢ []) }
-    ensures refused { IfErr result (λ e. IfRefused e (λ why. fault line.entry.now (buffer_limit buffers.old) ≡ Some why)) }
-    ensures texts { OnOk result (HasRead buffers.old buffers.new (line.entry.now ∷ [])) }
-    ensures refused_texts { IfErr result (λ e. IfRefused e (λ why. HasRead buffers.old buffers.new (line.entry.now ∷ []))) }
+    ensures refused { IfErr result (λ e. IfRefused e (λ why. fault text.entry.now (buffer_limit buffers.old) ≡ Some why)) }
+    ensures texts { OnOk result (HasRead buffers.old buffers.new (text.entry.now ∷ [])) }
+    ensures refused_texts { IfErr result (λ e. IfRefused e (λ why. HasRead buffers.old buffers.new (text.entry.now ∷ []))) }
     ensures limit { buffer_limit buffers.new ≡ buffer_limit buffers.old }
 {
     if buffers.capacity() > KEPT_POSITIONS {
         buffers.release();
     }
-    fill_tape(line, buffers, tape)?;
+    fill_tape(text, buffers, tape)?;
     Ok(())
 }
 

@@ -17,7 +17,7 @@ use sj_base::StaticNode;
 use sj_owned::OwnedValue;
 use std::alloc::Global;
 
-/// A part of a command, or why the command is refused.
+/// A command or a part of one, or why there is none: it is refused, or an allocation failed.
 type Parsed<T> = Result<T, MemoryOr<CommandFault>>;
 
 fn read_part(document: &OwnedValue) -> Parsed<PathPart>

@@ -23,7 +23,8 @@ pub enum Command {
     Get(Vec<PathPart>),
     /// Replies with whether the path selects an object with this key.
     Contains(Vec<PathPart>, String),
-    /// Replies with the type of the value that the path selects.
+    /// Replies with the type of the value that the path selects: `"null"`, `"bool"`, `"integer"`, `"decimal"`, `"string"`,
+    /// `"array"` or `"object"`.
     TypeOf(Vec<PathPart>),
     /// Replies with the number of items or members, or `"NotAContainer"`.
     Len(Vec<PathPart>),
@@ -50,7 +51,7 @@ pub enum Command {
     ReloadPp,
 }
 
-/// Why a command of a script is refused.
+/// Why a command of a script is refused. The faults are looked for in this order.
 #[derive(Clone, Copy, Debug, PartialEq, Eq, thiserror::Error)]
 pub enum CommandFault {
     /// The command is not an array.
@@ -133,7 +134,7 @@ impl CommandFault {
 }
 
 impl ScriptFault {
-    /// Appends the text that says why the script is refused, as `command 0: UnknownName`.
+    /// Appends the text that says why the script is refused, such as `command 0: UnknownName`.
     ///
     /// # Errors
     ///
@@ -147,7 +148,7 @@ impl ScriptFault {
     }
 }
 
-/// Appends the fault's text, of which a part is appended before an error.
+/// Appends the fault's text. After an error a part of it may stay.
 fn put_parts(fault: &ScriptFault, out: &mut Vec<u8>) -> Result<(), AllocError>
     ensures { AppendsOrGrows result out.old.items out.new.items (fault_text fault.now) }
 {
@@ -180,7 +181,8 @@ impl Script {
 
     /// Reads a script: a JSON array of commands, each an array of its name and its arguments.
     ///
-    /// The bytes are rewritten. A script nests at most 1024 levels.
+    /// The bytes may be rewritten, also where the call ends with an error. A script nests at most 1024 levels. In its values only
+    /// the first of members with equal keys is kept.
     ///
     /// # Errors
     ///

@@ -1,7 +1,7 @@
 //! One module for each subject.
 //!
-//! What a test owns is handed to `drop`, which is proved once. Of a value that goes out of scope each form is proved to be
-//! dropped, at each place where the function returns.
+//! What a test owns is handed to `drop`, which is proved once. For a value that goes out of scope the drop of each of its variants
+//! is proved, at each place where the function returns.
 mod counts;
 mod filter;
 mod nodes;
@@ -15,7 +15,7 @@ use std::alloc::Global;
 use std::fmt::{Debug, Display};
 use std::process::Abort;
 
-// Fails unless both are equal. It is proved once, and an `assert_eq!` with all that its test holds.
+// Fails unless both are equal. It is proved once, where an `assert_eq!` is proved together with all that its test holds.
 fn expect_eq<T: PartialEq + Debug + Drop>(rt: &impl Abort, found: T, expected: T) {
     assert_eq!(rt; found, expected);
 }

@@ -1,4 +1,4 @@
-//! The functions of docs/LIBRARY.md, each with a test.
+//! Functions of docs/LIBRARY.md, each with a test. The others stand in `record_tests`.
 
 use super::{expect_bytes, expect_eq, expect_made, owned_of};
 use sj_base::{Error, ErrorType, TryTypeError, ValueType};

@@ -1,5 +1,5 @@
-//! Of `sj_keys`: worked rows, look-ups and writes by known keys. `oracle/memory.sh` refuses them memory, to show what
-//! stands then.
+//! Of `sj_keys`: worked rows, look-ups and writes by known keys. `oracle/memory.sh` refuses memory to the tests `made_for_...`, to
+//! show what stands then.
 ghost use Rattle.std.specs.Prelude.{◌≡◌, [], ◌∷◌, IsSome};
 ghost use Rattle.std.specs.Cow.{cow_str_bytes};
 ghost use Rattle.sj_base.specs.Path.{key as name, put};

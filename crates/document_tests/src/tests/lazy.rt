@@ -43,7 +43,7 @@ fn lazy_of<'t, 'i>(rt: &impl Abort, tape: &'t Tape<'i>) -> Value<'t, 't, 'i> {
     Value::from_tape(tape.as_value())
 }
 
-// The document of the value, from now on.
+// Makes the value a document.
 fn upgrade(rt: &impl Abort, alloc: Global, value: &mut Value<'_, '_, '_>) {
     value.value_mut(alloc).expect(rt, "memory");
 }
@@ -323,7 +323,7 @@ fn expect_parts(rt: &impl Abort, value: &Value<'_, '_, '_>) {
 // Reads the parts of that document, and removes one.
 fn expect_removed(rt: &impl Abort, alloc: Global, value: &mut Value<'_, '_, '_>) {
     expect_parts(rt, value);
-    expect_that(rt, "a member", is_made(value.remove(alloc, "a")));
+    expect_that(rt, "an object", is_made(value.remove(alloc, "a")));
     expect_text(rt, alloc, value, r#"{"s":"x"}"#);
 }
 

@@ -19,6 +19,7 @@ fn text_of<K: ObjectKey, D: Literal>(
     ensures { IfOk result (λ text. Spells text.items (value_tree K.text D.literal value.now)) }
 {
     printing_reads_back();
+    // Its clause says that the tree is valid, which the law asks for.
     let _levels = value.depth()?;
     let mut text = Vec::new(alloc);
     if is_indented {

@@ -45,7 +45,7 @@ fn add_string(
     }
 }
 
-// Runs of backslashes that end at each byte of three blocks: an odd one escapes the quote.
+// Runs of backslashes that end at each byte of two blocks and at the first ones of a third: an odd one escapes the quote.
 #[test]
 fn runs_of_backslashes(rt: HostRuntime) {
     let alloc = rt.alloc();

@@ -39,7 +39,7 @@ Commands of a script:
   [\"pop\", PATH]                 removes the last item; [item], or []
   [\"set\", PATH, VALUE]          replaces the value; [old value]
   [\"undo\"]                      takes back the newest write; true, or false if there is none
-  [\"reload\"]                    prints the document and reads that text in its place; true
+  [\"reload\"]                    prints the document and reads that text in its place; true, or false if it is too long
   [\"reload_pp\"]                 the same with the indented text
 
 PATH is an array of keys and of indexes from 0; [] is the whole document.
@@ -49,8 +49,10 @@ Records, one for each line:
   {\"replies\":[REPLY,...],\"document\":VALUE}       a document, as it is after the commands
   {\"error\":KIND,\"index\":BYTE,\"character\":TEXT}   the first fault of a line that is no document
   {\"error\":\"RepeatedKey\",\"path\":PATH,\"key\":KEY}  a repeated key, with --repeats refuse
+TEXT is null if the fault is one of the whole line.
 
-Exit status: 0, or 1 if memory, the input or the output failed, or 2 if the arguments or the script are refused.
+Exit status: 0, or 1 if memory, the input or the output failed, or 2 if the arguments or the script are refused,
+or SCRIPT can't be read.
 ";
 
 const NO_SCRIPT: &str = "\
@@ -212,8 +214,7 @@ fn expect_error(rt: &impl Abort, alloc: Global, words: &[&str]) {
 
 #[test]
 fn refuses_arguments(rt: HostRuntime) {
-    let words: [&[&str]; 4] = [
-        &["records"],
+    let words: [&[&str]; 3] = [
         &["records", "a.json", "b.json"],
         &["records", "--frob", "a.json"],
         &["records", "--version"],

@@ -1,9 +1,5 @@
--- What reading answers, against the definitions: a document against the line, a command and a script against those of the
--- tree. Lack of memory says nothing.
-use Rattle.std.specs.Prelude.{◌≡◌, ◌≢◌, ℕ, List, Result, Ok, Err, ⊤}
-use Rattle.sj_base.specs.Tree.{Tree}
-use Rattle.sj_base.specs.Spelling.{Document}
-use Rattle.sj_base.specs.Keep.{keep}
+-- What reading answers, against the definitions: a command and a script against those of the tree. Lack of memory says nothing.
+use Rattle.std.specs.Prelude.{◌≡◌, ◌≢◌, Result, Ok, Err, ⊤}
 use Rattle.sj_base.specs.declared.error.Error.{Error}
 use Rattle.sj_base.specs.declared.error.ErrorType.TheVariants.{OutOfMemory}
 use Rattle.sj_scripts.specs.declared.memory_or.MemoryOr.{MemoryOr}
@@ -11,10 +7,6 @@ use Rattle.sj_scripts.specs.declared.memory_or.MemoryOr.TheVariants.{Memory, Ref
 use Rattle.sj_scripts.specs.declared.script.ScriptFault.{ScriptFault}
 use Rattle.sj_scripts.specs.declared.script.ScriptFault.TheVariants as faults
 use Rattle.sj_scripts.specs.Command.{Refusal, not_an_array, command}
-
--- the tree of the line, with the first member of each key alone
-abbrev pub IsReadTree : List ℕ → ℕ → Tree → Type 0
-IsReadTree line limit u = (t : Tree) × Document line limit t × (u ≡ keep t)
 
 -- for a refusal, and not for lack of memory
 abbrev pub IfRefused : {T : Type 0} → MemoryOr T → (T → Type 0) → Type 0

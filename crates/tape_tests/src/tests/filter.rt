@@ -14,6 +14,7 @@ use sj_tape::laws::listing_back;
 use std::alloc::Global;
 use std::test::Fail;
 
+// README.md prints this function.
 /// Returns whether the line is an object whose first member `name` is the text `want`.
 fn has_text(alloc: Global, line: &mut [u8], name: &str, want: &str) -> Result<bool, Error>
     ensures found { IfOk result (λ b. (t : Tree) × Document line.entry.now DEFAULT_MAX_DEPTH t

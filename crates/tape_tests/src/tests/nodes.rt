@@ -62,7 +62,7 @@ fn tape_of<'i>(rt: &impl Abort, alloc: Global, words: &'i str) -> Tape<'i>
     Tape::new(nodes_of(rt, alloc, words)).expect(rt, "a tape")
 }
 
-// Fails unless this is the compact text of the document. There is none if the nodes are none.
+// Fails unless this is the compact text of the document. The text is empty where the nodes are no document.
 fn expect_document(rt: &impl Abort, alloc: Global, words: &str, text: &str) {
     let mut out = Vec::new(alloc);
     if let Some(tape) = Tape::new(nodes_of(rt, alloc, words)) {
@@ -137,7 +137,7 @@ impl Write for Narrow {
     }
 }
 
-// Fails where the value can be written after these three bytes.
+// Fails unless the write ends with a fault after the first three bytes of the value.
 fn expect_no_room(
     rt: &impl Abort,
     alloc: Global,

@@ -13,6 +13,7 @@ fn scanned_by<S: Stage1 + Drop>(
     bytes: &[u8],
 ) -> Result<Vec<u32>, ScanFault> {
     let mut out = Vec::from_slice(alloc, &[7, 5]).expect(rt, "memory");
+    // A condition of `scan`.
     let _len = u32::try_from(bytes.len()).expect(rt, "a length in range");
     scan.scan(bytes, &mut out)?;
     Ok(out)
@@ -94,7 +95,7 @@ null
 {"key":1}
 {:}[,]{:}[,]{:}[,]{:}[,]{:}[,]{:}[,]{:}[,]{:}[,]{:}[,]{:}[,]{:}[,]{:}[,]{:}[,]"#;
 
-// Scans a text up to each of its bytes, after each number of spaces up to two blocks.
+// Scans a text up to each of its bytes, after each number of spaces from 0 to 130, more than two blocks.
 fn scan_prefixes(rt: &impl Abort, alloc: Global, text: &[u8]) {
     let mut spaced = Vec::new(alloc);
     spaced.resize(130, b' ').expect(rt, "memory");

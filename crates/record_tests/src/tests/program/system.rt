@@ -36,7 +36,7 @@ impl Env for NotUtf8 {
 }
 
 #[test]
-fn refuses_words_without_text(rt: HostRuntime) {
+fn refuses_words_not_in_utf8(rt: HostRuntime) {
     let fault = command_line(&(NotUtf8, rt.alloc()))
         .err()
         .expect(&rt, "a fault");

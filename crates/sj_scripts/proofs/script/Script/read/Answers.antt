@@ -1,13 +1,19 @@
 use Rattle.std.proofs.Common.{◌≡◌, ℕ, List, Result, inl, ap, sym, ◌∙◌, rules}
 use Rattle.std.proofs.lemmas.Result.{err_from_is_err_and}
 use Rattle.sj_base.specs.Tree.{Tree}
+use Rattle.sj_base.specs.Spelling.{Document}
+use Rattle.sj_base.specs.Keep.{keep}
 use Rattle.sj_scripts.specs.declared.script.ScriptFault.{ScriptFault}
 use Rattle.sj_scripts.specs.declared.script.ScriptFault.TheVariants.{Json, NotAnArray, Command, Memory}
 use Rattle.sj_scripts.specs.Command.{Step, Refusal, commands_in}
 use Rattle.sj_scripts.specs.Script.{IsReadAs, IsRefusedAs, script_limit}
-use Rattle.sj_scripts.specs.inside.ReadErrors.{IsRefusalOf, IsReadTree}
+use Rattle.sj_scripts.specs.inside.ReadErrors.{IsRefusalOf}
 use Rattle.sj_scripts.specs.Values.{owned_tree}
 use Rattle.sj_scripts.proofs.script.Script.read.Goals as goal
+
+-- the tree of the bytes, with the first member of each key alone
+abbrev IsReadTree : List ℕ → ℕ → Tree → Type 0
+IsReadTree bytes limit u = (t : Tree) × Document bytes limit t × (u ≡ keep t)
 
 -- what is read of a kept tree is read of the tree
 read_as : (bytes : List ℕ) (u : Tree) (r : Result (List Step) Refusal) → IsReadTree bytes script_limit u → commands_in u ≡ r → IsReadAs bytes r
