@@ -23,8 +23,8 @@ use sj_scripts::{MemoryOr, PathPart, ScriptValue};
 use std::alloc::{AllocError, Global};
 
 /// A document in one of the forms that a run keeps it in: owned, borrowed, or lazy as [`LazyDocument`](crate::LazyDocument). A
-/// call that takes `out` appends to it, and on an error appends nothing. The recursion is as deep as the document or the value
-/// nests, or as the path is long.
+/// call that takes `out` appends to it, and on an error appends nothing. The recursion is as deep as the document or the
+/// value nests.
 ///
 /// The write calls are `insert`, `remove`, `push`, `pop` and `set_at`. Those that take `depth` refuse a value that would nest
 /// more levels than that in the document. With `Undo::Possible` each returns what takes the write back, or `None` if it is
