@@ -1,6 +1,6 @@
 //! Readers and writers that give and take their bytes in pieces, and that fail, and runs on them.
 
-use super::{LIMIT, expect_at, expect_eq, expect_that, script_of};
+use super::{FORMS, LIMIT, expect_at, expect_eq, expect_that, script_of};
 use sj_base::Counted;
 use sj_parse::Buffers;
 use sj_records::{Form, Repeats, RunError, Script, run, run_within};
@@ -118,16 +118,16 @@ const BOTH: &str = r#"{"replies":[],"document":1}
 {"replies":[],"document":2}
 "#;
 
-// Runs the empty script on owned documents.
+// Runs the empty script.
 fn run_empty<I: Read + Drop, O: Write + Drop>(
     rt: &impl Abort,
     alloc: Global,
     input: I,
     output: &mut O,
+    form: Form,
 ) -> Result<(), RunError> {
     let script = script_of(alloc, "[]").expect(rt, "a script");
-    let (form, repeats) = (Form::Owned, Repeats::Keep);
-    run_by(alloc, input, output, &script, LIMIT, form, repeats)
+    run_by(alloc, input, output, &script, LIMIT, form, Repeats::Keep)
 }
 
 #[test]
@@ -139,23 +139,27 @@ fn failing_reader(rt: HostRuntime) {
         (b"1\n2\n3".as_slice(), 1, BOTH),
         (b"1\n2\n3".as_slice(), 65536, BOTH),
     ] {
-        let mut input = Pieces::new(bytes, *step);
-        input.failure = Some(ErrorKind::Other);
-        let mut output = Vec::new(rt.alloc());
-        let result = run_empty(&rt, rt.alloc(), input, &mut output);
-        expect_eq(&rt, result, Err(RunError::Read));
-        expect_eq(&rt, output.as_slice(), records.as_bytes());
+        for form in &FORMS {
+            let mut input = Pieces::new(bytes, *step);
+            input.failure = Some(ErrorKind::Other);
+            let mut output = Vec::new(rt.alloc());
+            let result = run_empty(&rt, rt.alloc(), input, &mut output, *form);
+            expect_at(&rt, form, result, Err(RunError::Read));
+            expect_at(&rt, form, output.as_slice(), records.as_bytes());
+        }
     }
 }
 
 #[test]
 fn interrupted_reader(rt: HostRuntime) {
-    let mut input = Pieces::new(b"1\n2", 1);
-    input.is_cut = true;
-    let mut output = Vec::new(rt.alloc());
-    let result = run_empty(&rt, rt.alloc(), input, &mut output);
-    expect_eq(&rt, result, Ok(()));
-    expect_eq(&rt, output.as_slice(), BOTH.as_bytes());
+    for form in &FORMS {
+        let mut input = Pieces::new(b"1\n2", 1);
+        input.is_cut = true;
+        let mut output = Vec::new(rt.alloc());
+        let result = run_empty(&rt, rt.alloc(), input, &mut output, *form);
+        expect_at(&rt, form, result, Ok(()));
+        expect_at(&rt, form, output.as_slice(), BOTH.as_bytes());
+    }
 }
 
 // Runs the empty script with at most three reads.
@@ -164,12 +168,12 @@ fn run_three<I: Read + Drop>(
     alloc: Global,
     input: I,
     output: &mut Vec<u8>,
+    form: Form,
 ) -> Result<(), RunError> {
     let script = script_of(alloc, "[]").expect(rt, "a script");
     let mut buffers = Buffers::new(alloc, 0).expect(rt, "memory");
     let mut source = Counted::new(input);
     let mut sink = Counted::new(output);
-    let (form, repeats) = (Form::Owned, Repeats::Keep);
     let result = run_within(
         alloc,
         &mut source,
@@ -177,7 +181,7 @@ fn run_three<I: Read + Drop>(
         &script,
         form,
         &mut buffers,
-        repeats,
+        Repeats::Keep,
         3,
     );
     let _ = source.into_inner();
@@ -188,18 +192,28 @@ fn run_three<I: Read + Drop>(
 // A reader that gives no end, and one that gives it by its third read.
 #[test]
 fn bounded_reads(rt: HostRuntime) {
-    let mut output = Vec::new(rt.alloc());
-    let result = run_three(&rt, rt.alloc(), Interrupted, &mut output);
-    expect_eq(&rt, result, Err(RunError::TooManyReads));
-    expect_that(&rt, "no record", output.is_empty());
-    let result = run_three(&rt, rt.alloc(), Pieces::new(b"1\n", 1), &mut output);
-    expect_eq(&rt, result, Ok(()));
-    let record = b"{\"replies\":[],\"document\":1}\n";
-    expect_eq(&rt, output.as_slice(), record.as_slice());
+    for form in &FORMS {
+        let mut output = Vec::new(rt.alloc());
+        let result = run_three(&rt, rt.alloc(), Interrupted, &mut output, *form);
+        expect_at(&rt, form, result, Err(RunError::TooManyReads));
+        expect_that(&rt, "no record", output.is_empty());
+        let input = Pieces::new(b"1\n", 1);
+        let result = run_three(&rt, rt.alloc(), input, &mut output, *form);
+        expect_at(&rt, form, result, Ok(()));
+        let record = b"{\"replies\":[],\"document\":1}\n";
+        expect_at(&rt, form, output.as_slice(), record.as_slice());
+    }
 }
 
 // A run whose writer has room for the first bytes alone, which are written.
-fn run_narrow(rt: &impl Abort, alloc: Global, refusal: Refusal, step: usize, room: usize) {
+fn run_narrow(
+    rt: &impl Abort,
+    alloc: Global,
+    refusal: Refusal,
+    step: usize,
+    room: usize,
+    form: Form,
+) {
     let mut output = Narrow {
         taken: Vec::new(alloc),
         step,
@@ -207,13 +221,13 @@ fn run_narrow(rt: &impl Abort, alloc: Global, refusal: Refusal, step: usize, roo
         refusal,
     };
     let input: &[u8] = b"1\r\n2";
-    let result = run_empty(rt, alloc, input, &mut output);
+    let result = run_empty(rt, alloc, input, &mut output, form);
     let ended = if room == BOTH.len() {
         Ok(())
     } else {
         Err(RunError::Write)
     };
-    let row = (refusal, room);
+    let row = (refusal, room, form);
     expect_at(rt, &row, result, ended);
     let written = Some(output.taken.as_slice());
     expect_at(rt, &row, written, BOTH.as_bytes().get(..room));
@@ -223,8 +237,10 @@ fn run_narrow(rt: &impl Abort, alloc: Global, refusal: Refusal, step: usize, roo
 fn narrow_writer(rt: HostRuntime) {
     for refusal in &[Refusal::Fails, Refusal::Interrupts, Refusal::TakesNothing] {
         for room in 0..=BOTH.len() {
-            run_narrow(&rt, rt.alloc(), *refusal, 1, room);
-            run_narrow(&rt, rt.alloc(), *refusal, 7, room);
+            for form in &FORMS {
+                run_narrow(&rt, rt.alloc(), *refusal, 1, room, *form);
+                run_narrow(&rt, rt.alloc(), *refusal, 7, room, *form);
+            }
         }
     }
 }
