@@ -14,7 +14,7 @@ const EACH: usize = 300;
 /// The most cuts after these.
 const CUTS: usize = 200;
 
-/// Cuts each document at each of its first 300 bytes and at up to 200 further places, as far from each other, and returns at how
+/// Cuts each document at each of its first 300 bytes and at up to 200 further places, at equal distances, and returns at how
 /// many cuts the two scans of what stands before differ.
 pub(crate) fn count_differences(alloc: Global, documents: &[Vec<u8>]) -> Result<usize, AllocError>
     ensures { IfOk result (λ n. n ≡ 0) }

@@ -11,8 +11,8 @@ use thiserror::Error;
 #[derive(Clone, Copy, Debug, PartialEq, Eq, Error)]
 #[error("TryTypeError")]
 pub struct TryTypeError {
-    /// The type that was asked for: `I64` for each signed type of integers, `U64` for each unsigned one. It is that of the value
-    /// where an integer doesn't fit.
+    /// The type that was asked for: `I64` for each signed type of integers, `U64` for each unsigned one. It can be that of the
+    /// value, where an integer doesn't fit.
     pub expected: ValueType,
     /// The type of the value.
     pub got: ValueType,

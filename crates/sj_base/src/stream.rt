@@ -55,8 +55,8 @@ pub trait Sink {
         ensures err_counts { IfErr result (CountsErr (calls self.old) (calls self.new)) };
 }
 
-/// Lists of the calls that were made, failed, were interrupted and moved no byte. The entry of a call is the number of bytes that
-/// it moved.
+/// Four lists of calls: all that were made, those that failed, those that were interrupted, and those that moved no byte. The entry
+/// of a call is the number of bytes that it moved.
 #[derive(Debug, Drop)]
 struct Tally {
     made: Trace,

@@ -407,8 +407,8 @@ fn release(nodes: &mut Vec<Node<'_>>)
 
 /// Builds the value of a tape, as [`build_value`] does of a view. Of a tape without nodes it is a null.
 ///
-/// The room of the tape's nodes is given back on the way. The nodes of items and members stand on a stack until their container is
-/// built.
+/// A tape of more than 65,536 nodes gives back its room on the way, each time that half of it is free. The nodes of items and
+/// members stand on a stack until their container is built.
 ///
 /// # Errors
 ///

@@ -263,7 +263,8 @@ impl<'v> Value<CowStr<'v>, DecimalCow<'v>> {
 
     /// Copies the document to one that owns its texts. Port of `simd_json::BorrowedValue::clone_static`.
     ///
-    /// Each text is copied once. Arrays and objects are made twice, and the first copy is dropped after the second is made.
+    /// Each text is copied once. Arrays and objects are made twice; each of the first copy is dropped once its second is
+    /// made.
     ///
     /// The recursion is as deep as the value nests.
     ///
