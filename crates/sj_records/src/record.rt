@@ -242,7 +242,8 @@ fn put_document_record(
 /// The most nodes of a tape that stays while its document is built or a reload's text is read. A larger one is given back.
 const KEPT_NODES: usize = 1 << 16;
 
-/// Builds the document of a tape. A tape of many nodes is emptied on the way, and gives back its room.
+/// Builds the document of a tape. A tape of many nodes is emptied on the way, so that it and its document are never both in
+/// memory as a whole.
 fn build<'de, K: MakeKey<'de> + Drop, D: MakeLiteral<'de> + Drop>(
     alloc: Global,
     tape: &mut Tape<'de>,
